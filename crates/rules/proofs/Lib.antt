@@ -1,0 +1,20 @@
+-- Laws about the definitions, which need no code: lists and counts, the edges and their four cells, vertex numbers, cutting; indexes, the P cases
+-- of document 01, crossings, locality, and pieces that are accepted.
+pub mod Tests
+pub mod Lists
+pub mod Runs
+pub mod Permutation
+pub mod Counting
+pub mod FourCells
+pub mod Edges
+pub mod Numbers
+pub mod Ownership
+pub mod Seen
+pub mod Cutting
+pub mod Indexes
+pub mod Cases
+pub mod Crossings
+pub mod Every
+pub mod Inside
+pub mod Locality
+pub mod Accepted

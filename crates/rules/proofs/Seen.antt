@@ -1,0 +1,127 @@
+-- The faces that a mesh shows, its indices looked up in its own cells and positions, are the faces that its edges define. From the place of
+-- each vertex. Assumes nothing.
+use Prim.Native.Nat.{ℕ, zero, suc, _+_, _*_, _<_}
+use native.Mathlib.Omega.{arith}
+use mathlib.Core.List.{List, [], _∷_, _++_, map}
+use mathlib.Core.Path.{_≡_, refl, ap, ap₂, subst, _∙_}
+use lib.Dec.{T}
+use lib.Ieee.{Float, nan}
+use lib.ListN.{length, getD, length-map, take, List·getD-map}
+use lib.Seq.{take-at, drop-at}
+use Rattle.rules.specs.Lists.{joined, place}
+use Rattle.rules.specs.Grid.{GridPoint, Box, Field, samePoint, isCell}
+use Rattle.rules.specs.Cell.{Vector}
+use Rattle.rules.specs.Vertices.{surfaceCell, vertices, vertexPosition}
+use Rattle.rules.specs.Faces.{Edge, edge, edges, faceCells, indices, changingEdges}
+use Rattle.rules.specs.Call.{flatPoints, flatVectors}
+use Rattle.rules.specs.Cutting.{Piece, Face, cornerAt, faceOf, looked, facesSeen}
+use Rattle.rules.proofs.Lists.{All, all-then, map-same, map-map, none, more}
+use Rattle.rules.proofs.Edges.{edges-all, edge-count, faceCells-length}
+use Rattle.rules.proofs.Numbers.{number-below, vertex-at, four-each, face-all, faceNumbers, indices-are}
+
+-- the edges that give a piece's faces
+abbrev pub edgesOf : Field → Piece → List Edge
+edgesOf g q = edges g (q .box) (q .flags)
+
+-- what is seen of a call's own cells, positions and indices
+abbrev pub seen : Field → Piece → List Face
+seen g q =
+    facesSeen
+    (flatPoints (vertices g (q .box)))
+    (flatVectors (map (vertexPosition g) (vertices g (q .box))))
+    (edges g (q .box) (q .flags))
+    (indices g (q .box) (q .flags))
+
+-- three numbers for each element: those of the element v stand from 3·v
+module _ {A B : Type 0} (f h i : A → B) where
+  abbrev pub threes : List A → List B
+  threes l = joined (λ (a : A). f a ∷ h a ∷ i a ∷ []) l
+
+  pub record ThreeAt (l : List B) (v : ℕ) (d : B) (a : A) : Type 0 where
+    pub first : getD l (3 * v) d ≡ f a
+    pub second : getD l (3 * v + 1) d ≡ h a
+    pub third : getD l (3 * v + 2) d ≡ i a
+
+  pub three-at : (l : List A) (v : ℕ) (d : B) (a : A) → v < length l → ThreeAt (threes l) v d (getD l v a)
+  unfolding joined
+  three-at [] v d a k = absurd (omega arith)
+  three-at (x ∷ xs) zero d a k = record { first = refl; second = refl; third = refl }
+  three-at (x ∷ xs) (suc v) d a k =
+      let r : ThreeAt (threes xs) v d (getD xs v a) = three-at xs v d a (omega arith) in
+      let e0 : 3 * suc v ≡ suc (suc (suc (3 * v))) = omega arith in
+      let e1 : 3 * suc v + 1 ≡ suc (suc (suc (3 * v + 1))) = omega arith in
+      let e2 : 3 * suc v + 2 ≡ suc (suc (suc (3 * v + 2))) = omega arith in
+      record { first = rw e0 (r .first); second = rw e1 (r .second); third = rw e2 (r .third) }
+
+pub flatPoints-at : (l : List GridPoint) (v : ℕ) (c : GridPoint) → v < length l → getD l v c ≡ c
+    → ThreeAt (λ (q : GridPoint). q .x) (λ (q : GridPoint). q .y) (λ (q : GridPoint). q .z) (flatPoints l) v 0 c
+flatPoints-at l v c h e =
+    subst (ThreeAt (λ (q : GridPoint). q .x) (λ (q : GridPoint). q .y) (λ (q : GridPoint). q .z) (flatPoints l) v 0) e
+    (three-at (λ (q : GridPoint). q .x) (λ (q : GridPoint). q .y) (λ (q : GridPoint). q .z) l v 0 c h)
+
+pub flatVectors-at : (l : List Vector) (v : ℕ) (u : Vector) → v < length l → getD l v u ≡ u
+    → ThreeAt (λ (q : Vector). q .x) (λ (q : Vector). q .y) (λ (q : Vector). q .z) (flatVectors l) v nan u
+flatVectors-at l v u h e =
+    subst (ThreeAt (λ (q : Vector). q .x) (λ (q : Vector). q .y) (λ (q : Vector). q .z) (flatVectors l) v nan) e
+    (three-at (λ (q : Vector). q .x) (λ (q : Vector). q .y) (λ (q : Vector). q .z) l v nan u h)
+
+module _ (g : Field) (b : Box) where
+  -- a vertex's number, looked up, gives its cell and its position
+  looked-is : (c : GridPoint) → T (isCell b c) → T (surfaceCell g c)
+      → looked (flatPoints (vertices g b)) (flatVectors (map (vertexPosition g) (vertices g b))) (place (samePoint c) (vertices g b)) ≡ cornerAt g c
+  looked-is c t s =
+      λ j.
+      record {
+        cell = record { x = p .first j; y = p .second j; z = p .third j };
+        position = record { x = v .first j; y = v .second j; z = v .third j };
+      }
+    where
+      n : ℕ
+      n = place (samePoint c) (vertices g b)
+
+      is : getD (vertices g b) n c ≡ c
+      is = vertex-at g b c c t s
+
+      within : n < length (vertices g b)
+      within = number-below g b c t s
+
+      p : ThreeAt (λ (q : GridPoint). q .x) (λ (q : GridPoint). q .y) (λ (q : GridPoint). q .z) (flatPoints (vertices g b)) n 0 c
+      p = flatPoints-at (vertices g b) n c within is
+
+      us : List Vector
+      us = map (vertexPosition g) (vertices g b)
+
+      v : ThreeAt (λ (q : Vector). q .x) (λ (q : Vector). q .y) (λ (q : Vector). q .z) (flatVectors us) n nan (vertexPosition g c)
+      v =
+          flatVectors-at us n (vertexPosition g c) (rw (length-map (vertices g b) (vertexPosition g)) within)
+          (List·getD-map (vertexPosition g) (vertices g b) n c ∙ ap (vertexPosition g) is)
+
+  -- six numbers for each edge, of cells that look up as they should
+  faces-seen : (ns : List ℕ) (xs : List Float) {es : List Edge}
+      → All (λ e. All (λ c. looked ns xs (place (samePoint c) (vertices g b)) ≡ cornerAt g c) (faceCells g e)) es
+      → facesSeen ns xs es (joined (faceNumbers g b) es) ≡ map (faceOf g) es
+  unfolding facesSeen joined
+  faces-seen ns xs none = refl
+  faces-seen ns xs (more {x = e} {xs = es} h k) =
+      ap₂ (λ (f : Face) (fs : List Face). f ∷ fs)
+      (λ j. record { edge = e; corners = corners j })
+      (ap (facesSeen ns xs es) (drop-at (faceNumbers g b e) (joined (faceNumbers g b) es) 6 six-long) ∙ faces-seen ns xs k)
+    where
+      six-long : length (faceNumbers g b e) ≡ 6
+      six-long = length-map (faceCells g e) (λ (c : GridPoint). place (samePoint c) (vertices g b)) ∙ faceCells-length g e
+
+      corners : map (looked ns xs) (take 6 (faceNumbers g b e ++ joined (faceNumbers g b) es)) ≡ map (cornerAt g) (faceCells g e)
+      corners =
+          ap (map (looked ns xs)) (take-at (faceNumbers g b e) (joined (faceNumbers g b) es) 6 six-long)
+          ∙ map-map (looked ns xs) (λ (c : GridPoint). place (samePoint c) (vertices g b)) (faceCells g e)
+          ∙ map-same h
+
+-- each edge's six indices show the corners that the edge defines
+pub seen-is : (g : Field) (q : Piece) → seen g q ≡ map (faceOf g) (edges g (q .box) (q .flags))
+seen-is g q =
+    ap (facesSeen (flatPoints (vertices g (q .box))) (flatVectors (map (vertexPosition g) (vertices g (q .box)))) (edgesOf g q)) (indices-are g (q .box) (q .flags))
+    ∙ faces-seen g (q .box) (flatPoints (vertices g (q .box))) (flatVectors (map (vertexPosition g) (vertices g (q .box))))
+    (all-then (λ e t. face-all g e (four-each g (q .box) (q .flags) e t (λ c i s l. looked-is g (q .box) c i s))) (edges-all g (q .box) (q .flags)))
+
+pub seen-number : (g : Field) (q : Piece) → length (seen g q) ≡ changingEdges g (q .box) (q .flags)
+seen-number g q = ap length (seen-is g q) ∙ length-map (edgesOf g q) (faceOf g) ∙ edge-count g (q .box) (q .flags)

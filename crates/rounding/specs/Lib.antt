@@ -1,0 +1,2 @@
+-- The predicates that the laws of rounding are stated with. Assumes nothing.
+pub mod Values

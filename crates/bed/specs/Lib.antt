@@ -1,0 +1,2 @@
+-- What the boundary's loose numbers stand for.
+pub mod Boundary

@@ -1,0 +1,65 @@
+// The functions that C and Rust link: thin, and nothing else. A slice is a pointer and then a length; include/bed.h says the rest.
+ghost use mathlib.Core.Path.{_≡_};
+ghost use Rattle.rules.specs.Call.{answer, afterwards, room};
+ghost use Rattle.surface_nets.specs.Reading.{buffers, callMade};
+ghost use Rattle.bed.specs.Boundary.{extent, said};
+use grid::Extent;
+
+// Document 01's call: the answer number, with V and I behind the last two.
+#[no_mangle]
+pub extern "C" fn bed_surface_nets(
+    sdf: &[f32],
+    dim_x: u32,
+    dim_y: u32,
+    dim_z: u32,
+    min_x: u32,
+    min_y: u32,
+    min_z: u32,
+    max_x: u32,
+    max_y: u32,
+    max_z: u32,
+    max_plane: bool,
+    positions: &mut [f32],
+    normals: &mut [f32],
+    cells: &mut [u32],
+    strides: &mut [u32],
+    stride_to_index: &mut [u32],
+    indices: &mut [u32],
+    vertex_count: &mut u64,
+    index_count: &mut u64,
+) -> u32
+    ensures { λ r. ⌜ said r (now («vertex_count» .exit)) (now («index_count» .exit)) ≡ answer (callMade (now (sdf .entry)) (extent «dim_x» «dim_y» «dim_z») (extent «min_x» «min_y» «min_z») (extent «max_x» «max_y» «max_z») «max_plane») (room (buffers (now (positions .entry)) (now (normals .entry)) (now (cells .entry)) (now (strides .entry)) (now («stride_to_index» .entry)) (now (indices .entry)))) ⌝ }
+    ensures { λ r. ⌜ buffers (now (positions .exit)) (now (normals .exit)) (now (cells .exit)) (now (strides .exit)) (now («stride_to_index» .exit)) (now (indices .exit)) ≡ afterwards (callMade (now (sdf .entry)) (extent «dim_x» «dim_y» «dim_z») (extent «min_x» «min_y» «min_z») (extent «max_x» «max_y» «max_z») «max_plane») (buffers (now (positions .entry)) (now (normals .entry)) (now (cells .entry)) (now (strides .entry)) (now («stride_to_index» .entry)) (now (indices .entry))) ⌝ }
+{
+    let dims = Extent {
+        x: dim_x,
+        y: dim_y,
+        z: dim_z,
+    };
+    let low = Extent {
+        x: min_x,
+        y: min_y,
+        z: min_z,
+    };
+    let high = Extent {
+        x: max_x,
+        y: max_y,
+        z: max_z,
+    };
+    let a = surface_nets::surface_nets(
+        sdf,
+        dims,
+        low,
+        high,
+        max_plane,
+        positions,
+        normals,
+        cells,
+        strides,
+        stride_to_index,
+        indices,
+    );
+    *vertex_count = a.vertex_count;
+    *index_count = a.index_count;
+    a.number
+}

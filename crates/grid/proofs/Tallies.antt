@@ -1,0 +1,169 @@
+-- What a cell adds to the count is what the list of that one cell counts, and counts of lists add up. From the corner values that the code reads
+-- to the rules' own. Assumes nothing.
+use Prim.Native.Nat.{ℕ, suc, _+_, _*_, _^_, _≤_, _<_}
+use native.Mathlib.Nat.{add-zero, mul-add, le-trans, mul-le-mul-left}
+use native.Mathlib.Omega.{arith}
+use mathlib.Core.Bool.{Bool, true, false, _&&_, cond}
+use mathlib.Core.List.{List, [], _∷_, _++_, append-nil}
+use mathlib.Core.Path.{_≡_, refl, sym, ap, _∙_}
+use lib.ListN.{length, getD, length-append}
+use lib.Ieee.{Float, nan, unlike}
+use Rattle.rules.specs.Lists.{one, keep, many, joined}
+use Rattle.rules.specs.Grid.{GridPoint, Axis, axisX, axisY, axisZ, Box, Field, index, value, stepUp}
+use Rattle.rules.specs.Cell.{values, cornerOf, corner, negative, surface}
+use Rattle.rules.specs.Vertices.{surfaceCell}
+use Rattle.rules.specs.Faces.{Flags, Edge as Edge', edge, edgesAt, owned, changes, gives, cellEdges}
+use Rattle.rules.proofs.Indexes.{same-point, corner-index}
+use Rattle.rules.proofs.Lists.{keep-append, joined-append, length-keep, many-most}
+use Rattle.rules.proofs.Tests.{one-most}
+use Rattle.grid.specs.declared.Block.{Block}
+use Rattle.grid.specs.declared.ownership.Own.{Own}
+use Rattle.grid.specs.declared.corners.Side.{Side}
+use Rattle.grid.specs.declared.count.Tally.{Tally}
+use Rattle.grid.specs.Block.{point, boxOf, flagsOf, fieldOf}
+use Rattle.grid.specs.Corners.{sideAt, eightOf}
+use Rattle.grid.specs.Tally.{faceAt, pickTally, cellTally, tallyOf}
+
+-- ---- the corner values
+
+-- the eight values that two sides give are those of the cell
+pub values-are : (l : List Float) (k : Block) (c : GridPoint) (at row layer : ℕ) → at ≡ index (point (k .dims)) c → row ≡ k .dims .x → layer ≡ k .dims .x * k .dims .y → values (fieldOf l k) c ≡ eightOf (sideAt l at row layer) (sideAt l (at + 1) row layer)
+values-are l k c at row layer e f h =
+    let d = point (k .dims) in
+    let v0 : getD l (index d (cornerOf c 0)) nan ≡ getD l (at) nan = ap (λ (n : ℕ). getD l n nan) (omega (arith, corner-index d c 0)) in
+    let v1 : getD l (index d (cornerOf c 1)) nan ≡ getD l (at + 1) nan = ap (λ (n : ℕ). getD l n nan) (omega (arith, corner-index d c 1)) in
+    let v2 : getD l (index d (cornerOf c 2)) nan ≡ getD l (at + row) nan = ap (λ (n : ℕ). getD l n nan) (omega (arith, corner-index d c 2)) in
+    let v3 : getD l (index d (cornerOf c 3)) nan ≡ getD l (at + 1 + row) nan = ap (λ (n : ℕ). getD l n nan) (omega (arith, corner-index d c 3)) in
+    let v4 : getD l (index d (cornerOf c 4)) nan ≡ getD l (at + layer) nan = ap (λ (n : ℕ). getD l n nan) (omega (arith, corner-index d c 4)) in
+    let v5 : getD l (index d (cornerOf c 5)) nan ≡ getD l (at + 1 + layer) nan = ap (λ (n : ℕ). getD l n nan) (omega (arith, corner-index d c 5)) in
+    let v6 : getD l (index d (cornerOf c 6)) nan ≡ getD l (at + row + layer) nan = ap (λ (n : ℕ). getD l n nan) (omega (arith, corner-index d c 6)) in
+    let v7 : getD l (index d (cornerOf c 7)) nan ≡ getD l (at + 1 + row + layer) nan = ap (λ (n : ℕ). getD l n nan) (omega (arith, corner-index d c 7)) in
+    λ i. v0 i ∷ v1 i ∷ v2 i ∷ v3 i ∷ v4 i ∷ v5 i ∷ v6 i ∷ v7 i ∷ []
+
+-- the corners 0, 1, 2 and 4 are the cell's lowest corner and the other ends of its three edges
+pub corner-low : (c : GridPoint) → cornerOf c 0 ≡ c
+corner-low c = same-point (omega arith) (omega arith) (omega arith)
+
+-- the corner at the other end of an edge
+abbrev pub otherEnd : Axis → ℕ
+otherEnd axisX = 1
+otherEnd axisY = 2
+otherEnd axisZ = 4
+
+pub corner-up : (a : Axis) (c : GridPoint) → cornerOf c (otherEnd a) ≡ stepUp a c
+corner-up axisX c = same-point refl (omega arith) (omega arith)
+corner-up axisY c = same-point (omega arith) refl (omega arith)
+corner-up axisZ c = same-point (omega arith) (omega arith) refl
+
+value-at : (g : Field) (a : Axis) (c : GridPoint) → corner (values g c) (otherEnd a) ≡ value g (cornerOf c (otherEnd a))
+value-at g axisX c = refl
+value-at g axisY c = refl
+value-at g axisZ c = refl
+
+pub changes-at : (g : Field) (a : Axis) (c : GridPoint) → unlike (negative (corner (values g c) 0)) (negative (corner (values g c) (otherEnd a))) ≡ changes g (edge a c)
+unfolding changes
+changes-at g a c = ap (λ (v : Float). unlike (negative (value g (cornerOf c 0))) (negative v)) (value-at g a c) ∙ rw (corner-low c, corner-up a c)
+
+-- ---- one cell
+
+three : (a b c : Bool) → 6 * (one a + (one b + (one c + 0))) ≡ 6 * (one a + one b + one c)
+three a b c = omega arith
+
+edges-many : (g : Field) (b : Box) (m : Flags) (c : GridPoint) → length (cellEdges g b m c) ≡ one (gives g b m (edge axisX c)) + (one (gives g b m (edge axisY c)) + (one (gives g b m (edge axisZ c)) + 0))
+unfolding cellEdges many
+edges-many g b m c = length-keep (gives g b m) (edgesAt c)
+
+face-is : (g : Field) (b : Box) (m : Flags) (a : Axis) (c : GridPoint) (own : Bool) → own ≡ owned b m (edge a c) → one (own && unlike (negative (corner (values g c) 0)) (negative (corner (values g c) (otherEnd a)))) ≡ one (gives g b m (edge a c))
+face-is g b m a c own e = rw (e, changes-at g a c)
+
+faces-are : (g : Field) (b : Box) (m : Flags) (c : GridPoint) (own : Own) → own .x ≡ owned b m (edge axisX c) → own .y ≡ owned b m (edge axisY c) → own .z ≡ owned b m (edge axisZ c) → 6 * (faceAt (values g c) (own .x) 1 + faceAt (values g c) (own .y) 2 + faceAt (values g c) (own .z) 4) ≡ 6 * length (cellEdges g b m c ++ [])
+faces-are g b m c own ex ey ez =
+    ap (λ (n : ℕ). 6 * n) (
+    ap (λ (n : ℕ). n + faceAt (values g c) (own .y) 2 + faceAt (values g c) (own .z) 4) (face-is g b m axisX c (own .x) ex)
+    ∙ ap (λ (n : ℕ). one (gives g b m (edge axisX c)) + n + faceAt (values g c) (own .z) 4) (face-is g b m axisY c (own .y) ey)
+    ∙ ap (λ (n : ℕ). one (gives g b m (edge axisX c)) + one (gives g b m (edge axisY c)) + n) (face-is g b m axisZ c (own .z) ez))
+    ∙ sym (ap (λ (l : List Edge'). 6 * length l) (append-nil (cellEdges g b m c)) ∙ ap (λ (n : ℕ). 6 * n) (edges-many g b m c)
+    ∙ three (gives g b m (edge axisX c)) (gives g b m (edge axisY c)) (gives g b m (edge axisZ c)))
+
+kept : (g : Field) (b : Box) (m : Flags) (c : GridPoint) (n : ℕ) → n ≡ 6 * length (cellEdges g b m c ++ []) → (t : Bool) → pickTally t (record { vertices = 1; indices = n }) ≡ record { vertices = length (cond t (c ∷ []) []); indices = 6 * length (joined (cellEdges g b m) (cond t (c ∷ []) [])) }
+unfolding joined
+kept g b m c n e true = λ i. record { vertices = 1; indices = e i }
+kept g b m c n e false = refl
+
+pub cell-tally : (g : Field) (b : Box) (m : Flags) (c : GridPoint) (own : Own) → own .x ≡ owned b m (edge axisX c) → own .y ≡ owned b m (edge axisY c) → own .z ≡ owned b m (edge axisZ c) → cellTally (values g c) own ≡ tallyOf g b m (c ∷ [])
+unfolding cellTally tallyOf keep
+cell-tally g b m c own ex ey ez =
+    kept g b m c (6 * (faceAt (values g c) (own .x) 1 + faceAt (values g c) (own .y) 2 + faceAt (values g c) (own .z) 4)) (faces-are g b m c own ex ey ez) (surfaceCell g c)
+
+-- what the code makes of a surface cell, and of any other
+pub counted : (d : List Float) (own : Own) (n n1 n2 n4 : Bool) (x y z : ℕ) → surface d ≡ true → n ≡ negative (corner d 0) → n1 ≡ negative (corner d 1) → n2 ≡ negative (corner d 2) → n4 ≡ negative (corner d 4) → x ≡ one (own .x && unlike n n1) → y ≡ one (own .y && unlike n n2) → z ≡ one (own .z && unlike n n4) → record { vertices = 1; indices = 6 * (x + y + z) } ≡ cellTally d own
+unfolding cellTally
+counted d own n n1 n2 n4 x y z s e e1 e2 e4 ex ey ez = rw (ex, ey, ez, e, e1, e2, e4, s)
+
+pub uncounted : (d : List Float) (own : Own) → surface d ≡ false → record { vertices = 0; indices = 0 } ≡ cellTally d own
+unfolding cellTally
+uncounted d own s = rw s
+
+-- ---- lists add up
+
+pub none-counted : (g : Field) (b : Box) (m : Flags) → tallyOf g b m [] ≡ record { vertices = 0; indices = 0 }
+unfolding tallyOf keep joined
+none-counted g b m = refl
+
+pub vertices-add : (g : Field) (b : Box) (m : Flags) (s t : List GridPoint) → tallyOf g b m (s ++ t) .vertices ≡ tallyOf g b m s .vertices + tallyOf g b m t .vertices
+unfolding tallyOf
+vertices-add g b m s t = ap length (keep-append (surfaceCell g) s t) ∙ length-append (keep (surfaceCell g) s) (keep (surfaceCell g) t)
+
+pub indices-add : (g : Field) (b : Box) (m : Flags) (s t : List GridPoint) → tallyOf g b m (s ++ t) .indices ≡ tallyOf g b m s .indices + tallyOf g b m t .indices
+unfolding tallyOf
+indices-add g b m s t =
+    ap (λ (l : List GridPoint). 6 * length (joined (cellEdges g b m) l)) (keep-append (surfaceCell g) s t)
+    ∙ ap (λ (l : List Edge'). 6 * length l) (joined-append (cellEdges g b m) (keep (surfaceCell g) s) (keep (surfaceCell g) t))
+    ∙ ap (λ (n : ℕ). 6 * n) (length-append (joined (cellEdges g b m) (keep (surfaceCell g) s)) (joined (cellEdges g b m) (keep (surfaceCell g) t)))
+    ∙ mul-add 6 (length (joined (cellEdges g b m) (keep (surfaceCell g) s))) (length (joined (cellEdges g b m) (keep (surfaceCell g) t)))
+
+-- ---- and are small
+
+edges-few : (g : Field) (b : Box) (m : Flags) (l : List GridPoint) → length (joined (cellEdges g b m) l) ≤ 3 * length l
+unfolding joined
+edges-few g b m [] = omega arith
+edges-few g b m (c ∷ l) =
+    let here : length (cellEdges g b m c) ≤ 3 = rw (edges-many g b m c) (omega (arith, one-most (gives g b m (edge axisX c)), one-most (gives g b m (edge axisY c)), one-most (gives g b m (edge axisZ c)))) in
+    rw (length-append (cellEdges g b m c) (joined (cellEdges g b m) l)) (omega (arith, edges-few g b m l))
+
+pub vertices-few : (g : Field) (b : Box) (m : Flags) (l : List GridPoint) → tallyOf g b m l .vertices ≤ length l
+unfolding tallyOf
+vertices-few g b m l = rw (length-keep (surfaceCell g) l) (many-most (surfaceCell g) l)
+
+pub indices-few : (g : Field) (b : Box) (m : Flags) (l : List GridPoint) → tallyOf g b m l .indices ≤ 18 * length l
+unfolding tallyOf
+indices-few g b m l =
+    let v = vertices-few g b m l in
+    let e = edges-few g b m (keep (surfaceCell g) l) in
+    omega arith
+
+-- ---- a step of a loop: what was counted and one list more, which is the longer list's count and fits
+
+pub record Step (g : Field) (b : Box) (m : Flags) (v i v' i' : ℕ) (next : List GridPoint) : Type 0 where
+  pub vertices-fit : v + v' < 2 ^ 60
+  pub indices-fit : i + i' < 2 ^ 60
+  pub same : _≡_ {A = Tally} (record { vertices = v + v'; indices = i + i' }) (tallyOf g b m next)
+
+pub step : (g : Field) (b : Box) (m : Flags) (s t next : List GridPoint) (v i v' i' : ℕ) → next ≡ s ++ t → length next ≤ 2 ^ 40 → _≡_ {A = Tally} (record { vertices = v; indices = i }) (tallyOf g b m s) → _≡_ {A = Tally} (record { vertices = v'; indices = i' }) (tallyOf g b m t) → Step g b m v i v' i' next
+step g b m s t next v i v' i' e few old new =
+    let ev : v + v' ≡ tallyOf g b m next .vertices = ap (λ (a : Tally). a .vertices + v') old ∙ ap (λ (a : Tally). tallyOf g b m s .vertices + a .vertices) new ∙ sym (ap (λ (l : List GridPoint). tallyOf g b m l .vertices) e ∙ vertices-add g b m s t) in
+    let ei : i + i' ≡ tallyOf g b m next .indices = ap (λ (a : Tally). a .indices + i') old ∙ ap (λ (a : Tally). tallyOf g b m s .indices + a .indices) new ∙ sym (ap (λ (l : List GridPoint). tallyOf g b m l .indices) e ∙ indices-add g b m s t) in
+    record {
+      vertices-fit = omega (arith, vertices-few g b m next);
+      indices-fit = omega (arith, indices-few g b m next);
+      same = λ j. record { vertices = ev j; indices = ei j };
+    }
+
+-- the count of one cell, by the way the code takes to it
+pub cell-counted : (l : List Float) (k : Block) (c : GridPoint) (at row layer : ℕ) (low high : Side) (d : List Float) (own : Own) (r : Tally) → at ≡ index (point (k .dims)) c → row ≡ k .dims .x → layer ≡ k .dims .x * k .dims .y
+    → low ≡ sideAt l at row layer → high ≡ sideAt l (at + 1) row layer → d ≡ eightOf low high
+    → (own .x ≡ owned (boxOf k) (flagsOf k) (edge axisX c)) × ((own .y ≡ owned (boxOf k) (flagsOf k) (edge axisY c)) × (own .z ≡ owned (boxOf k) (flagsOf k) (edge axisZ c)))
+    → r ≡ cellTally d own → r ≡ tallyOf (fieldOf l k) (boxOf k) (flagsOf k) (c ∷ [])
+cell-counted l k c at row layer low high d own r ea er el elow ehigh ed eo e =
+    e ∙ ap (λ (v : List Float). cellTally v own) (ed ∙ ap (λ (s : Side). eightOf s high) elow ∙ ap (λ (s : Side). eightOf (sideAt l at row layer) s) ehigh ∙ sym (values-are l k c at row layer ea er el))
+    ∙ cell-tally (fieldOf l k) (boxOf k) (flagsOf k) c own (eo .0) (eo .1 .0) (eo .1 .1)

@@ -1,0 +1,13 @@
+-- A cell's corner values as the code reads them: two sides of four. Definitions only. Assumes nothing.
+use Prim.Native.Nat.{ℕ, _+_}
+use mathlib.Core.List.{List, [], _∷_}
+use lib.ListN.{getD}
+use lib.Ieee.{Float, nan}
+use Rattle.grid.specs.declared.corners.Side.{Side}
+
+abbrev pub sideAt : List Float → ℕ → ℕ → ℕ → Side
+sideAt l at row layer =
+    record { a = getD l at nan; b = getD l (at + row) nan; c = getD l (at + layer) nan; d = getD l (at + row + layer) nan }
+
+abbrev pub eightOf : Side → Side → List Float
+eightOf low high = low .a ∷ high .a ∷ low .b ∷ high .b ∷ low .c ∷ high .c ∷ low .d ∷ high .d ∷ []

@@ -1,0 +1,6 @@
+-- How the structs of src/ render document 01's dimensions, box and max plane, and what the inner functions say of themselves.
+pub mod Block
+pub mod Inside
+pub mod Corners
+pub mod Order
+pub mod Tally

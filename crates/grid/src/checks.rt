@@ -1,0 +1,59 @@
+// The conditions of document 01 that speak of dimensions and box alone: 1 and 2. No slice is read here, and any numbers may come.
+ghost use mathlib.Core.Path.{_≡_};
+ghost use Rattle.rules.specs.Call.{badDimension, badDimensions, badSide, badBox};
+ghost use Rattle.grid.specs.Block.{point, boxOf};
+use crate::Block;
+use crate::Extent;
+
+// A dimension is 0 or above 16,777,217.
+pub fn bad_dimension(n: u32) -> bool
+    ensures { λ r. ⌜ r ≡ badDimension n ⌝ }
+{
+    if n == 0 {
+        return true;
+    }
+    16777217 < n
+}
+
+// Condition 1. Two dimensions are multiplied first, and the third only where that product is small: three of 32 bits would not fit 64.
+pub fn bad_dimensions(d: Extent) -> bool
+    ensures { λ r. ⌜ r ≡ badDimensions (point d) ⌝ }
+{
+    if bad_dimension(d.x) {
+        return true;
+    }
+    if bad_dimension(d.y) {
+        return true;
+    }
+    if bad_dimension(d.z) {
+        return true;
+    }
+    let plane = (d.x as u64) * (d.y as u64);
+    if 1073741824 < plane {
+        return true;
+    }
+    1073741824 < plane * (d.z as u64)
+}
+
+// Min is above max, or max is not below its dimension, on one axis.
+pub fn bad_side(dim: u32, low: u32, high: u32) -> bool
+    ensures { λ r. ⌜ r ≡ badSide dim low high ⌝ }
+{
+    if high < low {
+        return true;
+    }
+    dim <= high
+}
+
+// Condition 2.
+pub fn bad_box(k: Block) -> bool
+    ensures { λ r. ⌜ r ≡ badBox (point (k .dims)) (boxOf k) ⌝ }
+{
+    if bad_side(k.dims.x, k.low.x, k.high.x) {
+        return true;
+    }
+    if bad_side(k.dims.y, k.low.y, k.high.y) {
+        return true;
+    }
+    bad_side(k.dims.z, k.low.z, k.high.z)
+}

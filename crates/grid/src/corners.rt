@@ -1,0 +1,33 @@
+// A cell's eight corner values. The four of an x side are read by one function, so that a row may reuse a side.
+ghost use mathlib.Core.Path.{_≡_};
+ghost use Prim.Native.Nat.{_+_, _<_};
+ghost use lib.ListN.{length};
+ghost use Rattle.grid.specs.Corners.{sideAt, eightOf};
+
+// The values at the corners of a cell's side, those with one x: at (y, z) = (0, 0), (1, 0), (0, 1), (1, 1).
+pub struct Side {
+    pub a: f32,
+    pub b: f32,
+    pub c: f32,
+    pub d: f32,
+}
+
+// The side whose lowest corner stands at `at`; `row` and `layer` are the steps to the next row and the next layer.
+pub fn side_at(sdf: &[f32], at: usize, row: usize, layer: usize) -> Side
+    requires { ⌜ at + row + layer < length (now sdf) ⌝ }
+    ensures { λ r. ⌜ r ≡ sideAt (now (sdf .entry)) at row layer ⌝ }
+{
+    Side {
+        a: sdf[at],
+        b: sdf[at + row],
+        c: sdf[at + layer],
+        d: sdf[at + row + layer],
+    }
+}
+
+// The eight values, corner 0 first, from a cell's lower and upper side in x.
+pub fn corners(low: Side, high: Side) -> [f32; 8]
+    ensures { λ r. ⌜ r ≡ eightOf low high ⌝ }
+{
+    [low.a, high.a, low.b, high.b, low.c, high.c, low.d, high.d]
+}

@@ -1,0 +1,30 @@
+// A grid, a box in it and the max plane: the conditions 1, 2 and 5 of document 01, the reading of a cell's corners, and the counts of
+// vertices and indices. What reads the grid asks that the box lies in it, which the conditions 1 to 3 say.
+pub mod checks;
+pub mod corners;
+pub mod count;
+pub mod ownership;
+pub mod place;
+pub mod scan;
+
+// Three numbers, one for each axis: dimensions, or a corner of a box.
+pub struct Extent {
+    pub x: u32,
+    pub y: u32,
+    pub z: u32,
+}
+
+// The max plane, for each axis apart; document 01's yes/no sets all three.
+pub struct MaxPlane {
+    pub x: bool,
+    pub y: bool,
+    pub z: bool,
+}
+
+// A box with its max plane in a grid of these dimensions.
+pub struct Block {
+    pub dims: Extent,
+    pub low: Extent,
+    pub high: Extent,
+    pub max_plane: MaxPlane,
+}

@@ -1,0 +1,76 @@
+// Condition 5 of document 01: a distance in the box that is not finite or beyond the cap. One function for a row, a layer and the box.
+ghost use mathlib.Core.Path.{_≡_};
+ghost use mathlib.Core.Bool.{_||_};
+ghost use Prim.Native.Nat.{_+_, _≤_};
+ghost use lib.ListN.{length};
+ghost use Rattle.rules.specs.Call.{beyond, badLayer, badDistance};
+ghost use Rattle.grid.specs.Block.{boxOf, fieldOf};
+ghost use Rattle.grid.specs.Inside.{Inside, badRun};
+use crate::Block;
+use crate::Extent;
+
+// The largest magnitude that is let in, 2^100.
+pub const CAP: f32 = 1267650600228229401496703205376.0;
+
+// Not finite, or above the cap in magnitude.
+pub fn is_beyond(d: f32) -> bool
+    ensures { λ r. ⌜ r ≡ beyond d ⌝ }
+{
+    if CAP < d {
+        return true;
+    }
+    if d < -CAP {
+        return true;
+    }
+    d != d
+}
+
+pub fn either(a: bool, b: bool) -> bool
+    ensures { λ r. ⌜ r ≡ (a || b) ⌝ }
+{
+    if a {
+        return true;
+    }
+    b
+}
+
+// A row: n distances from `at` on.
+pub fn bad_row(sdf: &[f32], at: usize, n: usize) -> bool
+    requires { ⌜ at + n ≤ length (now sdf) ⌝ }
+    ensures { λ r. ⌜ r ≡ badRun (now (sdf .entry)) at n ⌝ }
+{
+    let mut bad = false;
+    for j in 0usize..n {
+        bad = either(bad, is_beyond(sdf[at + j]));
+    }
+    bad
+}
+
+pub fn bad_layer(sdf: &[f32], k: Block, z: u32) -> bool
+    requires { ⌜ Inside (now sdf) k ⌝ }
+    requires { ⌜ (k .low .z ≤ z) × (z ≤ k .high .z) ⌝ }
+    ensures { λ r. ⌜ r ≡ badLayer (fieldOf (now (sdf .entry)) k) (boxOf k) z ⌝ }
+{
+    let from = k.low.y;
+    let end = k.high.y + 1;
+    let n = (k.high.x + 1 - k.low.x) as usize;
+    let mut bad = false;
+    for y in from..end {
+        let at = crate::place::linearize(k.dims, Extent { x: k.low.x, y, z });
+        bad = either(bad, bad_row(sdf, at, n));
+    }
+    bad
+}
+
+pub fn bad_distance(sdf: &[f32], k: Block) -> bool
+    requires { ⌜ Inside (now sdf) k ⌝ }
+    ensures { λ r. ⌜ r ≡ badDistance (fieldOf (now (sdf .entry)) k) (boxOf k) ⌝ }
+{
+    let from = k.low.z;
+    let end = k.high.z + 1;
+    let mut bad = false;
+    for z in from..end {
+        bad = either(bad, bad_layer(sdf, k, z));
+    }
+    bad
+}

@@ -1,0 +1,79 @@
+// The bed mesher: document 01's call. The conditions 1 to 7 are tried in their order before anything is written; then one pass over the cells
+// writes each surface cell's vertex and, right after it, its faces.
+ghost use mathlib.Core.Path.{_≡_};
+ghost use Rattle.rules.specs.Call.{answer, afterwards, room};
+ghost use Rattle.surface_nets.specs.Reading.{answerOf, buffers, callMade};
+
+mod judge;
+mod passes;
+
+use grid::Block;
+use grid::Extent;
+use grid::MaxPlane;
+use judge::Lengths;
+use step::Made;
+// Document 01's answer number with V and I.
+pub struct Answer {
+    pub number: u32,
+    pub vertex_count: u64,
+    pub index_count: u64,
+}
+
+// Extracts the surface of the distances in the box from `low` to `high`, both corners included, of a grid of dimensions `dims`.
+// Positions and normals take three floats a vertex, cells three numbers, strides one; the map one for each number of the grid.
+pub fn surface_nets(
+    sdf: &[f32],
+    dims: Extent,
+    low: Extent,
+    high: Extent,
+    max_plane: bool,
+    positions: &mut [f32],
+    normals: &mut [f32],
+    cells: &mut [u32],
+    strides: &mut [u32],
+    stride_to_index: &mut [u32],
+    indices: &mut [u32],
+) -> Answer
+    ensures { λ r. ⌜ answerOf r ≡ answer (callMade (now (sdf .entry)) dims low high «max_plane») (room (buffers (now (positions .entry)) (now (normals .entry)) (now (cells .entry)) (now (strides .entry)) (now («stride_to_index» .entry)) (now (indices .entry)))) ⌝ }
+    ensures { λ r. ⌜ buffers (now (positions .exit)) (now (normals .exit)) (now (cells .exit)) (now (strides .exit)) (now («stride_to_index» .exit)) (now (indices .exit)) ≡ afterwards (callMade (now (sdf .entry)) dims low high «max_plane») (buffers (now (positions .entry)) (now (normals .entry)) (now (cells .entry)) (now (strides .entry)) (now («stride_to_index» .entry)) (now (indices .entry))) ⌝ }
+{
+    let k = Block {
+        dims,
+        low,
+        high,
+        max_plane: MaxPlane {
+            x: max_plane,
+            y: max_plane,
+            z: max_plane,
+        },
+    };
+    let room = Lengths {
+        positions: positions.len(),
+        normals: normals.len(),
+        cells: cells.len(),
+        strides: strides.len(),
+        map: stride_to_index.len(),
+        indices: indices.len(),
+    };
+    let a = judge::answer_for(sdf, k, room);
+    let number = a.number;
+    if number != 0 {
+        return a;
+    }
+    let none = Made {
+        vertices: 0,
+        indices: 0,
+    };
+    passes::mesh_box(
+        sdf,
+        k,
+        positions,
+        normals,
+        cells,
+        strides,
+        stride_to_index,
+        indices,
+        none,
+    );
+    a
+}

@@ -1,0 +1,143 @@
+//! Those who are timed: the proved library over lent buffers, and builds of the original.
+
+use bed::{surface_nets_lent, Counts, Lent, Refusal};
+use std::ffi::{c_char, c_int, c_void, CString};
+
+/// One who meshes a cube into warm memory.
+pub trait Runner {
+    fn mesh(&mut self, grid: &[f32], side: u32);
+    /// The last mesh's indices, to see that all made the same.
+    fn indices(&self) -> Vec<u32>;
+}
+
+/// The proved library, with exactly the room that the grid at hand needs.
+#[derive(Default)]
+pub struct Library {
+    floats: [Vec<f32>; 2],
+    words: [Vec<u32>; 4],
+}
+
+impl Library {
+    /// Lends room for a grid: asks how much is needed, then makes it.
+    pub fn make_room(&mut self, grid: &[f32], side: u32) {
+        self.words[2].resize(grid.len(), 0);
+        self.lend(&Counts::default());
+        let needed = match self.call(grid, side) {
+            Err(Refusal::VerticesShort(needed)) => needed,
+            other => panic!("a lack of room was awaited, not {other:?}"),
+        };
+        self.lend(&needed);
+    }
+
+    fn lend(&mut self, room: &Counts) {
+        let vertices = room.vertices as usize;
+        self.floats
+            .iter_mut()
+            .for_each(|list| list.resize(3 * vertices, 0.0));
+        self.words[0].resize(3 * vertices, 0);
+        self.words[1].resize(vertices, 0);
+        self.words[3].resize(room.indices as usize, 0);
+    }
+
+    fn call(&mut self, grid: &[f32], side: u32) -> Result<Counts, Refusal> {
+        let [positions, normals] = &mut self.floats;
+        let [cells, strides, stride_to_index, indices] = &mut self.words;
+        let mut lent = Lent {
+            positions,
+            normals,
+            cells,
+            strides,
+            stride_to_index,
+            indices,
+        };
+        surface_nets_lent(grid, [side; 3], [0; 3], [side - 1; 3], false, &mut lent)
+    }
+}
+
+impl Runner for Library {
+    fn mesh(&mut self, grid: &[f32], side: u32) {
+        self.call(grid, side).expect("there is room");
+    }
+
+    fn indices(&self) -> Vec<u32> {
+        self.words[3].clone()
+    }
+}
+
+type MeshCube = unsafe extern "C" fn(*const f32, u32, bool);
+type Indices = unsafe extern "C" fn(*mut *const u32) -> usize;
+
+/// A build of the original, with dimensions known to the compiler or not.
+#[derive(Clone, Copy)]
+pub struct Original {
+    mesh_cube: MeshCube,
+    indices: Indices,
+    shape_is_constant: bool,
+}
+
+impl Original {
+    /// Loads a build from its shared library.
+    pub fn load(path: &str) -> Self {
+        let library = open(path);
+        // SAFETY: the shared library is the package beside this one, whose two functions have these types.
+        unsafe {
+            Self {
+                mesh_cube: std::mem::transmute::<*mut c_void, MeshCube>(find(
+                    library,
+                    "original_mesh_cube",
+                )),
+                indices: std::mem::transmute::<*mut c_void, Indices>(find(
+                    library,
+                    "original_indices",
+                )),
+                shape_is_constant: false,
+            }
+        }
+    }
+
+    pub fn with_constant_shape(self) -> Self {
+        Self {
+            shape_is_constant: true,
+            ..self
+        }
+    }
+}
+
+impl Runner for Original {
+    fn mesh(&mut self, grid: &[f32], side: u32) {
+        assert_eq!(grid.len(), (side as usize).pow(3));
+        // SAFETY: the grid has side³ floats.
+        unsafe { (self.mesh_cube)(grid.as_ptr(), side, self.shape_is_constant) };
+    }
+
+    fn indices(&self) -> Vec<u32> {
+        let mut first = std::ptr::null();
+        // SAFETY: the list stays as it is until the next mesh, and is copied before.
+        unsafe {
+            let length = (self.indices)(&mut first);
+            std::slice::from_raw_parts(first, length).to_vec()
+        }
+    }
+}
+
+extern "C" {
+    fn dlopen(path: *const c_char, mode: c_int) -> *mut c_void;
+    fn dlsym(library: *mut c_void, name: *const c_char) -> *mut c_void;
+}
+
+fn open(path: &str) -> *mut c_void {
+    const RESOLVE_NOW: c_int = 2;
+    let name = CString::new(path).expect("a path has no zero byte");
+    // SAFETY: the name ends with a zero byte; the library's own start-up code is trusted.
+    let library = unsafe { dlopen(name.as_ptr(), RESOLVE_NOW) };
+    assert!(!library.is_null(), "{path} cannot be loaded");
+    library
+}
+
+fn find(library: *mut c_void, name: &str) -> *mut c_void {
+    let text = CString::new(name).expect("a name has no zero byte");
+    // SAFETY: the library was opened and is never closed; the name ends with a zero byte.
+    let function = unsafe { dlsym(library, text.as_ptr()) };
+    assert!(!function.is_null(), "{name} is not in the library");
+    function
+}

@@ -1,0 +1,101 @@
+/* ball.c: meshes a ball and prints its counts and its first triangle.
+ *
+ * The usual way to call: once with empty lists to learn V and I, then with lists of that length. */
+
+#include "bed.h"
+
+#include <math.h>
+#include <stdio.h>
+#include <stdlib.h>
+
+enum { SIDE = 20, POINTS = SIDE * SIDE * SIDE };
+
+/* The lists of a mesh, with room for V vertices and I indices. */
+struct mesh {
+    float *positions, *normals;
+    uint32_t *cells, *strides, *indices;
+    uint64_t vertices, indices_used;
+};
+
+static float sdf[POINTS];
+static uint32_t map[POINTS];
+
+static void fill_with_ball(float middle, float radius) {
+    for (int i = 0; i < POINTS; i++) {
+        float x = (float)(i % SIDE) - middle;
+        float y = (float)(i / SIDE % SIDE) - middle;
+        float z = (float)(i / SIDE / SIDE) - middle;
+        sdf[i] = sqrtf(x * x + y * y + z * z) - radius;
+    }
+}
+
+static uint32_t mesh_whole_grid(struct mesh *m) {
+    size_t vertices = m->vertices, indices = m->indices_used;
+    return bed_surface_nets(
+        sdf, POINTS,
+        SIDE, SIDE, SIDE,
+        0, 0, 0,
+        SIDE - 1, SIDE - 1, SIDE - 1,
+        false,
+        m->positions, 3 * vertices,
+        m->normals, 3 * vertices,
+        m->cells, 3 * vertices,
+        m->strides, vertices,
+        map, POINTS,
+        m->indices, indices,
+        &m->vertices, &m->indices_used);
+}
+
+static void *room_for(size_t elements, size_t size) {
+    void *memory = calloc(elements, size);
+    if (memory == NULL) {
+        fputs("no memory\n", stderr);
+        exit(1);
+    }
+    return memory;
+}
+
+static void make_room(struct mesh *m) {
+    m->positions = room_for(3 * m->vertices, sizeof *m->positions);
+    m->normals = room_for(3 * m->vertices, sizeof *m->normals);
+    m->cells = room_for(3 * m->vertices, sizeof *m->cells);
+    m->strides = room_for(m->vertices, sizeof *m->strides);
+    m->indices = room_for(m->indices_used, sizeof *m->indices);
+}
+
+static void print_first_triangle(const struct mesh *m) {
+    for (int corner = 0; corner < 3; corner++) {
+        const float *at = m->positions + 3 * m->indices[corner];
+        printf("  vertex %u at %.4f %.4f %.4f\n", (unsigned)m->indices[corner], at[0], at[1], at[2]);
+    }
+}
+
+static void free_mesh(struct mesh *m) {
+    free(m->positions);
+    free(m->normals);
+    free(m->cells);
+    free(m->strides);
+    free(m->indices);
+}
+
+int main(void) {
+    struct mesh m = {0};
+    fill_with_ball(9.5f, 7.0f);
+    uint32_t answer = mesh_whole_grid(&m);
+    if (answer != BED_VERTICES_SHORT) {
+        fprintf(stderr, "answer %u where a lack of room was awaited\n", (unsigned)answer);
+        return 1;
+    }
+    make_room(&m);
+    answer = mesh_whole_grid(&m);
+    if (answer != BED_DONE) {
+        fprintf(stderr, "refused: %u\n", (unsigned)answer);
+        return 1;
+    }
+    printf("vertices %llu, indices %llu\n", (unsigned long long)m.vertices,
+           (unsigned long long)m.indices_used);
+    puts("first triangle");
+    print_first_triangle(&m);
+    free_mesh(&m);
+    return 0;
+}

@@ -1,0 +1,99 @@
+/* bed.h: the bed mesher for C and C++.
+ *
+ * The library makes a triangle mesh of the surface where a grid of signed distances changes sign (naive
+ * surface nets). It allocates nothing, keeps no state between calls and calls nothing of yours: all it
+ * reads and writes is lent by the caller for the length of the call. It may be called from several
+ * threads at once on memory of their own.
+ *
+ * Link libbed.a. Numbers are IEEE 754 binary32; every operation rounds once, so that the same call gives
+ * the same bits on every machine.
+ */
+#ifndef BED_H
+#define BED_H
+
+#include <stddef.h>
+#include <stdint.h>
+#ifndef __cplusplus
+#include <stdbool.h>
+#endif
+
+#ifdef __cplusplus
+extern "C" {
+#endif
+
+/* What a call answers. The conditions are tried in the order of their numbers and the first that holds
+ * answers. On every answer but BED_DONE nothing at all is changed but the two counts. */
+enum bed_answer {
+    /* The mesh was written. A box that is flat on an axis is accepted too and has no vertices. */
+    BED_DONE = 0,
+    /* A dimension is 0 or above 16,777,217, or the product of the three is above 1,073,741,824. */
+    BED_BAD_DIMENSIONS = 1,
+    /* min is above max on an axis, or max is not below its dimension. */
+    BED_BAD_BOX = 2,
+    /* The grid is too short: the index of max is not below its length. */
+    BED_GRID_SHORT = 3,
+    /* The cell map is shorter than the grid. */
+    BED_MAP_SHORT = 4,
+    /* A point of the box, both corners included, is not finite or is above 2^100 in magnitude. */
+    BED_BAD_DISTANCE = 5,
+    /* positions, normals or cells are shorter than 3 V, or strides are shorter than V. */
+    BED_VERTICES_SHORT = 6,
+    /* indices are shorter than I. */
+    BED_INDICES_SHORT = 7
+};
+
+/* An entry of the cell map for a cell without a vertex. */
+#define BED_NO_VERTEX UINT32_C(4294967295)
+
+/* Meshes a box of a grid of distances.
+ *
+ * In:
+ *   sdf              the distances, x innermost: point (x, y, z) stands at x + dim_x * (y + dim_y * z).
+ *                    Below zero is inside; 0.0 and -0.0 are not. Only points of the box are looked at.
+ *   dim_x .. dim_z   the grid's dimensions, in points.
+ *   min_x .. max_z   the box's corner points, both included. Its cells run from min to max - 1; a cell is
+ *                    named by its lowest corner.
+ *   max_plane        whether faces are also made of edges that end on the box's max side. Without it,
+ *                    blocks that share a layer of cells make each face once.
+ *
+ * Lent for writing, each a pointer and its length in elements:
+ *   positions        three floats a vertex, in grid coordinates.
+ *   normals          three floats a vertex: the gradient of the distances, not of unit length.
+ *   cells            the three coordinates of each vertex's cell.
+ *   strides          the index of each vertex's cell in the grid.
+ *   stride_to_index  the cell map, as long as the grid at least: entry i is the vertex of the cell at
+ *                    grid index i, or BED_NO_VERTEX.
+ *   indices          triangles, three vertex numbers each, two triangles a face. Counted from 0.
+ *
+ * Out, on every answer:
+ *   vertex_count     V, the number of vertices: written on BED_DONE, needed on BED_VERTICES_SHORT and
+ *   index_count      I, the number of indices:   BED_INDICES_SHORT. Both are 0 on answers 1 to 5.
+ *
+ * What is written on BED_DONE: the first 3 V numbers of positions, normals and cells, the first V of
+ * strides, the first I of indices, and the map entry of each cell of the box. Everything else keeps what
+ * it held: the rest of those buffers, and every map entry that is no cell of the box. What the buffers
+ * held before never matters. To learn V and I, call with empty lists and a map, then lend enough and call
+ * again; where V is 0 the first call is already done.
+ *
+ * Nothing that is lent may overlap anything else, the two counts included. Pointers are aligned for their
+ * type; a pointer may be null only where its length is 0. The two counts' pointers are never null.
+ */
+uint32_t bed_surface_nets(
+    const float *sdf, size_t sdf_len,
+    uint32_t dim_x, uint32_t dim_y, uint32_t dim_z,
+    uint32_t min_x, uint32_t min_y, uint32_t min_z,
+    uint32_t max_x, uint32_t max_y, uint32_t max_z,
+    bool max_plane,
+    float *positions, size_t positions_len,
+    float *normals, size_t normals_len,
+    uint32_t *cells, size_t cells_len,
+    uint32_t *strides, size_t strides_len,
+    uint32_t *stride_to_index, size_t stride_to_index_len,
+    uint32_t *indices, size_t indices_len,
+    uint64_t *vertex_count, uint64_t *index_count);
+
+#ifdef __cplusplus
+}
+#endif
+
+#endif /* BED_H */

@@ -1,0 +1,136 @@
+//! The shape of use that callers of fast-surface-nets know: one buffer that grows and is reused.
+
+use crate::lent::{surface_nets_lent, Counts, Lent};
+use crate::refusal::Refusal;
+
+/// A grid index with this entry in `stride_to_index` made no vertex.
+pub const NULL_VERTEX: u32 = u32::MAX;
+
+/// The mesh of the last call, in the fields of fast-surface-nets. Reuse it to keep its memory.
+#[derive(Clone, Debug, Default, PartialEq)]
+pub struct SurfaceNetsBuffer {
+    /// Where each vertex lies, in grid coordinates.
+    pub positions: Vec<[f32; 3]>,
+    /// The gradient at each vertex, not of unit length.
+    pub normals: Vec<[f32; 3]>,
+    /// Triangles, three vertex numbers each.
+    pub indices: Vec<u32>,
+    /// The cell of each vertex, named by its lowest corner.
+    pub surface_points: Vec<[u32; 3]>,
+    /// The grid index of each vertex's cell.
+    pub surface_strides: Vec<u32>,
+    /// The vertex number of each cell, by grid index. Entries of points that are no cell of the box
+    /// keep what an earlier call left, as in fast-surface-nets.
+    pub stride_to_index: Vec<u32>,
+}
+
+/// Meshes the box from `min` to `max`, both included, into a buffer that grows as needed.
+///
+/// After it the lists hold exactly V vertices and I indices, and the map has the grid's length, new
+/// entries beginning as [`NULL_VERTEX`]. A lack of room is no refusal here, since the buffer grows; any
+/// other refusal leaves the buffer as it was.
+pub fn surface_nets(
+    sdf: &[f32],
+    dims: [u32; 3],
+    min: [u32; 3],
+    max: [u32; 3],
+    max_plane: bool,
+    buffer: &mut SurfaceNetsBuffer,
+) -> Result<(), Refusal> {
+    let before = buffer.lengths();
+    buffer.take_up_capacity();
+    lengthen(&mut buffer.stride_to_index, sdf.len(), NULL_VERTEX);
+    let attempt = |buffer: &mut SurfaceNetsBuffer| {
+        surface_nets_lent(sdf, dims, min, max, max_plane, &mut buffer.lend())
+    };
+    let mut answered = attempt(buffer);
+    if let Err(Refusal::VerticesShort(needed) | Refusal::IndicesShort(needed)) = answered {
+        buffer.make_room(needed);
+        answered = attempt(buffer);
+    }
+    let after = answered.map(|counts| Lengths::of(counts, sdf.len()));
+    buffer.cut(after.unwrap_or(before));
+    after.map(|_| ())
+}
+
+/// The lengths of a buffer's six lists.
+#[derive(Clone, Copy)]
+struct Lengths {
+    positions: usize,
+    normals: usize,
+    indices: usize,
+    surface_points: usize,
+    surface_strides: usize,
+    stride_to_index: usize,
+}
+
+impl Lengths {
+    fn of(counts: Counts, grid: usize) -> Self {
+        let vertices = counts.vertices as usize;
+        Self {
+            positions: vertices,
+            normals: vertices,
+            indices: counts.indices as usize,
+            surface_points: vertices,
+            surface_strides: vertices,
+            stride_to_index: grid,
+        }
+    }
+}
+
+impl SurfaceNetsBuffer {
+    fn lengths(&self) -> Lengths {
+        Lengths {
+            positions: self.positions.len(),
+            normals: self.normals.len(),
+            indices: self.indices.len(),
+            surface_points: self.surface_points.len(),
+            surface_strides: self.surface_strides.len(),
+            stride_to_index: self.stride_to_index.len(),
+        }
+    }
+
+    fn lend(&mut self) -> Lent<'_> {
+        Lent {
+            positions: self.positions.as_flattened_mut(),
+            normals: self.normals.as_flattened_mut(),
+            cells: self.surface_points.as_flattened_mut(),
+            strides: &mut self.surface_strides,
+            stride_to_index: &mut self.stride_to_index,
+            indices: &mut self.indices,
+        }
+    }
+
+    /// Lends the lists in full, so that a reused buffer seldom has to be offered twice.
+    fn take_up_capacity(&mut self) {
+        let vertices = self.positions.capacity() as u64;
+        let indices = self.indices.capacity() as u64;
+        self.make_room(Counts { vertices, indices });
+    }
+
+    fn make_room(&mut self, needed: Counts) {
+        let vertices = needed.vertices as usize;
+        lengthen(&mut self.positions, vertices, [0.0; 3]);
+        lengthen(&mut self.normals, vertices, [0.0; 3]);
+        lengthen(&mut self.surface_points, vertices, [0; 3]);
+        lengthen(&mut self.surface_strides, vertices, 0);
+        lengthen(&mut self.indices, needed.indices as usize, 0);
+    }
+
+    /// Shortens the lists to these lengths. Their memory stays.
+    fn cut(&mut self, to: Lengths) {
+        self.positions.truncate(to.positions);
+        self.normals.truncate(to.normals);
+        self.indices.truncate(to.indices);
+        self.surface_points.truncate(to.surface_points);
+        self.surface_strides.truncate(to.surface_strides);
+        self.stride_to_index.truncate(to.stride_to_index);
+    }
+}
+
+/// Makes a list at least this long; none is shortened.
+fn lengthen<T: Clone>(list: &mut Vec<T>, length: usize, fill: T) {
+    if list.len() < length {
+        list.resize(length, fill);
+    }
+}

@@ -1,0 +1,72 @@
+//! The call over lent slices: nothing is allocated, and what is not written is kept.
+
+use crate::raw::bed_surface_nets;
+use crate::refusal::Refusal;
+
+/// The vertex count V and the index count I of a mesh.
+#[derive(Clone, Copy, Debug, Default, PartialEq, Eq)]
+pub struct Counts {
+    pub vertices: u64,
+    pub indices: u64,
+}
+
+/// What a caller lends for writing. Positions, normals and cells take three numbers a vertex.
+#[derive(Default)]
+pub struct Lent<'a> {
+    pub positions: &'a mut [f32],
+    pub normals: &'a mut [f32],
+    pub cells: &'a mut [u32],
+    pub strides: &'a mut [u32],
+    /// At least as long as the grid. Each cell's entry is written, every other entry kept.
+    pub stride_to_index: &'a mut [u32],
+    pub indices: &'a mut [u32],
+}
+
+/// Meshes the box from `min` to `max`, both included, of a grid with the given dimensions, x innermost.
+///
+/// On success the first 3V, 3V, 3V, V and I numbers of the lists are written and the rest of them kept.
+/// A refused call changes nothing. With `max_plane` the faces of edges that end on the box's max side
+/// are made too.
+pub fn surface_nets_lent(
+    sdf: &[f32],
+    dims: [u32; 3],
+    min: [u32; 3],
+    max: [u32; 3],
+    max_plane: bool,
+    lent: &mut Lent,
+) -> Result<Counts, Refusal> {
+    let mut counts = Counts::default();
+    // SAFETY: every pointer and length come from a slice, which is aligned and never null; the lent
+    // slices are borrowed mutably apart from each other and from the grid, so nothing overlaps.
+    let answer = unsafe {
+        bed_surface_nets(
+            sdf.as_ptr(),
+            sdf.len(),
+            dims[0],
+            dims[1],
+            dims[2],
+            min[0],
+            min[1],
+            min[2],
+            max[0],
+            max[1],
+            max[2],
+            max_plane,
+            lent.positions.as_mut_ptr(),
+            lent.positions.len(),
+            lent.normals.as_mut_ptr(),
+            lent.normals.len(),
+            lent.cells.as_mut_ptr(),
+            lent.cells.len(),
+            lent.strides.as_mut_ptr(),
+            lent.strides.len(),
+            lent.stride_to_index.as_mut_ptr(),
+            lent.stride_to_index.len(),
+            lent.indices.as_mut_ptr(),
+            lent.indices.len(),
+            &mut counts.vertices,
+            &mut counts.indices,
+        )
+    };
+    Refusal::of(answer, counts)
+}

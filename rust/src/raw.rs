@@ -1,0 +1,38 @@
+//! The C function as `include/bed.h` declares it.
+
+extern "C" {
+    /// Meshes the box min..=max of a grid into lent buffers and returns the answer number, 0 to 7.
+    ///
+    /// # Safety
+    ///
+    /// Every pointer is followed by the length of what it points to, in elements. Nothing may overlap
+    /// anything else. Every pointer must be aligned, and only one with length 0 may be null.
+    pub fn bed_surface_nets(
+        sdf: *const f32,
+        sdf_len: usize,
+        dim_x: u32,
+        dim_y: u32,
+        dim_z: u32,
+        min_x: u32,
+        min_y: u32,
+        min_z: u32,
+        max_x: u32,
+        max_y: u32,
+        max_z: u32,
+        max_plane: bool,
+        positions: *mut f32,
+        positions_len: usize,
+        normals: *mut f32,
+        normals_len: usize,
+        cells: *mut u32,
+        cells_len: usize,
+        strides: *mut u32,
+        strides_len: usize,
+        stride_to_index: *mut u32,
+        stride_to_index_len: usize,
+        indices: *mut u32,
+        indices_len: usize,
+        vertex_count: *mut u64,
+        index_count: *mut u64,
+    ) -> u32;
+}

@@ -1,0 +1,186 @@
+//! The wrapper on meshes whose numbers document 01 gives, on the octant of the original's own
+//! documentation, on refusals, and on a buffer that is used again.
+
+use bed::{surface_nets, surface_nets_lent, Counts, Lent, Refusal, SurfaceNetsBuffer, NULL_VERTEX};
+
+const ROOM_FOR_BALL: Counts = Counts {
+    vertices: 8,
+    indices: 18,
+};
+
+/// Document 01's Ball: 3, 3, 3, all 1.0 but -1.0 in the middle.
+fn ball() -> [f32; 27] {
+    let mut sdf = [1.0; 27];
+    sdf[13] = -1.0;
+    sdf
+}
+
+fn mesh_of(sdf: &[f32], max: [u32; 3], max_plane: bool) -> Result<SurfaceNetsBuffer, Refusal> {
+    let mut buffer = SurfaceNetsBuffer::default();
+    surface_nets(sdf, [3; 3], [0; 3], max, max_plane, &mut buffer).map(|()| buffer)
+}
+
+#[test]
+fn ball_is_document_01s() {
+    let mesh = mesh_of(&ball(), [2; 3], false).unwrap();
+    assert_eq!(mesh.surface_strides, [0, 1, 3, 4, 9, 10, 12, 13]);
+    assert_eq!(
+        mesh.indices,
+        [2, 1, 0, 2, 3, 1, 1, 4, 0, 1, 5, 4, 4, 2, 0, 4, 6, 2]
+    );
+    assert_eq!(mesh.positions[0].map(f32::to_bits), [0x3F555555; 3]);
+    assert_eq!(mesh.positions[1][0].to_bits(), 0x3F955555);
+    assert_eq!(mesh.surface_points[7], [1, 1, 1]);
+    assert_eq!(mesh.normals.len(), 8);
+    assert_eq!(mesh.stride_to_index[13], 7);
+    assert_eq!(mesh.stride_to_index[26], NULL_VERTEX);
+}
+
+#[test]
+fn max_plane_doubles_the_balls_faces() {
+    let mesh = mesh_of(&ball(), [2; 3], true).unwrap();
+    assert_eq!((mesh.positions.len(), mesh.indices.len()), (8, 36));
+}
+
+/// A 16^3 chunk with a border of one, holding one octant of a sphere of radius 15.
+fn sphere_octant() -> Vec<f32> {
+    let mut sdf = Vec::new();
+    for z in 0..18u32 {
+        for y in 0..18u32 {
+            for x in 0..18u32 {
+                sdf.push(((x * x + y * y + z * z) as f32).sqrt() - 15.0);
+            }
+        }
+    }
+    sdf
+}
+
+#[test]
+fn sphere_octant_lies_on_the_sphere() {
+    let mut buffer = SurfaceNetsBuffer::default();
+    surface_nets(
+        &sphere_octant(),
+        [18; 3],
+        [0; 3],
+        [17; 3],
+        false,
+        &mut buffer,
+    )
+    .unwrap();
+    assert!(!buffer.indices.is_empty());
+    assert_eq!(buffer.indices.len() % 6, 0);
+    let vertices = buffer.positions.len();
+    assert!(buffer.indices.iter().all(|&i| (i as usize) < vertices));
+    assert_eq!(buffer.normals.len(), vertices);
+    assert_eq!(buffer.surface_points.len(), vertices);
+    assert_eq!(buffer.surface_strides.len(), vertices);
+    for [x, y, z] in buffer.positions {
+        let radius = (x * x + y * y + z * z).sqrt();
+        assert!((radius - 15.0).abs() < 0.1, "a vertex at radius {radius}");
+    }
+}
+
+#[test]
+fn refusals_say_why() {
+    let refused = |sdf: &[f32], dims, min, max| {
+        let mut buffer = SurfaceNetsBuffer::default();
+        surface_nets(sdf, dims, min, max, false, &mut buffer).unwrap_err()
+    };
+    let not_a_number = {
+        let mut sdf = ball();
+        sdf[26] = f32::NAN;
+        sdf
+    };
+    assert_eq!(
+        refused(&ball(), [0, 3, 3], [0; 3], [2; 3]),
+        Refusal::Dimensions
+    );
+    assert_eq!(refused(&ball(), [3; 3], [2, 0, 0], [1, 2, 2]), Refusal::Box);
+    assert_eq!(refused(&ball(), [3; 3], [0; 3], [3, 2, 2]), Refusal::Box);
+    assert_eq!(
+        refused(&ball()[..26], [3; 3], [0; 3], [2; 3]),
+        Refusal::GridShort
+    );
+    assert_eq!(
+        refused(&not_a_number, [3; 3], [0; 3], [2; 3]),
+        Refusal::Distance
+    );
+    assert!(Refusal::GridShort.to_string().contains("grid is too short"));
+    let error: Box<dyn std::error::Error> = Box::new(Refusal::IndicesShort(ROOM_FOR_BALL));
+    assert_eq!(error.to_string(), "no room for 18 indices");
+}
+
+#[test]
+fn lent_slices_are_refused_or_keep_their_rest() {
+    let mesh = |positions: usize, map: usize, indices: usize| {
+        let (mut places, mut normals) = (vec![7.0; positions], vec![7.0; 30]);
+        let (mut cells, mut strides) = (vec![7; 30], vec![7; 10]);
+        let (mut entries, mut faces) = (vec![7; map], vec![7; indices]);
+        let mut lent = Lent {
+            positions: &mut places,
+            normals: &mut normals,
+            cells: &mut cells,
+            strides: &mut strides,
+            stride_to_index: &mut entries,
+            indices: &mut faces,
+        };
+        let answer = surface_nets_lent(&ball(), [3; 3], [0; 3], [2; 3], false, &mut lent);
+        (answer, places, strides, entries, faces)
+    };
+    assert_eq!(mesh(24, 26, 18).0, Err(Refusal::MapShort));
+    assert_eq!(
+        mesh(23, 27, 17).0,
+        Err(Refusal::VerticesShort(ROOM_FOR_BALL))
+    );
+    let (answer, places, strides, entries, faces) = mesh(24, 27, 17);
+    assert_eq!(answer, Err(Refusal::IndicesShort(ROOM_FOR_BALL)));
+    assert!(places.iter().all(|&number| number == 7.0));
+    assert!([strides, entries, faces]
+        .concat()
+        .iter()
+        .all(|&number| number == 7));
+    let (answer, places, strides, entries, faces) = mesh(30, 28, 20);
+    assert_eq!(answer, Ok(ROOM_FOR_BALL));
+    assert_eq!(places[24..], [7.0; 6]);
+    assert_eq!(strides[8..], [7; 2]);
+    assert_eq!((entries[2], entries[8], entries[27]), (7, 7, 7));
+    assert_eq!(faces[18..], [7; 2]);
+}
+
+#[test]
+fn a_reused_buffer_gives_the_same_mesh() {
+    let mut buffer = SurfaceNetsBuffer::default();
+    let mut mesh = |sdf: &[f32], dims, max| {
+        surface_nets(sdf, dims, [0; 3], max, false, &mut buffer).map(|()| buffer.clone())
+    };
+    let octant = mesh(&sphere_octant(), [18; 3], [17; 3]).unwrap();
+    let small = mesh(&ball(), [3; 3], [2; 3]).unwrap();
+    assert_eq!(small.stride_to_index.len(), 27);
+    assert_eq!((small.positions.len(), small.indices.len()), (8, 18));
+    assert_eq!(
+        small.indices,
+        mesh_of(&ball(), [2; 3], false).unwrap().indices
+    );
+    let again = mesh(&sphere_octant(), [18; 3], [17; 3]).unwrap();
+    assert_eq!(again.indices, octant.indices);
+    assert_eq!(again.positions, octant.positions);
+    assert_eq!(again.normals, octant.normals);
+}
+
+#[test]
+fn entries_outside_the_box_are_kept_from_an_earlier_call() {
+    let mut buffer = mesh_of(&ball(), [2; 3], false).unwrap();
+    surface_nets(&ball(), [3; 3], [0; 3], [1; 3], false, &mut buffer).unwrap();
+    assert_eq!(buffer.positions.len(), 1);
+    assert_eq!(buffer.stride_to_index[0], 0);
+    assert_eq!(buffer.stride_to_index[13], 7);
+}
+
+#[test]
+fn a_refused_call_leaves_the_buffer_as_it_was() {
+    let mut buffer = mesh_of(&ball(), [2; 3], false).unwrap();
+    let before = buffer.clone();
+    let refused = surface_nets(&[f32::NAN; 64], [4; 3], [0; 3], [3; 3], false, &mut buffer);
+    assert_eq!(refused, Err(Refusal::Distance));
+    assert_eq!(buffer, before);
+}

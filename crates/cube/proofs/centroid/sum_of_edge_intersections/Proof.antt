@@ -63,7 +63,8 @@ enum-known-f : tie.Need-enum-known-f Inv-loop μ-loop
 enum-known-f c = search needs
 
 point-between-requires : tie.Need-point-between-requires Inv-loop μ-loop
-point-between-requires c κs = (c .before .before .before .before .before .before .before .first-end .ensures .1, c .before .before .before .before .before .before .second-end .ensures .1)
+point-between-requires c κs =
+    (c .before .before .before .before .before .before .before .first-end .ensures .1, c .before .before .before .before .before .before .second-end .ensures .1)
 
 add-requires : tie.Need-add-requires Inv-loop μ-loop
 add-requires c κs = tt

@@ -20,11 +20,13 @@ negative-requires-2 : tie.Need-negative-requires-2
 negative-requires-2 c κs = search needs
 
 returns : tie.Need-returns
-returns c = told (fraction (c .before .before .before .args .value1) (c .before .before .before .args .value2)) (c .before .before .negative .ensures) (c .before .negative2 .ensures) (c .if1 .taken)
+returns c =
+    told (fraction (c .before .before .before .args .value1) (c .before .before .before .args .value2)) (c .before .before .negative .ensures) (c .before .negative2 .ensures) (c .if1 .taken)
 
 returns-2 : tie.Need-returns-2
 unfolding fraction
-returns-2 c = told (fraction (c .before .before .before .args .value1) (c .before .before .before .args .value2)) (c .before .before .negative .ensures) (c .before .negative2 .ensures) (c .if1 .left)
+returns-2 c =
+    told (fraction (c .before .before .before .args .value1) (c .before .before .before .args .value2)) (c .before .before .negative .ensures) (c .before .negative2 .ensures) (c .if1 .left)
 
 pub estimate-surface-edge-intersection-spec : {M : Type 1} → statement M
 estimate-surface-edge-intersection-spec = tie.close (tie.spec negative-requires negative-requires-2 returns returns-2)

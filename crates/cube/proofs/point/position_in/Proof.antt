@@ -19,7 +19,8 @@ add-requires c κs = search needs
 
 returns : tie.Need-returns
 unfolding position
-returns c = c .add .ensures ∙ simp (c .before .nearest-u32-to-f323 .ensures, c .before .before .nearest-u32-to-f322 .ensures, c .before .before .before .nearest-u32-to-f32 .ensures)
+returns c =
+    c .add .ensures ∙ simp (c .before .nearest-u32-to-f323 .ensures, c .before .before .nearest-u32-to-f322 .ensures, c .before .before .before .nearest-u32-to-f32 .ensures)
 
 pub position-in-spec : {M : Type 1} → statement M
 position-in-spec =

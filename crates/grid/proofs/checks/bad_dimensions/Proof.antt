@@ -14,21 +14,27 @@ bad-dimension-requires c κs = search needs
 
 returns : tie.Need-returns
 unfolding badDimensions
-returns c = let d = c .before .before .args .d in first (badDimension (d .y)) (badDimension (d .z)) (ltb 1073741824 (d .x * d .y * d .z)) (sym (c .before .bad-dimension .ensures) ∙ c .if1 .taken)
+returns c =
+    let d = c .before .before .args .d in
+    first (badDimension (d .y)) (badDimension (d .z)) (ltb 1073741824 (d .x * d .y * d .z)) (sym (c .before .bad-dimension .ensures) ∙ c .if1 .taken)
 
 bad-dimension-requires-2 : tie.Need-bad-dimension-requires-2
 bad-dimension-requires-2 c κs = search needs
 
 returns-2 : tie.Need-returns-2
 unfolding badDimensions
-returns-2 c = let d = c .before .before .before .before .args .d in second (badDimension (d .z)) (ltb 1073741824 (d .x * d .y * d .z)) (sym (c .before .before .before .bad-dimension .ensures) ∙ c .before .before .if1 .left) (sym (c .before .bad-dimension2 .ensures) ∙ c .if2 .taken)
+returns-2 c =
+    let d = c .before .before .before .before .args .d in
+    second (badDimension (d .z)) (ltb 1073741824 (d .x * d .y * d .z)) (sym (c .before .before .before .bad-dimension .ensures) ∙ c .before .before .if1 .left) (sym (c .before .bad-dimension2 .ensures) ∙ c .if2 .taken)
 
 bad-dimension-requires-3 : tie.Need-bad-dimension-requires-3
 bad-dimension-requires-3 c κs = search needs
 
 returns-3 : tie.Need-returns-3
 unfolding badDimensions
-returns-3 c = let d = c .before .before .before .before .before .before .args .d in third (ltb 1073741824 (d .x * d .y * d .z)) (sym (c .before .before .before .before .before .bad-dimension .ensures) ∙ c .before .before .before .before .if1 .left) (sym (c .before .before .before .bad-dimension2 .ensures) ∙ c .before .before .if2 .left) (sym (c .before .bad-dimension3 .ensures) ∙ c .if3 .taken)
+returns-3 c =
+    let d = c .before .before .before .before .before .before .args .d in
+    third (ltb 1073741824 (d .x * d .y * d .z)) (sym (c .before .before .before .before .before .bad-dimension .ensures) ∙ c .before .before .before .before .if1 .left) (sym (c .before .before .before .bad-dimension2 .ensures) ∙ c .before .before .if2 .left) (sym (c .before .bad-dimension3 .ensures) ∙ c .if3 .taken)
 
 cast-plane : tie.Need-cast-plane
 cast-plane c = search needs
@@ -41,7 +47,9 @@ mul-plane c = record { fits = fits-two (search needs) (search needs) }
 
 returns-4 : tie.Need-returns-4
 unfolding badDimensions
-returns-4 c = let d = c .before .before .before .before .before .before .before .before .before .args .d in rw (← last (ltb 1073741824 (d .x * d .y * d .z)) (sym (c .before .before .before .before .before .before .before .before .bad-dimension .ensures) ∙ c .before .before .before .before .before .before .before .if1 .left) (sym (c .before .before .before .before .before .before .bad-dimension2 .ensures) ∙ c .before .before .before .before .before .if2 .left) (sym (c .before .before .before .before .bad-dimension3 .ensures) ∙ c .before .before .before .if3 .left)) (sym (lt-ltb _ _ (grows (d .z) (positive-dimension (d .z) (sym (c .before .before .before .before .bad-dimension3 .ensures) ∙ c .before .before .before .if3 .left)) (c .if4 .taken))))
+returns-4 c =
+    let d = c .before .before .before .before .before .before .before .before .before .args .d in
+    rw (← last (ltb 1073741824 (d .x * d .y * d .z)) (sym (c .before .before .before .before .before .before .before .before .bad-dimension .ensures) ∙ c .before .before .before .before .before .before .before .if1 .left) (sym (c .before .before .before .before .before .before .bad-dimension2 .ensures) ∙ c .before .before .before .before .before .if2 .left) (sym (c .before .before .before .before .bad-dimension3 .ensures) ∙ c .before .before .before .if3 .left)) (sym (lt-ltb _ _ (grows (d .z) (positive-dimension (d .z) (sym (c .before .before .before .before .bad-dimension3 .ensures) ∙ c .before .before .before .if3 .left)) (c .if4 .taken))))
 
 cast-result : tie.Need-cast-result
 cast-result c = search needs
@@ -51,7 +59,9 @@ mul-result c = record { fits = fits-three (c .before .if4 .left) (search needs) 
 
 returns-5 : tie.Need-returns-5
 unfolding badDimensions
-returns-5 c = let d = c .before .before .before .before .before .before .before .before .before .before .args .d in last (ltb 1073741824 (d .x * d .y * d .z)) (sym (c .before .before .before .before .before .before .before .before .before .bad-dimension .ensures) ∙ c .before .before .before .before .before .before .before .before .if1 .left) (sym (c .before .before .before .before .before .before .before .bad-dimension2 .ensures) ∙ c .before .before .before .before .before .before .if2 .left) (sym (c .before .before .before .before .before .bad-dimension3 .ensures) ∙ c .before .before .before .before .if3 .left)
+returns-5 c =
+    let d = c .before .before .before .before .before .before .before .before .before .before .args .d in
+    last (ltb 1073741824 (d .x * d .y * d .z)) (sym (c .before .before .before .before .before .before .before .before .before .bad-dimension .ensures) ∙ c .before .before .before .before .before .before .before .before .if1 .left) (sym (c .before .before .before .before .before .before .before .bad-dimension2 .ensures) ∙ c .before .before .before .before .before .before .if2 .left) (sym (c .before .before .before .before .before .bad-dimension3 .ensures) ∙ c .before .before .before .before .if3 .left)
 
 pub bad-dimensions-spec : {M : Type 1} → statement M
 bad-dimensions-spec =

@@ -11,7 +11,8 @@ is-surface-requires : tie.Need-is-surface-requires
 is-surface-requires c κs = search needs
 
 returns : tie.Need-returns
-returns c = uncounted (c .before .before .args .d .now) (c .before .before .args .own) (sym (c .before .is-surface .ensures) ∙ not-true (c .before .is-surface .result) (c .if1 .taken))
+returns c =
+    uncounted (c .before .before .args .d .now) (c .before .before .args .own) (sym (c .before .is-surface .ensures) ∙ not-true (c .before .is-surface .result) (c .if1 .taken))
 
 element-copy-out-negative : tie.Need-element-copy-out-negative
 element-copy-out-negative c = search needs
@@ -56,7 +57,8 @@ mul-t20 : tie.Need-mul-t20
 mul-t20 c = omega arith
 
 returns-2 : tie.Need-returns-2
-returns-2 c = counted (c .before .before .before .before .before .before .before .before .before .before .before .before .before .args .d .now) (c .before .before .before .before .before .before .before .before .before .before .before .before .before .args .own) _ _ _ _ _ _ _ (sym (c .before .before .before .before .before .before .before .before .before .before .before .before .is-surface .ensures) ∙ not-false (c .before .before .before .before .before .before .before .before .before .before .before .before .is-surface .result) (c .before .before .before .before .before .before .before .before .before .before .before .if1 .left)) (c .before .before .before .before .before .before .before .before .before .negative .ensures) (c .before .before .before .before .before .before .before .negative2 .ensures) (c .before .before .before .before .negative3 .ensures) (c .before .negative4 .ensures) (c .before .before .before .before .before .before .face-count .ensures .0) (c .before .before .before .face-count2 .ensures .0) (c .face-count3 .ensures .0)
+returns-2 c =
+    counted (c .before .before .before .before .before .before .before .before .before .before .before .before .before .args .d .now) (c .before .before .before .before .before .before .before .before .before .before .before .before .before .args .own) _ _ _ _ _ _ _ (sym (c .before .before .before .before .before .before .before .before .before .before .before .before .is-surface .ensures) ∙ not-false (c .before .before .before .before .before .before .before .before .before .before .before .before .is-surface .result) (c .before .before .before .before .before .before .before .before .before .before .before .if1 .left)) (c .before .before .before .before .before .before .before .before .before .negative .ensures) (c .before .before .before .before .before .before .before .negative2 .ensures) (c .before .before .before .before .negative3 .ensures) (c .before .negative4 .ensures) (c .before .before .before .before .before .before .face-count .ensures .0) (c .before .before .before .face-count2 .ensures .0) (c .face-count3 .ensures .0)
 
 pub count-cell-spec : {M : Type 1} → statement M
 count-cell-spec =

@@ -26,28 +26,114 @@ abbrev μ-loop : tie.MeasureT-loop
 μ-loop sdf k z from end vertices₀ indices₀ y₀ vertices indices y = end - y
 
 loop-holds : tie.Need-loop-holds Inv-loop μ-loop
-loop-holds c = let s = c .before in let l = s .args .sdf .now in let k = s .args .k in let i = (s .pre .0) in let f = fits l k i in let rows = s .pre in (omega arith, omega arith, sym (none-counted (fieldOf l k) (boxOf k) (flagsOf k)) ∙ ap (tallyOf (fieldOf l k) (boxOf k) (flagsOf k)) (sym (layer-begins (boxOf k) (s .args .z))))
+loop-holds c =
+    let s = c .before in
+    let l = s .args .sdf .now in
+    let k = s .args .k in
+    let i = (s .pre .0) in
+    let f = fits l k i in
+    let rows = s .pre in
+    (omega arith, omega arith, sym (none-counted (fieldOf l k) (boxOf k) (flagsOf k)) ∙ ap (tallyOf (fieldOf l k) (boxOf k) (flagsOf k)) (sym (layer-begins (boxOf k) (s .args .z))))
 
 count-row-requires : tie.Need-count-row-requires Inv-loop μ-loop
-count-row-requires c κs = let s = c .before .before .before in let l = s .args .sdf .now in let k = s .args .k in let i = (s .pre .0) in let f = fits l k i in let rows = s .pre in let w = c .before .loop in let taken = c .loop-test .taken in let held = w .inv in (i, (omega arith, omega arith))
+count-row-requires c κs =
+    let s = c .before .before .before in
+    let l = s .args .sdf .now in
+    let k = s .args .k in
+    let i = (s .pre .0) in
+    let f = fits l k i in
+    let rows = s .pre in
+    let w = c .before .loop in
+    let taken = c .loop-test .taken in
+    let held = w .inv in
+    (i, (omega arith, omega arith))
 
 add-vertices : tie.Need-add-vertices Inv-loop μ-loop
-add-vertices c = let s = c .before .before .before .before .before in let l = s .args .sdf .now in let k = s .args .k in let i = (s .pre .0) in let f = fits l k i in let rows = s .pre in let w = c .before .before .before .loop in let taken = c .before .before .loop-test .taken in let held = w .inv in let q = small (point (k .dims)) (i .dims) in let long : length (layerTo (boxOf k) (s .args .z) (w .y + 1)) ≤ 2 ^ 40 = le-trans (layer-short l k i (s .args .z) (w .y + 1) (omega arith)) (lit≤ tt) in let more = step (fieldOf l k) (boxOf k) (flagsOf k) (layerTo (boxOf k) (s .args .z) (w .y)) (rowCells (boxOf k) (s .args .z) (w .y)) (layerTo (boxOf k) (s .args .z) (w .y + 1)) (w .vertices) (w .indices) (c .before .count-row .result .vertices) (c .before .count-row .result .indices) (layer-grows (boxOf k) (s .args .z) (w .y) (w .inv .0)) long (w .inv .2) (c .before .count-row .ensures) in omega (arith, more .vertices-fit)
+add-vertices c =
+    let s = c .before .before .before .before .before in
+    let l = s .args .sdf .now in
+    let k = s .args .k in
+    let i = (s .pre .0) in
+    let f = fits l k i in
+    let rows = s .pre in
+    let w = c .before .before .before .loop in
+    let taken = c .before .before .loop-test .taken in
+    let held = w .inv in
+    let q = small (point (k .dims)) (i .dims) in
+    let long : length (layerTo (boxOf k) (s .args .z) (w .y + 1)) ≤ 2 ^ 40 = le-trans (layer-short l k i (s .args .z) (w .y + 1) (omega arith)) (lit≤ tt) in
+    let more = step (fieldOf l k) (boxOf k) (flagsOf k) (layerTo (boxOf k) (s .args .z) (w .y)) (rowCells (boxOf k) (s .args .z) (w .y)) (layerTo (boxOf k) (s .args .z) (w .y + 1)) (w .vertices) (w .indices) (c .before .count-row .result .vertices) (c .before .count-row .result .indices) (layer-grows (boxOf k) (s .args .z) (w .y) (w .inv .0)) long (w .inv .2) (c .before .count-row .ensures) in
+    omega (arith, more .vertices-fit)
 
 add-indices : tie.Need-add-indices Inv-loop μ-loop
-add-indices c = let s = c .before .before .before .before .before .before in let l = s .args .sdf .now in let k = s .args .k in let i = (s .pre .0) in let f = fits l k i in let rows = s .pre in let w = c .before .before .before .before .loop in let taken = c .before .before .before .loop-test .taken in let held = w .inv in let q = small (point (k .dims)) (i .dims) in let long : length (layerTo (boxOf k) (s .args .z) (w .y + 1)) ≤ 2 ^ 40 = le-trans (layer-short l k i (s .args .z) (w .y + 1) (omega arith)) (lit≤ tt) in let more = step (fieldOf l k) (boxOf k) (flagsOf k) (layerTo (boxOf k) (s .args .z) (w .y)) (rowCells (boxOf k) (s .args .z) (w .y)) (layerTo (boxOf k) (s .args .z) (w .y + 1)) (w .vertices) (w .indices) (c .before .before .count-row .result .vertices) (c .before .before .count-row .result .indices) (layer-grows (boxOf k) (s .args .z) (w .y) (w .inv .0)) long (w .inv .2) (c .before .before .count-row .ensures) in omega (arith, more .indices-fit)
+add-indices c =
+    let s = c .before .before .before .before .before .before in
+    let l = s .args .sdf .now in
+    let k = s .args .k in
+    let i = (s .pre .0) in
+    let f = fits l k i in
+    let rows = s .pre in
+    let w = c .before .before .before .before .loop in
+    let taken = c .before .before .before .loop-test .taken in
+    let held = w .inv in
+    let q = small (point (k .dims)) (i .dims) in
+    let long : length (layerTo (boxOf k) (s .args .z) (w .y + 1)) ≤ 2 ^ 40 = le-trans (layer-short l k i (s .args .z) (w .y + 1) (omega arith)) (lit≤ tt) in
+    let more = step (fieldOf l k) (boxOf k) (flagsOf k) (layerTo (boxOf k) (s .args .z) (w .y)) (rowCells (boxOf k) (s .args .z) (w .y)) (layerTo (boxOf k) (s .args .z) (w .y + 1)) (w .vertices) (w .indices) (c .before .before .count-row .result .vertices) (c .before .before .count-row .result .indices) (layer-grows (boxOf k) (s .args .z) (w .y) (w .inv .0)) long (w .inv .2) (c .before .before .count-row .ensures) in
+    omega (arith, more .indices-fit)
 
 add-y : tie.Need-add-y Inv-loop μ-loop
-add-y c = let s = c .before .before .before .before .before .before in let l = s .args .sdf .now in let k = s .args .k in let i = (s .pre .0) in let f = fits l k i in let rows = s .pre in let w = c .before .before .before .before .loop in let taken = c .before .before .before .loop-test .taken in let held = w .inv in let q = small (point (k .dims)) (i .dims) in omega arith
+add-y c =
+    let s = c .before .before .before .before .before .before in
+    let l = s .args .sdf .now in
+    let k = s .args .k in
+    let i = (s .pre .0) in
+    let f = fits l k i in
+    let rows = s .pre in
+    let w = c .before .before .before .before .loop in
+    let taken = c .before .before .before .loop-test .taken in
+    let held = w .inv in
+    let q = small (point (k .dims)) (i .dims) in
+    omega arith
 
 loop-less : tie.Need-loop-less Inv-loop μ-loop
-loop-less c = let s = c .before .before .before .before .before .before in let l = s .args .sdf .now in let k = s .args .k in let i = (s .pre .0) in let f = fits l k i in let rows = s .pre in let w = c .before .before .before .before .loop in let taken = c .before .before .before .loop-test .taken in let held = w .inv in omega arith
+loop-less c =
+    let s = c .before .before .before .before .before .before in
+    let l = s .args .sdf .now in
+    let k = s .args .k in
+    let i = (s .pre .0) in
+    let f = fits l k i in
+    let rows = s .pre in
+    let w = c .before .before .before .before .loop in
+    let taken = c .before .before .before .loop-test .taken in
+    let held = w .inv in
+    omega arith
 
 loop-again : tie.Need-loop-again Inv-loop μ-loop
-loop-again c = let s = c .before .before .before .before .before .before in let l = s .args .sdf .now in let k = s .args .k in let i = (s .pre .0) in let f = fits l k i in let rows = s .pre in let w = c .before .before .before .before .loop in let taken = c .before .before .before .loop-test .taken in let held = w .inv in let q = small (point (k .dims)) (i .dims) in let long : length (layerTo (boxOf k) (s .args .z) (w .y + 1)) ≤ 2 ^ 40 = le-trans (layer-short l k i (s .args .z) (w .y + 1) (omega arith)) (lit≤ tt) in let more = step (fieldOf l k) (boxOf k) (flagsOf k) (layerTo (boxOf k) (s .args .z) (w .y)) (rowCells (boxOf k) (s .args .z) (w .y)) (layerTo (boxOf k) (s .args .z) (w .y + 1)) (w .vertices) (w .indices) (c .before .before .count-row .result .vertices) (c .before .before .count-row .result .indices) (layer-grows (boxOf k) (s .args .z) (w .y) (w .inv .0)) long (w .inv .2) (c .before .before .count-row .ensures) in (omega arith, omega arith, more .same)
+loop-again c =
+    let s = c .before .before .before .before .before .before in
+    let l = s .args .sdf .now in
+    let k = s .args .k in
+    let i = (s .pre .0) in
+    let f = fits l k i in
+    let rows = s .pre in
+    let w = c .before .before .before .before .loop in
+    let taken = c .before .before .before .loop-test .taken in
+    let held = w .inv in
+    let q = small (point (k .dims)) (i .dims) in
+    let long : length (layerTo (boxOf k) (s .args .z) (w .y + 1)) ≤ 2 ^ 40 = le-trans (layer-short l k i (s .args .z) (w .y + 1) (omega arith)) (lit≤ tt) in
+    let more = step (fieldOf l k) (boxOf k) (flagsOf k) (layerTo (boxOf k) (s .args .z) (w .y)) (rowCells (boxOf k) (s .args .z) (w .y)) (layerTo (boxOf k) (s .args .z) (w .y + 1)) (w .vertices) (w .indices) (c .before .before .count-row .result .vertices) (c .before .before .count-row .result .indices) (layer-grows (boxOf k) (s .args .z) (w .y) (w .inv .0)) long (w .inv .2) (c .before .before .count-row .ensures) in
+    (omega arith, omega arith, more .same)
 
 returns : tie.Need-returns Inv-loop μ-loop
-returns c = let s = c .before .before .before in let l = s .args .sdf .now in let k = s .args .k in let i = (s .pre .0) in let f = fits l k i in let rows = s .pre in let w = c .before .loop in let e : w .y ≡ k .high .y = omega arith in w .inv .2 ∙ ap (λ (n : ℕ). tallyOf (fieldOf l k) (boxOf k) (flagsOf k) (layerTo (boxOf k) (s .args .z) n)) e ∙ ap (tallyOf (fieldOf l k) (boxOf k) (flagsOf k)) (layer-ends (boxOf k) (s .args .z))
+returns c =
+    let s = c .before .before .before in
+    let l = s .args .sdf .now in
+    let k = s .args .k in
+    let i = (s .pre .0) in
+    let f = fits l k i in
+    let rows = s .pre in
+    let w = c .before .loop in
+    let e : w .y ≡ k .high .y = omega arith in
+    w .inv .2 ∙ ap (λ (n : ℕ). tallyOf (fieldOf l k) (boxOf k) (flagsOf k) (layerTo (boxOf k) (s .args .z) n)) e ∙ ap (tallyOf (fieldOf l k) (boxOf k) (flagsOf k)) (layer-ends (boxOf k) (s .args .z))
 
 pub count-layer-spec : {M : Type 1} → statement M
 count-layer-spec =

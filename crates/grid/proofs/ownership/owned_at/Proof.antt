@@ -10,13 +10,19 @@ use Rattle.grid.proofs.ownership.owned_at.Statement.{statement}
 use Rattle.grid.proofs.ownership.owned_at.Tie as tie
 
 sub-inner-x : tie.Need-sub-inner-x
-sub-inner-x c = let a = c .before .before .before .before .before .before .before .args in omega (arith, cell-within (boxOf (a .k)) (point (a .p)) (c .before .before .before .before .before .before .before .pre))
+sub-inner-x c =
+    let a = c .before .before .before .before .before .before .before .args in
+    omega (arith, cell-within (boxOf (a .k)) (point (a .p)) (c .before .before .before .before .before .before .before .pre))
 
 sub-inner-y : tie.Need-sub-inner-y
-sub-inner-y c = let a = c .before .before .before .before .before .before .before .before .before .args in omega (arith, cell-within (boxOf (a .k)) (point (a .p)) (c .before .before .before .before .before .before .before .before .before .pre))
+sub-inner-y c =
+    let a = c .before .before .before .before .before .before .before .before .before .args in
+    omega (arith, cell-within (boxOf (a .k)) (point (a .p)) (c .before .before .before .before .before .before .before .before .before .pre))
 
 sub-inner-z : tie.Need-sub-inner-z
-sub-inner-z c = let a = c .before .before .before .before .before .before .before .before .before .before .before .args in omega (arith, cell-within (boxOf (a .k)) (point (a .p)) (c .before .before .before .before .before .before .before .before .before .before .before .pre))
+sub-inner-z c =
+    let a = c .before .before .before .before .before .before .before .before .before .before .before .args in
+    omega (arith, cell-within (boxOf (a .k)) (point (a .p)) (c .before .before .before .before .before .before .before .before .before .before .before .pre))
 
 owns-requires : tie.Need-owns-requires
 owns-requires c κs = search needs
@@ -28,7 +34,9 @@ owns-requires-3 : tie.Need-owns-requires-3
 owns-requires-3 c κs = search needs
 
 returns : tie.Need-returns
-returns c = let a = c .before .before .before .before .before .before .before .before .before .before .before .before .before .before .before .args in ((c .before .before .owns .ensures ∙ sym (owned-cell (boxOf (a .k)) (flagsOf (a .k)) axisX (point (a .p)) (c .before .before .before .before .before .before .before .before .before .before .before .before .before .before .before .pre))), ((c .before .owns2 .ensures ∙ sym (owned-cell (boxOf (a .k)) (flagsOf (a .k)) axisY (point (a .p)) (c .before .before .before .before .before .before .before .before .before .before .before .before .before .before .before .pre))), (c .owns3 .ensures ∙ sym (owned-cell (boxOf (a .k)) (flagsOf (a .k)) axisZ (point (a .p)) (c .before .before .before .before .before .before .before .before .before .before .before .before .before .before .before .pre)))))
+returns c =
+    let a = c .before .before .before .before .before .before .before .before .before .before .before .before .before .before .before .args in
+    ((c .before .before .owns .ensures ∙ sym (owned-cell (boxOf (a .k)) (flagsOf (a .k)) axisX (point (a .p)) (c .before .before .before .before .before .before .before .before .before .before .before .before .before .before .before .pre))), ((c .before .owns2 .ensures ∙ sym (owned-cell (boxOf (a .k)) (flagsOf (a .k)) axisY (point (a .p)) (c .before .before .before .before .before .before .before .before .before .before .before .before .before .before .before .pre))), (c .owns3 .ensures ∙ sym (owned-cell (boxOf (a .k)) (flagsOf (a .k)) axisZ (point (a .p)) (c .before .before .before .before .before .before .before .before .before .before .before .before .before .before .before .pre)))))
 
 pub owned-at-spec : {M : Type 1} → statement M
 owned-at-spec =

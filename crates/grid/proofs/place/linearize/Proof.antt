@@ -13,7 +13,9 @@ cast-plane : tie.Need-cast-plane
 cast-plane c = search needs
 
 mul-plane : tie.Need-mul-plane
-mul-plane c = let a = c .before .before .args in omega (arith, plane-few (point (a .dims)) (point (a .p)) (c .before .before .pre))
+mul-plane c =
+    let a = c .before .before .args in
+    omega (arith, plane-few (point (a .dims)) (point (a .p)) (c .before .before .pre))
 
 cast-result : tie.Need-cast-result
 cast-result c = search needs
@@ -22,19 +24,27 @@ cast-result-2 : tie.Need-cast-result-2
 cast-result-2 c = search needs
 
 mul-result : tie.Need-mul-result
-mul-result c = let a = c .before .before .before .before .args in omega (arith, index-few (point (a .dims)) (point (a .p)) (c .before .before .before .before .pre))
+mul-result c =
+    let a = c .before .before .before .before .args in
+    omega (arith, index-few (point (a .dims)) (point (a .p)) (c .before .before .before .before .pre))
 
 add-result : tie.Need-add-result
-add-result c = let a = c .before .before .before .before .args in omega (arith, index-few (point (a .dims)) (point (a .p)) (c .before .before .before .before .pre))
+add-result c =
+    let a = c .before .before .before .before .args in
+    omega (arith, index-few (point (a .dims)) (point (a .p)) (c .before .before .before .before .pre))
 
 cast-result-3 : tie.Need-cast-result-3
 cast-result-3 c = search needs
 
 mul-result-2 : tie.Need-mul-result-2
-mul-result-2 c = let a = c .before .before .before .before .before .args in omega (arith, index-few (point (a .dims)) (point (a .p)) (c .before .before .before .before .before .pre))
+mul-result-2 c =
+    let a = c .before .before .before .before .before .args in
+    omega (arith, index-few (point (a .dims)) (point (a .p)) (c .before .before .before .before .before .pre))
 
 add-result-2 : tie.Need-add-result-2
-add-result-2 c = let a = c .before .before .before .before .before .args in omega (arith, index-few (point (a .dims)) (point (a .p)) (c .before .before .before .before .before .pre))
+add-result-2 c =
+    let a = c .before .before .before .before .before .args in
+    omega (arith, index-few (point (a .dims)) (point (a .p)) (c .before .before .before .before .before .pre))
 
 returns : tie.Need-returns
 returns c = search needs

@@ -21,25 +21,47 @@ add-end : tie.Need-add-end Inv-loop μ-loop
 add-end c = let s = c .before .before in let f = fits (s .args .sdf .now) (s .args .k) (s .pre) in omega arith
 
 loop-holds : tie.Need-loop-holds Inv-loop μ-loop
-loop-holds c = let s = c .before .before in let f = fits (s .args .sdf .now) (s .args .k) (s .pre) in (omega arith, omega arith, none-yet (badLayer (fieldOf (s .args .sdf .now) (s .args .k)) (boxOf (s .args .k))) (s .args .k .low .z))
+loop-holds c =
+    let s = c .before .before in
+    let f = fits (s .args .sdf .now) (s .args .k) (s .pre) in
+    (omega arith, omega arith, none-yet (badLayer (fieldOf (s .args .sdf .now) (s .args .k)) (boxOf (s .args .k))) (s .args .k .low .z))
 
 bad-layer-requires : tie.Need-bad-layer-requires Inv-loop μ-loop
-bad-layer-requires c κs = let s = c .before .before .before .before in let f = fits (s .args .sdf .now) (s .args .k) (s .pre) in let w = c .before .loop in (s .pre, omega arith)
+bad-layer-requires c κs =
+    let s = c .before .before .before .before in
+    let f = fits (s .args .sdf .now) (s .args .k) (s .pre) in
+    let w = c .before .loop in
+    (s .pre, omega arith)
 
 either-requires : tie.Need-either-requires Inv-loop μ-loop
 either-requires c κs = search needs
 
 add-z : tie.Need-add-z Inv-loop μ-loop
-add-z c = let s = c .before .before .before .before .before .before in let f = fits (s .args .sdf .now) (s .args .k) (s .pre) in omega arith
+add-z c =
+    let s = c .before .before .before .before .before .before in
+    let f = fits (s .args .sdf .now) (s .args .k) (s .pre) in
+    omega arith
 
 loop-less : tie.Need-loop-less Inv-loop μ-loop
-loop-less c = let s = c .before .before .before .before .before .before in let f = fits (s .args .sdf .now) (s .args .k) (s .pre) in omega arith
+loop-less c =
+    let s = c .before .before .before .before .before .before in
+    let f = fits (s .args .sdf .now) (s .args .k) (s .pre) in
+    omega arith
 
 loop-again : tie.Need-loop-again Inv-loop μ-loop
-loop-again c = let s = c .before .before .before .before .before .before in let f = fits (s .args .sdf .now) (s .args .k) (s .pre) in let w = c .before .before .before .loop in (omega arith, omega arith, one-more (badLayer (fieldOf (s .args .sdf .now) (s .args .k)) (boxOf (s .args .k))) (w .inv .0) (w .inv .2) (c .before .bad-layer .ensures) (c .either .ensures))
+loop-again c =
+    let s = c .before .before .before .before .before .before in
+    let f = fits (s .args .sdf .now) (s .args .k) (s .pre) in
+    let w = c .before .before .before .loop in
+    (omega arith, omega arith, one-more (badLayer (fieldOf (s .args .sdf .now) (s .args .k)) (boxOf (s .args .k))) (w .inv .0) (w .inv .2) (c .before .bad-layer .ensures) (c .either .ensures))
 
 returns : tie.Need-returns Inv-loop μ-loop
-returns c = let s = c .before .before .before .before in let f = fits (s .args .sdf .now) (s .args .k) (s .pre) in let w = c .before .loop in let e : w .z ≡ s .args .k .high .z + 1 = omega arith in w .inv .2 ∙ ap (λ (n : ℕ). some (badLayer (fieldOf (s .args .sdf .now) (s .args .k)) (boxOf (s .args .k))) (upTo (s .args .k .low .z) n)) e ∙ box-is (s .args .sdf .now) (s .args .k)
+returns c =
+    let s = c .before .before .before .before in
+    let f = fits (s .args .sdf .now) (s .args .k) (s .pre) in
+    let w = c .before .loop in
+    let e : w .z ≡ s .args .k .high .z + 1 = omega arith in
+    w .inv .2 ∙ ap (λ (n : ℕ). some (badLayer (fieldOf (s .args .sdf .now) (s .args .k)) (boxOf (s .args .k))) (upTo (s .args .k .low .z) n)) e ∙ box-is (s .args .sdf .now) (s .args .k)
 
 pub bad-distance-spec : {M : Type 1} → statement M
 bad-distance-spec =

@@ -39,10 +39,17 @@ loop-less : tie.Need-loop-less Inv-loop μ-loop
 loop-less c = omega arith
 
 loop-again : tie.Need-loop-again Inv-loop μ-loop
-loop-again c = let a = c .before .before .before .before .before .before .args in let w = c .before .before .before .before .loop in (omega arith, run-more (a .sdf .now) (a .at) (w .j) (w .inv .1) (c .before .is-beyond .ensures) (c .either .ensures))
+loop-again c =
+    let a = c .before .before .before .before .before .before .args in
+    let w = c .before .before .before .before .loop in
+    (omega arith, run-more (a .sdf .now) (a .at) (w .j) (w .inv .1) (c .before .is-beyond .ensures) (c .either .ensures))
 
 returns : tie.Need-returns Inv-loop μ-loop
-returns c = let a = c .before .before .before .args in let w = c .before .loop in let e : w .j ≡ a .n = omega arith in w .inv .1 ∙ ap (badRun (a .sdf .now) (a .at)) e
+returns c =
+    let a = c .before .before .before .args in
+    let w = c .before .loop in
+    let e : w .j ≡ a .n = omega arith in
+    w .inv .1 ∙ ap (badRun (a .sdf .now) (a .at)) e
 
 pub bad-row-spec : {M : Type 1} → statement M
 bad-row-spec =

@@ -20,7 +20,9 @@ same-length : tie.Need-same-length
 same-length c = search needs
 
 returns : tie.Need-returns
-returns c = let a = c .before .before .before .before .before .before .before .before .before .args in c .before .before .put-three2 .ensures ∙ ap (λ (l : List ℕ). set3 l (a .at + 3) (a .d) (a .e) (a .f)) (c .before .before .before .before .before .before .put-three .ensures)
+returns c =
+    let a = c .before .before .before .before .before .before .before .before .before .args in
+    c .before .before .put-three2 .ensures ∙ ap (λ (l : List ℕ). set3 l (a .at + 3) (a .d) (a .e) (a .f)) (c .before .before .before .before .before .before .put-three .ensures)
 
 pub put-six-spec : {M : Type 1} → statement M
 put-six-spec =

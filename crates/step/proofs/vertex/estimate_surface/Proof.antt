@@ -32,28 +32,60 @@ put-vector-requires-2 : tie.Need-put-vector-requires-2
 put-vector-requires-2 c κs = search needs
 
 mul-put-three : tie.Need-mul-put-three
-mul-put-three c = let s = c .before .before .before .before .before .before .before .before .before .before .before .before .before .before .before .before .before in let h = s .pre in let q = s .good in omega arith
+mul-put-three c =
+    let s = c .before .before .before .before .before .before .before .before .before .before .before .before .before .before .before .before .before in
+    let h = s .pre in
+    let q = s .good in
+    omega arith
 
 put-three-requires : tie.Need-put-three-requires
-put-three-requires c κs = let s = c .before .before .before .before .before .before .before .before .before .before .before .before .before .before .before .before .before in let h = s .pre in let q = s .good in omega arith
+put-three-requires c κs =
+    let s = c .before .before .before .before .before .before .before .before .before .before .before .before .before .before .before .before .before in
+    let h = s .pre in
+    let q = s .good in
+    omega arith
 
 cast-strides : tie.Need-cast-strides
-cast-strides c = let s = c .before .before .before .before .before .before .before .before .before .before .before .before .before .before .before .before .before .before .before .before in let h = s .pre in let q = s .good in omega arith
+cast-strides c =
+    let s = c .before .before .before .before .before .before .before .before .before .before .before .before .before .before .before .before .before .before .before .before in
+    let h = s .pre in
+    let q = s .good in
+    omega arith
 
 mul-strides : tie.Need-mul-strides
-mul-strides c = let s = c .before .before .before .before .before .before .before .before .before .before .before .before .before .before .before .before .before .before .before .before in let h = s .pre in let q = s .good in omega arith
+mul-strides c =
+    let s = c .before .before .before .before .before .before .before .before .before .before .before .before .before .before .before .before .before .before .before .before in
+    let h = s .pre in
+    let q = s .good in
+    omega arith
 
 slice-write-strides : tie.Need-slice-write-strides
-slice-write-strides c = let s = c .before .before .before .before .before .before .before .before .before .before .before .before .before .before .before .before .before .before .before .before in let h = s .pre in let q = s .good in omega arith
+slice-write-strides c =
+    let s = c .before .before .before .before .before .before .before .before .before .before .before .before .before .before .before .before .before .before .before .before in
+    let h = s .pre in
+    let q = s .good in
+    omega arith
 
 cast-map : tie.Need-cast-map
-cast-map c = let s = c .before .before .before .before .before .before .before .before .before .before .before .before .before .before .before .before .before .before .before .before in let h = s .pre in let q = s .good in omega arith
+cast-map c =
+    let s = c .before .before .before .before .before .before .before .before .before .before .before .before .before .before .before .before .before .before .before .before in
+    let h = s .pre in
+    let q = s .good in
+    omega arith
 
 mul-map : tie.Need-mul-map
-mul-map c = let s = c .before .before .before .before .before .before .before .before .before .before .before .before .before .before .before .before .before .before .before .before in let h = s .pre in let q = s .good in omega arith
+mul-map c =
+    let s = c .before .before .before .before .before .before .before .before .before .before .before .before .before .before .before .before .before .before .before .before in
+    let h = s .pre in
+    let q = s .good in
+    omega arith
 
 slice-write-map : tie.Need-slice-write-map
-slice-write-map c = let s = c .before .before .before .before .before .before .before .before .before .before .before .before .before .before .before .before .before .before .before .before in let h = s .pre in let q = s .good in omega arith
+slice-write-map c =
+    let s = c .before .before .before .before .before .before .before .before .before .before .before .before .before .before .before .before .before .before .before .before in
+    let h = s .pre in
+    let q = s .good in
+    omega arith
 
 same-length : tie.Need-same-length
 same-length c = search needs
@@ -71,7 +103,10 @@ same-length-5 : tie.Need-same-length-5
 same-length-5 c = search needs
 
 returns : tie.Need-returns
-returns c = let a = c .before .before .before .before .before .before .before .before .before .before .before .before .before .before .before .before .before .before .before .before .args in let s = c .before .before .before .before .before .before .before .before .before .before .before .before .before .before .centroid-of-edge-intersections .ensures in (c .before .before .before .before .before .before .before .before .before .before .before .put-vector .ensures ∙ ap (putVector (a .positions .now) (3 * a .v)) (c .before .before .before .before .before .before .before .before .before .before .before .before .position-in .ensures ∙ ap (position (gridPoint (a .c .x) (a .c .y) (a .c .z))) s), (c .before .before .before .before .before .before .put-vector2 .ensures ∙ ap (putVector (a .normals .now) (3 * a .v)) (c .before .before .before .before .before .before .before .sdf-gradient .ensures ∙ ap (normal (a .d .now)) s), (c .before .before .put-three .ensures, (refl, refl))))
+returns c =
+    let a = c .before .before .before .before .before .before .before .before .before .before .before .before .before .before .before .before .before .before .before .before .args in
+    let s = c .before .before .before .before .before .before .before .before .before .before .before .before .before .before .centroid-of-edge-intersections .ensures in
+    (c .before .before .before .before .before .before .before .before .before .before .before .put-vector .ensures ∙ ap (putVector (a .positions .now) (3 * a .v)) (c .before .before .before .before .before .before .before .before .before .before .before .before .position-in .ensures ∙ ap (position (gridPoint (a .c .x) (a .c .y) (a .c .z))) s), (c .before .before .before .before .before .before .put-vector2 .ensures ∙ ap (putVector (a .normals .now) (3 * a .v)) (c .before .before .before .before .before .before .before .sdf-gradient .ensures ∙ ap (normal (a .d .now)) s), (c .before .before .put-three .ensures, (refl, refl))))
 
 pub estimate-surface-spec : {M : Type 1} → statement M
 estimate-surface-spec =

@@ -18,7 +18,14 @@ refused-requires : tie.Need-refused-requires
 refused-requires c κs = search needs
 
 returns : tie.Need-returns
-returns c = let s = c .before .before .before .before in let a = s .args in let l = a .sdf .now in let k = a .k in let q = callOf l k in let r = roomOf (a .room) in c .refused .ensures ∙ says-1 q r (sym (c .before .before .bad-dimensions .ensures) ∙ c .before .if1 .taken)
+returns c =
+    let s = c .before .before .before .before in
+    let a = s .args in
+    let l = a .sdf .now in
+    let k = a .k in
+    let q = callOf l k in
+    let r = roomOf (a .room) in
+    c .refused .ensures ∙ says-1 q r (sym (c .before .before .bad-dimensions .ensures) ∙ c .before .if1 .taken)
 
 bad-box-requires : tie.Need-bad-box-requires
 bad-box-requires c κs = search needs
@@ -27,40 +34,104 @@ refused-requires-2 : tie.Need-refused-requires-2
 refused-requires-2 c κs = search needs
 
 returns-2 : tie.Need-returns-2
-returns-2 c = let s = c .before .before .before .before .before .before in let a = s .args in let l = a .sdf .now in let k = a .k in let q = callOf l k in let r = roomOf (a .room) in c .refused2 .ensures ∙ says-2 q r (sym (c .before .before .before .before .bad-dimensions .ensures) ∙ c .before .before .before .if1 .left) (sym (c .before .before .bad-box .ensures) ∙ c .before .if2 .taken)
+returns-2 c =
+    let s = c .before .before .before .before .before .before in
+    let a = s .args in
+    let l = a .sdf .now in
+    let k = a .k in
+    let q = callOf l k in
+    let r = roomOf (a .room) in
+    c .refused2 .ensures ∙ says-2 q r (sym (c .before .before .before .before .bad-dimensions .ensures) ∙ c .before .before .before .if1 .left) (sym (c .before .before .bad-box .ensures) ∙ c .before .if2 .taken)
 
 linearize-requires : tie.Need-linearize-requires
-linearize-requires c κs = let s = c .before .before .before .before .before in let a = s .args in let l = a .sdf .now in let k = a .k in let q = callOf l k in let r = roomOf (a .room) in corner-inside (point (k .dims)) (boxOf k) (not-bad (badDimensions (point (k .dims))) (sym (c .before .before .before .bad-dimensions .ensures) ∙ c .before .before .if1 .left)) (not-bad (badBox (point (k .dims)) (boxOf k)) (sym (c .before .bad-box .ensures) ∙ c .if2 .left))
+linearize-requires c κs =
+    let s = c .before .before .before .before .before in
+    let a = s .args in
+    let l = a .sdf .now in
+    let k = a .k in
+    let q = callOf l k in
+    let r = roomOf (a .room) in
+    corner-inside (point (k .dims)) (boxOf k) (not-bad (badDimensions (point (k .dims))) (sym (c .before .before .before .bad-dimensions .ensures) ∙ c .before .before .if1 .left)) (not-bad (badBox (point (k .dims)) (boxOf k)) (sym (c .before .bad-box .ensures) ∙ c .if2 .left))
 
 refused-requires-3 : tie.Need-refused-requires-3
 refused-requires-3 c κs = search needs
 
 returns-3 : tie.Need-returns-3
-returns-3 c = let s = c .before .before .before .before .before .before .before .before in let a = s .args in let l = a .sdf .now in let k = a .k in let q = callOf l k in let r = roomOf (a .room) in c .refused3 .ensures ∙ says-3 q r (sym (c .before .before .before .before .before .before .bad-dimensions .ensures) ∙ c .before .before .before .before .before .if1 .left) (sym (c .before .before .before .before .bad-box .ensures) ∙ c .before .before .before .if2 .left) (too-short (point (k .dims)) (boxOf k) (length l) (c .before .before .linearize .ensures) (c .before .if3 .taken))
+returns-3 c =
+    let s = c .before .before .before .before .before .before .before .before in
+    let a = s .args in
+    let l = a .sdf .now in
+    let k = a .k in
+    let q = callOf l k in
+    let r = roomOf (a .room) in
+    c .refused3 .ensures ∙ says-3 q r (sym (c .before .before .before .before .before .before .bad-dimensions .ensures) ∙ c .before .before .before .before .before .if1 .left) (sym (c .before .before .before .before .bad-box .ensures) ∙ c .before .before .before .if2 .left) (too-short (point (k .dims)) (boxOf k) (length l) (c .before .before .linearize .ensures) (c .before .if3 .taken))
 
 refused-requires-4 : tie.Need-refused-requires-4
 refused-requires-4 c κs = search needs
 
 returns-4 : tie.Need-returns-4
-returns-4 c = let s = c .before .before .before .before .before .before .before .before .before .before in let a = s .args in let l = a .sdf .now in let k = a .k in let q = callOf l k in let r = roomOf (a .room) in c .refused4 .ensures ∙ says-4 q r (sym (c .before .before .before .before .before .before .before .before .bad-dimensions .ensures) ∙ c .before .before .before .before .before .before .before .if1 .left) (sym (c .before .before .before .before .before .before .bad-box .ensures) ∙ c .before .before .before .before .before .if2 .left) (long-enough (point (k .dims)) (boxOf k) (length l) (c .before .before .before .before .linearize .ensures) (c .before .before .before .if3 .left)) (lt-ltb (a .room .map) (length l) (c .before .if4 .taken))
+returns-4 c =
+    let s = c .before .before .before .before .before .before .before .before .before .before in
+    let a = s .args in
+    let l = a .sdf .now in
+    let k = a .k in
+    let q = callOf l k in
+    let r = roomOf (a .room) in
+    c .refused4 .ensures ∙ says-4 q r (sym (c .before .before .before .before .before .before .before .before .bad-dimensions .ensures) ∙ c .before .before .before .before .before .before .before .if1 .left) (sym (c .before .before .before .before .before .before .bad-box .ensures) ∙ c .before .before .before .before .before .if2 .left) (long-enough (point (k .dims)) (boxOf k) (length l) (c .before .before .before .before .linearize .ensures) (c .before .before .before .if3 .left)) (lt-ltb (a .room .map) (length l) (c .before .if4 .taken))
 
 bad-distance-requires : tie.Need-bad-distance-requires
-bad-distance-requires c κs = let s = c .before .before .before .before .before .before .before .before .before in let a = s .args in let l = a .sdf .now in let k = a .k in let q = callOf l k in let r = roomOf (a .room) in record { dims = not-bad (badDimensions (point (k .dims))) (sym (c .before .before .before .before .before .before .before .bad-dimensions .ensures) ∙ c .before .before .before .before .before .before .if1 .left); box = not-bad (badBox (point (k .dims)) (boxOf k)) (sym (c .before .before .before .before .before .bad-box .ensures) ∙ c .before .before .before .before .if2 .left); size = not-bad (badLength (point (k .dims)) (boxOf k) (length l)) (long-enough (point (k .dims)) (boxOf k) (length l) (c .before .before .before .linearize .ensures) (c .before .before .if3 .left)) }
+bad-distance-requires c κs =
+    let s = c .before .before .before .before .before .before .before .before .before in
+    let a = s .args in
+    let l = a .sdf .now in
+    let k = a .k in
+    let q = callOf l k in
+    let r = roomOf (a .room) in
+    record { dims = not-bad (badDimensions (point (k .dims))) (sym (c .before .before .before .before .before .before .before .bad-dimensions .ensures) ∙ c .before .before .before .before .before .before .if1 .left); box = not-bad (badBox (point (k .dims)) (boxOf k)) (sym (c .before .before .before .before .before .bad-box .ensures) ∙ c .before .before .before .before .if2 .left); size = not-bad (badLength (point (k .dims)) (boxOf k) (length l)) (long-enough (point (k .dims)) (boxOf k) (length l) (c .before .before .before .linearize .ensures) (c .before .before .if3 .left)) }
 
 refused-requires-5 : tie.Need-refused-requires-5
 refused-requires-5 c κs = search needs
 
 returns-5 : tie.Need-returns-5
-returns-5 c = let s = c .before .before .before .before .before .before .before .before .before .before .before .before in let a = s .args in let l = a .sdf .now in let k = a .k in let q = callOf l k in let r = roomOf (a .room) in c .refused5 .ensures ∙ says-5 q r (sym (c .before .before .before .before .before .before .before .before .before .before .bad-dimensions .ensures) ∙ c .before .before .before .before .before .before .before .before .before .if1 .left) (sym (c .before .before .before .before .before .before .before .before .bad-box .ensures) ∙ c .before .before .before .before .before .before .before .if2 .left) (long-enough (point (k .dims)) (boxOf k) (length l) (c .before .before .before .before .before .before .linearize .ensures) (c .before .before .before .before .before .if3 .left)) (le-ltb (a .room .map) (length l) (c .before .before .before .if4 .left)) (sym (c .before .before .bad-distance .ensures) ∙ c .before .if5 .taken)
+returns-5 c =
+    let s = c .before .before .before .before .before .before .before .before .before .before .before .before in
+    let a = s .args in
+    let l = a .sdf .now in
+    let k = a .k in
+    let q = callOf l k in
+    let r = roomOf (a .room) in
+    c .refused5 .ensures ∙ says-5 q r (sym (c .before .before .before .before .before .before .before .before .before .before .bad-dimensions .ensures) ∙ c .before .before .before .before .before .before .before .before .before .if1 .left) (sym (c .before .before .before .before .before .before .before .before .bad-box .ensures) ∙ c .before .before .before .before .before .before .before .if2 .left) (long-enough (point (k .dims)) (boxOf k) (length l) (c .before .before .before .before .before .before .linearize .ensures) (c .before .before .before .before .before .if3 .left)) (le-ltb (a .room .map) (length l) (c .before .before .before .if4 .left)) (sym (c .before .before .bad-distance .ensures) ∙ c .before .if5 .taken)
 
 count-box-requires : tie.Need-count-box-requires
-count-box-requires c κs = let s = c .before .before .before .before .before .before .before .before .before .before .before in let a = s .args in let l = a .sdf .now in let k = a .k in let q = callOf l k in let r = roomOf (a .room) in record { dims = not-bad (badDimensions (point (k .dims))) (sym (c .before .before .before .before .before .before .before .before .before .bad-dimensions .ensures) ∙ c .before .before .before .before .before .before .before .before .if1 .left); box = not-bad (badBox (point (k .dims)) (boxOf k)) (sym (c .before .before .before .before .before .before .before .bad-box .ensures) ∙ c .before .before .before .before .before .before .if2 .left); size = not-bad (badLength (point (k .dims)) (boxOf k) (length l)) (long-enough (point (k .dims)) (boxOf k) (length l) (c .before .before .before .before .before .linearize .ensures) (c .before .before .before .before .if3 .left)) }
+count-box-requires c κs =
+    let s = c .before .before .before .before .before .before .before .before .before .before .before in
+    let a = s .args in
+    let l = a .sdf .now in
+    let k = a .k in
+    let q = callOf l k in
+    let r = roomOf (a .room) in
+    record { dims = not-bad (badDimensions (point (k .dims))) (sym (c .before .before .before .before .before .before .before .before .before .bad-dimensions .ensures) ∙ c .before .before .before .before .before .before .before .before .if1 .left); box = not-bad (badBox (point (k .dims)) (boxOf k)) (sym (c .before .before .before .before .before .before .before .bad-box .ensures) ∙ c .before .before .before .before .before .before .if2 .left); size = not-bad (badLength (point (k .dims)) (boxOf k) (length l)) (long-enough (point (k .dims)) (boxOf k) (length l) (c .before .before .before .before .before .linearize .ensures) (c .before .before .before .before .if3 .left)) }
 
 room-answer-requires : tie.Need-room-answer-requires
-room-answer-requires c κs = let s = c .before .before .before .before .before .before .before .before .before .before .before .before in let a = s .args in let l = a .sdf .now in let k = a .k in let q = callOf l k in let r = roomOf (a .room) in few-vertices l k (record { dims = not-bad (badDimensions (point (k .dims))) (sym (c .before .before .before .before .before .before .before .before .before .before .bad-dimensions .ensures) ∙ c .before .before .before .before .before .before .before .before .before .if1 .left); box = not-bad (badBox (point (k .dims)) (boxOf k)) (sym (c .before .before .before .before .before .before .before .before .bad-box .ensures) ∙ c .before .before .before .before .before .before .before .if2 .left); size = not-bad (badLength (point (k .dims)) (boxOf k) (length l)) (long-enough (point (k .dims)) (boxOf k) (length l) (c .before .before .before .before .before .before .linearize .ensures) (c .before .before .before .before .before .if3 .left)) }) (c .count-box .result) (c .count-box .ensures)
+room-answer-requires c κs =
+    let s = c .before .before .before .before .before .before .before .before .before .before .before .before in
+    let a = s .args in
+    let l = a .sdf .now in
+    let k = a .k in
+    let q = callOf l k in
+    let r = roomOf (a .room) in
+    few-vertices l k (record { dims = not-bad (badDimensions (point (k .dims))) (sym (c .before .before .before .before .before .before .before .before .before .before .bad-dimensions .ensures) ∙ c .before .before .before .before .before .before .before .before .before .if1 .left); box = not-bad (badBox (point (k .dims)) (boxOf k)) (sym (c .before .before .before .before .before .before .before .before .bad-box .ensures) ∙ c .before .before .before .before .before .before .before .if2 .left); size = not-bad (badLength (point (k .dims)) (boxOf k) (length l)) (long-enough (point (k .dims)) (boxOf k) (length l) (c .before .before .before .before .before .before .linearize .ensures) (c .before .before .before .before .before .if3 .left)) }) (c .count-box .result) (c .count-box .ensures)
 
 returns-6 : tie.Need-returns-6
-returns-6 c = let s = c .before .before .before .before .before .before .before .before .before .before .before .before .before in let a = s .args in let l = a .sdf .now in let k = a .k in let q = callOf l k in let r = roomOf (a .room) in let e = c .before .count-box .ensures ∙ counts (fieldOf l k) (boxOf k) (flagsOf k) in c .room-answer .ensures ∙ ap (λ (t : Tally). roomAnswer r (t .vertices) (t .indices)) e ∙ says-room q r (sym (c .before .before .before .before .before .before .before .before .before .before .before .bad-dimensions .ensures) ∙ c .before .before .before .before .before .before .before .before .before .before .if1 .left) (sym (c .before .before .before .before .before .before .before .before .before .bad-box .ensures) ∙ c .before .before .before .before .before .before .before .before .if2 .left) (long-enough (point (k .dims)) (boxOf k) (length l) (c .before .before .before .before .before .before .before .linearize .ensures) (c .before .before .before .before .before .before .if3 .left)) (le-ltb (a .room .map) (length l) (c .before .before .before .before .if4 .left)) (sym (c .before .before .before .bad-distance .ensures) ∙ c .before .before .if5 .left)
+returns-6 c =
+    let s = c .before .before .before .before .before .before .before .before .before .before .before .before .before in
+    let a = s .args in
+    let l = a .sdf .now in
+    let k = a .k in
+    let q = callOf l k in
+    let r = roomOf (a .room) in
+    let e = c .before .count-box .ensures ∙ counts (fieldOf l k) (boxOf k) (flagsOf k) in
+    c .room-answer .ensures ∙ ap (λ (t : Tally). roomAnswer r (t .vertices) (t .indices)) e ∙ says-room q r (sym (c .before .before .before .before .before .before .before .before .before .before .before .bad-dimensions .ensures) ∙ c .before .before .before .before .before .before .before .before .before .before .if1 .left) (sym (c .before .before .before .before .before .before .before .before .before .bad-box .ensures) ∙ c .before .before .before .before .before .before .before .before .if2 .left) (long-enough (point (k .dims)) (boxOf k) (length l) (c .before .before .before .before .before .before .before .linearize .ensures) (c .before .before .before .before .before .before .if3 .left)) (le-ltb (a .room .map) (length l) (c .before .before .before .before .if4 .left)) (sym (c .before .before .before .bad-distance .ensures) ∙ c .before .before .if5 .left)
 
 pub answer-for-spec : {M : Type 1} → statement M
 answer-for-spec =

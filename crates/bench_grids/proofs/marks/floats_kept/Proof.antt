@@ -1,0 +1,55 @@
+-- `bench_grids::marks::floats_kept` is safe and ends: the index is at most the length. Assumes nothing.
+use Prim.Native.Nat.{_≤_, _-_}
+use lib.ListN.{length}
+use borrow.Author.Needs.{needs}
+use Rattle.bench_grids.proofs.marks.floats_kept.Statement.{statement}
+use Rattle.bench_grids.proofs.marks.floats_kept.Tie as tie
+
+abbrev Inv-loop : tie.InvT-loop
+Inv-loop list from first mark₀ j₀ mark j = j ≤ length list
+
+abbrev μ-loop : tie.MeasureT-loop
+μ-loop list from first mark₀ j₀ mark j = length list - j
+
+loop-holds : tie.Need-loop-holds Inv-loop μ-loop
+loop-holds c = search needs
+
+mul-differs : tie.Need-mul-differs Inv-loop μ-loop
+mul-differs c = search needs
+
+shared-slice-read-differs : tie.Need-shared-slice-read-differs Inv-loop μ-loop
+shared-slice-read-differs c = search needs
+
+differs-requires : tie.Need-differs-requires Inv-loop μ-loop
+differs-requires c κs = search needs
+
+returns : tie.Need-returns Inv-loop μ-loop
+returns c = search needs
+
+add-j : tie.Need-add-j Inv-loop μ-loop
+add-j c = search needs
+
+loop-less : tie.Need-loop-less Inv-loop μ-loop
+loop-less c = search needs
+
+loop-again : tie.Need-loop-again Inv-loop μ-loop
+loop-again c = search needs
+
+returns-2 : tie.Need-returns-2 Inv-loop μ-loop
+returns-2 c = search needs
+
+pub floats-kept-spec : {M : Type 1} → statement M
+floats-kept-spec =
+    tie.close
+    (tie.spec
+    Inv-loop
+    μ-loop
+    loop-holds
+    mul-differs
+    shared-slice-read-differs
+    differs-requires
+    returns
+    add-j
+    loop-less
+    loop-again
+    returns-2)

@@ -1,0 +1,52 @@
+-- `bench_grids::marks::mark_floats` is safe and ends: the index is at most the length, which no store changes. Assumes nothing.
+use Prim.Native.Nat.{_≤_, _-_}
+use mathlib.Core.Path.{_≡_}
+use lib.ListN.{length}
+use borrow.Author.Needs.{needs}
+use Rattle.bench_grids.proofs.marks.mark_floats.Statement.{statement}
+use Rattle.bench_grids.proofs.marks.mark_floats.Tie as tie
+
+abbrev Inv-loop : tie.InvT-loop
+Inv-loop list₀ first mark₀ j₀ list mark j = (j ≤ length list₀) × (length list ≡ length list₀)
+
+abbrev μ-loop : tie.MeasureT-loop
+μ-loop list₀ first mark₀ j₀ list mark j = length list₀ - j
+
+loop-holds : tie.Need-loop-holds Inv-loop μ-loop
+loop-holds c = search needs
+
+mul-list : tie.Need-mul-list Inv-loop μ-loop
+mul-list c = search needs
+
+slice-write-list : tie.Need-slice-write-list Inv-loop μ-loop
+slice-write-list c = search needs
+
+add-j : tie.Need-add-j Inv-loop μ-loop
+add-j c = search needs
+
+loop-less : tie.Need-loop-less Inv-loop μ-loop
+loop-less c = search needs
+
+loop-again : tie.Need-loop-again Inv-loop μ-loop
+loop-again c = search needs
+
+same-length : tie.Need-same-length Inv-loop μ-loop
+same-length c = search needs
+
+returns : tie.Need-returns Inv-loop μ-loop
+returns c = search needs
+
+pub mark-floats-spec : {M : Type 1} → statement M
+mark-floats-spec =
+    tie.close
+    (tie.spec
+    Inv-loop
+    μ-loop
+    loop-holds
+    mul-list
+    slice-write-list
+    add-j
+    loop-less
+    loop-again
+    same-length
+    returns)

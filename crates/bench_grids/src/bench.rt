@@ -1,0 +1,185 @@
+// One bench grid: the lists are marked, the library is called, and what it answered is printed with what became of the marks.
+ghost use Prim.Native.Nat.{_≤_};
+use crate::marks;
+use crate::said;
+use grid::Extent;
+use surface_nets::Answer;
+
+// What is asked, but for the grid and the lent lists.
+pub struct Call {
+    pub dims: Extent,
+    pub low: Extent,
+    pub high: Extent,
+    pub max_plane: bool,
+}
+
+// How much of three of the lists is lent; the others are lent whole.
+pub struct Room {
+    pub positions: usize,
+    pub map: usize,
+    pub indices: usize,
+}
+
+// What is printed besides the answer and the counts.
+pub enum Show {
+    Counts,
+    Mesh,
+    Indices,
+    Vertex,
+}
+
+// The first mark of each list.
+const POSITIONS: f32 = 1000.0;
+
+const NORMALS: f32 = 2000.0;
+
+const CELLS: u32 = 3000;
+
+const STRIDES: u32 = 4000;
+
+const MAP: u32 = 5000;
+
+const INDICES: u32 = 6000;
+
+fn least(a: usize, b: usize) -> usize
+    ensures { λ r. ⌜ r ≤ b ⌝ }
+{
+    if a < b { a } else { b }
+}
+
+// How many numbers of a list an answer 0 writes, in steps of one: no list here has a hundred.
+fn written(number: u32, count: u64) -> usize
+    ensures { λ r. ⌜ r ≤ 100 ⌝ }
+{
+    if number != 0 {
+        return 0;
+    }
+    if 100 < count {
+        return 100;
+    }
+    count as usize
+}
+
+fn is_map_kept(map: &[u32], call: Call, number: u32) -> bool {
+    if number != 0 {
+        return marks::words_kept(map, 0, MAP);
+    }
+    marks::map_kept(map, call, MAP)
+}
+
+// The lists hold marks past what an answer 0 writes, and a refusal left them all.
+fn kept(
+    a: Answer,
+    call: Call,
+    positions: &[f32],
+    normals: &[f32],
+    cells: &[u32],
+    strides: &[u32],
+    map: &[u32],
+    indices: &[u32],
+) -> bool {
+    let v = written(a.number, a.vertex_count);
+    let i = written(a.number, a.index_count);
+    if !marks::floats_kept(positions, 3 * v, POSITIONS) {
+        return false;
+    }
+    if !marks::floats_kept(normals, 3 * v, NORMALS) {
+        return false;
+    }
+    if !marks::words_kept(cells, 3 * v, CELLS) {
+        return false;
+    }
+    if !marks::words_kept(strides, v, STRIDES) {
+        return false;
+    }
+    if !is_map_kept(map, call, a.number) {
+        return false;
+    }
+    marks::words_kept(indices, i, INDICES)
+}
+
+fn show_mesh(a: Answer, positions: &[f32; 27], strides: &[u32], indices: &[u32]) {
+    said::words(b"    strides", strides, written(a.number, a.vertex_count));
+    said::words(b"    indices", indices, written(a.number, a.index_count));
+    said::point(b"    vertex 0", positions[0], positions[1], positions[2]);
+    said::point(b"    vertex 1", positions[3], positions[4], positions[5]);
+}
+
+// The call itself, on as much of the lists as the room says.
+fn mesh(
+    sdf: &[f32],
+    call: Call,
+    room: Room,
+    positions: &mut [f32],
+    normals: &mut [f32],
+    cells: &mut [u32],
+    strides: &mut [u32],
+    map: &mut [u32],
+    indices: &mut [u32],
+) -> Answer {
+    let p = least(room.positions, positions.len());
+    let m = least(room.map, map.len());
+    let i = least(room.indices, indices.len());
+    surface_nets::surface_nets(
+        sdf,
+        call.dims,
+        call.low,
+        call.high,
+        call.max_plane,
+        &mut positions[0..p],
+        normals,
+        cells,
+        strides,
+        &mut map[0..m],
+        &mut indices[0..i],
+    )
+}
+
+pub fn case(name: &[u8], sdf: &[f32], call: Call, room: Room, show: Show) {
+    let mut positions = [0.0f32; 27];
+    let mut normals = [0.0f32; 27];
+    let mut cells = [0u32; 27];
+    let mut strides = [0u32; 11];
+    let mut map = [0u32; 30];
+    let mut indices = [0u32; 39];
+    marks::mark_floats(&mut positions, POSITIONS);
+    marks::mark_floats(&mut normals, NORMALS);
+    marks::mark_words(&mut cells, CELLS);
+    marks::mark_words(&mut strides, STRIDES);
+    marks::mark_words(&mut map, MAP);
+    marks::mark_words(&mut indices, INDICES);
+    let a = mesh(
+        sdf,
+        call,
+        room,
+        &mut positions,
+        &mut normals,
+        &mut cells,
+        &mut strides,
+        &mut map,
+        &mut indices,
+    );
+    said::answer(
+        name,
+        a,
+        kept(
+            a,
+            call,
+            &positions,
+            &normals,
+            &cells,
+            &strides,
+            &map,
+            &indices,
+        ),
+    );
+    match show {
+        Show::Counts => {}
+        Show::Mesh => show_mesh(a, &positions, &strides, &indices),
+        Show::Indices => said::words(b"    indices", &indices, written(a.number, a.index_count)),
+        Show::Vertex => {
+            said::point(b"    position", positions[0], positions[1], positions[2]);
+            said::point(b"    normal", normals[0], normals[1], normals[2]);
+        }
+    }
+}

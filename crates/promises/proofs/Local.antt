@@ -1,0 +1,54 @@
+-- Document 01, "The answer and all that is written depend on the dimensions, box, max plane, all lengths, the grid's included, and the distances
+-- inside the box. Distances outside the box and the map's old numbers never matter": of two calls that were made. Assumes nothing.
+use mathlib.Core.Path.{_≡_, sym, ap, ap₂, _∙_}
+use lib.Dec.{T}
+use lib.Ieee.{nan}
+use lib.ListN.{length, getD}
+use Rattle.rules.specs.Grid.{GridPoint, index, inBox}
+use Rattle.rules.specs.Faces.{allThree}
+use Rattle.rules.specs.Call.{Call, Buffers, room, answer, afterwards}
+use Rattle.rules.proofs.Locality.{Alike, SameWritten, answer-local, local}
+use Rattle.grid.specs.declared.Extent.{Extent}
+use Rattle.grid.specs.Block.{point}
+use Rattle.promises.specs.Served.{Served, Done}
+use Rattle.promises.proofs.Runs.{Run, gridOf, dimsOf, lowOf, highOf, planeOf, served, BedRun, bedServed}
+
+-- ---- the law
+
+-- `Alike`: the same dimensions, box and max plane, grids of one length, and the same distance at each point of the box
+module _ (u u' : Served) (same : Alike (u .call) (u' .call)) (rooms : room (u .before) ≡ room (u' .before)) where
+  -- the answer, V and I
+  pub same-answer : u .says ≡ u' .says
+  same-answer = u .answered ∙ answer-local (u .call) (u' .call) same (room (u .before)) ∙ ap (answer (u' .call)) rooms ∙ sym (u' .answered)
+
+  -- the first 3V, 3V, 3V, V and I numbers, and the map at each cell of the box
+  pub same-written : Done u → SameWritten (u .call) (u .after) (u' .after)
+  same-written d = rw (u .left, u' .left) (local (u .call) (u' .call) (u .before) (u' .before) same rooms (rw (← u .answered) d))
+
+-- by the arguments: grids of one length that have the same distance at each point of the box, and all else the same
+pub runs-alike : (u u' : Run) → dimsOf u ≡ dimsOf u' → lowOf u ≡ lowOf u' → highOf u ≡ highOf u' → planeOf u ≡ planeOf u' → length (gridOf u) ≡ length (gridOf u')
+    → ((p : GridPoint) → T (inBox (served u .call .box) p) → getD (gridOf u) (index (point (dimsOf u)) p) nan ≡ getD (gridOf u') (index (point (dimsOf u)) p) nan)
+    → Alike (served u .call) (served u' .call)
+runs-alike u u' d l h m s v =
+    record {
+      dims = ap point d;
+      size = s;
+      box = λ i. record { low = point (l i); high = point (h i) };
+      flags = λ i. allThree (m i);
+      distances = λ p t. v p t ∙ ap (λ (e : Extent). getD (gridOf u') (index (point e) p) nan) d;
+    }
+
+-- of two calls of surface_nets, and of bed_surface_nets: the answer with V and I, and all that is written, whatever the lists held
+pub surface-nets-local : (u u' : Run) → Alike (served u .call) (served u' .call) → room (served u .before) ≡ room (served u' .before)
+    → (served u .says ≡ served u' .says) × (Done (served u) → SameWritten (served u .call) (served u .after) (served u' .after))
+surface-nets-local u u' same rooms = (same-answer (served u) (served u') same rooms, same-written (served u) (served u') same rooms)
+
+pub bed-surface-nets-local : (u u' : BedRun) → Alike (bedServed u .call) (bedServed u' .call) → room (bedServed u .before) ≡ room (bedServed u' .before)
+    → (bedServed u .says ≡ bedServed u' .says) × (Done (bedServed u) → SameWritten (bedServed u .call) (bedServed u .after) (bedServed u' .after))
+bed-surface-nets-local u u' same rooms = (same-answer (bedServed u) (bedServed u') same rooms, same-written (bedServed u) (bedServed u') same rooms)
+
+-- a call of the one and a call of the other, with the same input, come to the same: the boundary adds nothing
+pub bed-is-surface-nets : (u : Run) (v : BedRun) → served u .call ≡ bedServed v .call → served u .before ≡ bedServed v .before
+    → (served u .says ≡ bedServed v .says) × (served u .after ≡ bedServed v .after)
+bed-is-surface-nets u v c b =
+    (served u .answered ∙ ap₂ (λ (d : Call) (s : Buffers). answer d (room s)) c b ∙ sym (bedServed v .answered), served u .left ∙ ap₂ afterwards c b ∙ sym (bedServed v .left))

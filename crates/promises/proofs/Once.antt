@@ -1,0 +1,142 @@
+-- Document 01, "What a claim has to settle": "Show that two outcomes that fit are equal". For each public function of grid, step, surface_nets and bed
+-- one outcome alone fits the contract: the result, and every list behind a `&mut` afterwards, refused calls too. Those of cube stand in
+-- its own proofs/Unique. Assumes nothing.
+use mathlib.Core.Path.{_≡_, _∙_, sym}
+use Rattle.grid.specs.declared.ownership.Own.{Own}
+use Rattle.promises.proofs.OneOutcome.{OneOutcome}
+use Rattle.grid.proofs.checks.bad_dimension.Kinds as bad-dimension-kinds
+use Rattle.grid.proofs.checks.bad_dimension.Reads as bad-dimension
+use Rattle.grid.proofs.checks.bad_dimensions.Kinds as bad-dimensions-kinds
+use Rattle.grid.proofs.checks.bad_dimensions.Reads as bad-dimensions
+use Rattle.grid.proofs.checks.bad_side.Kinds as bad-side-kinds
+use Rattle.grid.proofs.checks.bad_side.Reads as bad-side
+use Rattle.grid.proofs.checks.bad_box.Kinds as bad-box-kinds
+use Rattle.grid.proofs.checks.bad_box.Reads as bad-box
+use Rattle.grid.proofs.corners.side_at.Kinds as side-at-kinds
+use Rattle.grid.proofs.corners.side_at.Reads as side-at
+use Rattle.grid.proofs.corners.corners.Kinds as corners-kinds
+use Rattle.grid.proofs.corners.corners.Reads as corners
+use Rattle.grid.proofs.count.face_count.Kinds as face-count-kinds
+use Rattle.grid.proofs.count.face_count.Reads as face-count
+use Rattle.grid.proofs.count.count_cell.Kinds as count-cell-kinds
+use Rattle.grid.proofs.count.count_cell.Reads as count-cell
+use Rattle.grid.proofs.count.count_row.Kinds as count-row-kinds
+use Rattle.grid.proofs.count.count_row.Reads as count-row
+use Rattle.grid.proofs.count.count_layer.Kinds as count-layer-kinds
+use Rattle.grid.proofs.count.count_layer.Reads as count-layer
+use Rattle.grid.proofs.count.count_box.Kinds as count-box-kinds
+use Rattle.grid.proofs.count.count_box.Reads as count-box
+use Rattle.grid.proofs.ownership.owns.Kinds as owns-kinds
+use Rattle.grid.proofs.ownership.owns.Reads as owns
+use Rattle.grid.proofs.ownership.owned_at.Kinds as owned-at-kinds
+use Rattle.grid.proofs.ownership.owned_at.Reads as owned-at
+use Rattle.grid.proofs.place.linearize.Kinds as linearize-kinds
+use Rattle.grid.proofs.place.linearize.Reads as linearize
+use Rattle.grid.proofs.scan.is_beyond.Kinds as is-beyond-kinds
+use Rattle.grid.proofs.scan.is_beyond.Reads as is-beyond
+use Rattle.grid.proofs.scan.either.Kinds as either-kinds
+use Rattle.grid.proofs.scan.either.Reads as either
+use Rattle.grid.proofs.scan.bad_row.Kinds as bad-row-kinds
+use Rattle.grid.proofs.scan.bad_row.Reads as bad-row
+use Rattle.grid.proofs.scan.bad_layer.Kinds as bad-layer-kinds
+use Rattle.grid.proofs.scan.bad_layer.Reads as bad-layer
+use Rattle.grid.proofs.scan.bad_distance.Kinds as bad-distance-kinds
+use Rattle.grid.proofs.scan.bad_distance.Reads as bad-distance
+use Rattle.step.proofs.mesh_cell.Kinds as mesh-cell-kinds
+use Rattle.step.proofs.mesh_cell.Reads as mesh-cell
+use Rattle.surface_nets.proofs.surface_nets.Kinds as surface-nets-kinds
+use Rattle.surface_nets.proofs.surface_nets.Reads as surface-nets
+use Rattle.bed.proofs.bed_surface_nets.Kinds as bed-surface-nets-kinds
+use Rattle.bed.proofs.bed_surface_nets.Reads as bed-surface-nets
+
+same-own : {u v : Own} → u .x ≡ v .x → u .y ≡ v .y → u .z ≡ v .z → u ≡ v
+same-own p q r = λ i. record { x = p i; y = q i; z = r i }
+
+-- ---- with no lent list
+
+pub bad-dimension-once : OneOutcome 0 bad-dimension-kinds.ps bad-dimension-kinds.r bad-dimension.Learnt
+bad-dimension-once κs a o o' l l' = let s = l ∙ sym l' in λ i. record { result = s i; last = o .last }
+
+pub bad-dimensions-once : OneOutcome 0 bad-dimensions-kinds.ps bad-dimensions-kinds.r bad-dimensions.Learnt
+bad-dimensions-once κs a o o' l l' = let s = l ∙ sym l' in λ i. record { result = s i; last = o .last }
+
+pub bad-side-once : OneOutcome 0 bad-side-kinds.ps bad-side-kinds.r bad-side.Learnt
+bad-side-once κs a o o' l l' = let s = l ∙ sym l' in λ i. record { result = s i; last = o .last }
+
+pub bad-box-once : OneOutcome 0 bad-box-kinds.ps bad-box-kinds.r bad-box.Learnt
+bad-box-once κs a o o' l l' = let s = l ∙ sym l' in λ i. record { result = s i; last = o .last }
+
+pub side-at-once : OneOutcome 1 side-at-kinds.ps side-at-kinds.r side-at.Learnt
+side-at-once κs a o o' l l' = let s = l ∙ sym l' in λ i. record { result = s i; last = o .last }
+
+pub corners-once : OneOutcome 0 corners-kinds.ps corners-kinds.r corners.Learnt
+corners-once κs a o o' l l' = let s = l ∙ sym l' in λ i. record { result = s i; last = o .last }
+
+pub face-count-once : OneOutcome 0 face-count-kinds.ps face-count-kinds.r face-count.Learnt
+face-count-once κs a o o' l l' = let s = l .0 ∙ sym (l' .0) in λ i. record { result = s i; last = o .last }
+
+pub count-cell-once : OneOutcome 1 count-cell-kinds.ps count-cell-kinds.r count-cell.Learnt
+count-cell-once κs a o o' l l' = let s = l ∙ sym l' in λ i. record { result = s i; last = o .last }
+
+pub count-row-once : OneOutcome 1 count-row-kinds.ps count-row-kinds.r count-row.Learnt
+count-row-once κs a o o' l l' = let s = l ∙ sym l' in λ i. record { result = s i; last = o .last }
+
+pub count-layer-once : OneOutcome 1 count-layer-kinds.ps count-layer-kinds.r count-layer.Learnt
+count-layer-once κs a o o' l l' = let s = l ∙ sym l' in λ i. record { result = s i; last = o .last }
+
+pub count-box-once : OneOutcome 1 count-box-kinds.ps count-box-kinds.r count-box.Learnt
+count-box-once κs a o o' l l' = let s = l ∙ sym l' in λ i. record { result = s i; last = o .last }
+
+pub owns-once : OneOutcome 0 owns-kinds.ps owns-kinds.r owns.Learnt
+owns-once κs a o o' l l' = let s = l ∙ sym l' in λ i. record { result = s i; last = o .last }
+
+pub owned-at-once : OneOutcome 0 owned-at-kinds.ps owned-at-kinds.r owned-at.Learnt
+owned-at-once κs a o o' l l' = let s = same-own (l .0 ∙ sym (l' .0)) (l .1 .0 ∙ sym (l' .1 .0)) (l .1 .1 ∙ sym (l' .1 .1)) in λ i. record { result = s i; last = o .last }
+
+pub linearize-once : OneOutcome 0 linearize-kinds.ps linearize-kinds.r linearize.Learnt
+linearize-once κs a o o' l l' = let s = l ∙ sym l' in λ i. record { result = s i; last = o .last }
+
+pub is-beyond-once : OneOutcome 0 is-beyond-kinds.ps is-beyond-kinds.r is-beyond.Learnt
+is-beyond-once κs a o o' l l' = let s = l ∙ sym l' in λ i. record { result = s i; last = o .last }
+
+pub either-once : OneOutcome 0 either-kinds.ps either-kinds.r either.Learnt
+either-once κs a o o' l l' = let s = l ∙ sym l' in λ i. record { result = s i; last = o .last }
+
+pub bad-row-once : OneOutcome 1 bad-row-kinds.ps bad-row-kinds.r bad-row.Learnt
+bad-row-once κs a o o' l l' = let s = l ∙ sym l' in λ i. record { result = s i; last = o .last }
+
+pub bad-layer-once : OneOutcome 1 bad-layer-kinds.ps bad-layer-kinds.r bad-layer.Learnt
+bad-layer-once κs a o o' l l' = let s = l ∙ sym l' in λ i. record { result = s i; last = o .last }
+
+pub bad-distance-once : OneOutcome 1 bad-distance-kinds.ps bad-distance-kinds.r bad-distance.Learnt
+bad-distance-once κs a o o' l l' = let s = l ∙ sym l' in λ i. record { result = s i; last = o .last }
+
+-- ---- with lent lists
+
+-- one cell's step: how much is written, and the six lists
+pub mesh-cell-once : OneOutcome 7 mesh-cell-kinds.ps mesh-cell-kinds.r mesh-cell.Learnt
+mesh-cell-once κs a o o' l l' =
+    let b = l ∙ sym l' in
+    λ i. record { result = record { vertices = b i .vertex; indices = b i .used }; last = (tt, (tt, (tt, (tt, (tt, (tt, (b i .positions, (b i .normals, (b i .cells, (b i .strides, (b i .map, (b i .indices, (tt, tt))))))))))))) }
+
+-- document 01's call: the answer with V and I, and the six lists
+pub surface-nets-once : OneOutcome 7 surface-nets-kinds.ps surface-nets-kinds.r surface-nets.Learnt
+surface-nets-once κs a o o' l l' =
+    let s = l .0 ∙ sym (l' .0) in
+    let b = l .1 ∙ sym (l' .1) in
+    λ i.
+    record {
+      result = record { number = s i .number; «vertex_count» = s i .vertices; «index_count» = s i .indices };
+      last = (tt, (tt, (tt, (tt, (tt, (b i .positions, (b i .normals, (b i .cells, (b i .strides, (b i .map, (b i .indices, tt)))))))))));
+    }
+
+-- the function that C and Rust link: the answer number, the six lists, and V and I behind the last two
+pub bed-surface-nets-once : OneOutcome 9 bed-surface-nets-kinds.ps bed-surface-nets-kinds.r bed-surface-nets.Learnt
+bed-surface-nets-once κs a o o' l l' =
+    let s = l .0 ∙ sym (l' .0) in
+    let b = l .1 ∙ sym (l' .1) in
+    λ i.
+    record {
+      result = s i .number;
+      last = (tt, (tt, (tt, (tt, (tt, (tt, (tt, (tt, (tt, (tt, (tt, (b i .positions, (b i .normals, (b i .cells, (b i .strides, (b i .map, (b i .indices, (s i .vertices, (s i .indices, tt)))))))))))))))))));
+    }

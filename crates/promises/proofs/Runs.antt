@@ -1,0 +1,92 @@
+-- The calls of surface_nets, and of bed_surface_nets, with an outcome that fits the contract: each is a call of document 01 with what came of
+-- it. The two contracts say one thing. Assumes nothing.
+use mathlib.Core.Bool.{Bool}
+use mathlib.Core.List.{List}
+use lib.Ieee.{Float}
+use contract.Lifetimes.{Lfts}
+use borrow.Fn.Kinds.{Dens}
+use Rattle.grid.specs.declared.Extent.{Extent}
+use Rattle.surface_nets.specs.Reading.{answerOf, buffers, callMade}
+use Rattle.bed.specs.Boundary.{extent, said}
+use Rattle.promises.specs.Served.{Served}
+use Rattle.promises.proofs.OneOutcome.{Outcome, FitsContract}
+use Rattle.surface_nets.proofs.surface_nets.Kinds as surface-nets-kinds
+use Rattle.surface_nets.proofs.surface_nets.Reads as surface-nets
+use Rattle.bed.proofs.bed_surface_nets.Kinds as bed-surface-nets-kinds
+use Rattle.bed.proofs.bed_surface_nets.Reads as bed-surface-nets
+
+-- ---- surface_nets
+
+-- arguments, an outcome, and that it fits the contract
+pub record Run : Type 0 where
+  pub lifetimes : Lfts 7
+  pub args : Dens lifetimes surface-nets-kinds.ps
+  pub outcome : Outcome 7 surface-nets-kinds.ps surface-nets-kinds.r lifetimes args
+  pub fits : FitsContract 7 surface-nets-kinds.ps surface-nets-kinds.r surface-nets.Learnt lifetimes args outcome
+
+-- the arguments that are not lent for writing
+abbrev pub gridOf : Run → List Float
+gridOf u = u .args .0 .now
+
+abbrev pub dimsOf : Run → Extent
+dimsOf u = u .args .1 .0
+
+abbrev pub lowOf : Run → Extent
+lowOf u = u .args .1 .1 .0
+
+abbrev pub highOf : Run → Extent
+highOf u = u .args .1 .1 .1 .0
+
+abbrev pub planeOf : Run → Bool
+planeOf u = u .args .1 .1 .1 .1 .0
+
+abbrev pub served : Run → Served
+served u =
+    let lent = u .args .1 .1 .1 .1 .1 in
+    let last = u .outcome .last .1 .1 .1 .1 .1 in
+    record {
+      call = callMade (gridOf u) (dimsOf u) (lowOf u) (highOf u) (planeOf u);
+      before = buffers (lent .0 .now) (lent .1 .0 .now) (lent .1 .1 .0 .now) (lent .1 .1 .1 .0 .now) (lent .1 .1 .1 .1 .0 .now) (lent .1 .1 .1 .1 .1 .0 .now);
+      says = answerOf (u .outcome .result);
+      after = buffers (last .0) (last .1 .0) (last .1 .1 .0) (last .1 .1 .1 .0) (last .1 .1 .1 .1 .0) (last .1 .1 .1 .1 .1 .0);
+      answered = u .fits .0;
+      left = u .fits .1;
+    }
+
+-- ---- bed_surface_nets
+
+pub record BedRun : Type 0 where
+  pub lifetimes : Lfts 9
+  pub args : Dens lifetimes bed-surface-nets-kinds.ps
+  pub outcome : Outcome 9 bed-surface-nets-kinds.ps bed-surface-nets-kinds.r lifetimes args
+  pub fits : FitsContract 9 bed-surface-nets-kinds.ps bed-surface-nets-kinds.r bed-surface-nets.Learnt lifetimes args outcome
+
+abbrev pub bedGrid : BedRun → List Float
+bedGrid u = u .args .0 .now
+
+-- three loose numbers each
+abbrev pub bedDims : BedRun → Extent
+bedDims u = let n = u .args .1 in extent (n .0) (n .1 .0) (n .1 .1 .0)
+
+abbrev pub bedLow : BedRun → Extent
+bedLow u = let n = u .args .1 .1 .1 .1 in extent (n .0) (n .1 .0) (n .1 .1 .0)
+
+abbrev pub bedHigh : BedRun → Extent
+bedHigh u = let n = u .args .1 .1 .1 .1 .1 .1 .1 in extent (n .0) (n .1 .0) (n .1 .1 .0)
+
+abbrev pub bedPlane : BedRun → Bool
+bedPlane u = u .args .1 .1 .1 .1 .1 .1 .1 .1 .1 .1 .0
+
+-- V and I stand behind the last two parameters
+abbrev pub bedServed : BedRun → Served
+bedServed u =
+    let lent = u .args .1 .1 .1 .1 .1 .1 .1 .1 .1 .1 .1 in
+    let last = u .outcome .last .1 .1 .1 .1 .1 .1 .1 .1 .1 .1 .1 in
+    record {
+      call = callMade (bedGrid u) (bedDims u) (bedLow u) (bedHigh u) (bedPlane u);
+      before = buffers (lent .0 .now) (lent .1 .0 .now) (lent .1 .1 .0 .now) (lent .1 .1 .1 .0 .now) (lent .1 .1 .1 .1 .0 .now) (lent .1 .1 .1 .1 .1 .0 .now);
+      says = said (u .outcome .result) (last .1 .1 .1 .1 .1 .1 .0) (last .1 .1 .1 .1 .1 .1 .1 .0);
+      after = buffers (last .0) (last .1 .0) (last .1 .1 .0) (last .1 .1 .1 .0) (last .1 .1 .1 .1 .0) (last .1 .1 .1 .1 .1 .0);
+      answered = u .fits .0;
+      left = u .fits .1;
+    }

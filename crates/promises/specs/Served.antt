@@ -1,0 +1,32 @@
+-- A call of document 01 with what came of it, as the public contracts say it, and the faces that are read back from what it wrote.
+-- Definitions only. Assumes nothing.
+use mathlib.Core.Path.{_≡_}
+use mathlib.Core.List.{List}
+use lib.ListN.{take}
+use Rattle.rules.specs.Faces.{edges}
+use Rattle.rules.specs.Call.{Call, Buffers, Answer, answer, afterwards, room}
+use Rattle.rules.specs.Cutting.{Piece, Face, facesSeen}
+
+-- what went in, the lent lists as they were, the answer with V and I, and the lent lists afterwards: the two equations are those of the
+-- contracts of surface_nets and bed_surface_nets
+pub record Served : Type 0 where
+  pub call : Call
+  pub before : Buffers
+  pub says : Answer
+  pub after : Buffers
+  pub answered : says ≡ answer call (room before)
+  pub left : after ≡ afterwards call before
+
+-- answer 0
+abbrev pub Done : Served → Type 0
+Done u = u .says .number ≡ 0
+
+-- the box and the flags of a call
+abbrev pub pieceOf : Call → Piece
+pieceOf c = record { box = c .box; flags = c .flags }
+
+-- the faces of a mesh. Their corners come from what was written alone: the first I numbers of the index list in sixes, each number looked up in the
+-- cells and positions beside it. A six has no name of its own: its edge is the one that comes next in the order of document 01, "Faces".
+abbrev pub facesRead : Served → List Face
+facesRead u =
+    facesSeen (u .after .cells) (u .after .positions) (edges (u .call .grid) (u .call .box) (u .call .flags)) (take (u .says .indices) (u .after .indices))

@@ -1,0 +1,1 @@
+// What the public contracts promise together. There is no code here: the theorems stand in proofs/.

@@ -47,7 +47,7 @@ fn least(a: usize, b: usize) -> usize
     if a < b { a } else { b }
 }
 
-// How many numbers of a list an answer 0 writes, in steps of one: no list here has a hundred.
+// How many vertices or indices an answer 0 writes, cut down to a hundred, which no list here can hold.
 fn written(number: u32, count: u64) -> usize
     ensures { λ r. ⌜ r ≤ 100 ⌝ }
 {

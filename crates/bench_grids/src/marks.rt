@@ -1,6 +1,5 @@
 // Marks: what every lent number holds before a call, one more for each next number, so that a number changed by mistake is seen.
 use crate::bench::Call;
-use grid::Extent;
 
 pub fn mark_floats(list: &mut [f32], first: f32) {
     let mut mark = first;
@@ -27,7 +26,7 @@ pub fn floats_kept(list: &[f32], from: usize, first: f32) -> bool {
     let mut mark = first;
     let mut j = 0;
     while j < list.len() {
-        if differs(list[j], mark, from <= j) {
+        if float_differs(list[j], mark, from <= j) {
             return false;
         }
         mark = mark + 1.0;
@@ -36,7 +35,7 @@ pub fn floats_kept(list: &[f32], from: usize, first: f32) -> bool {
     true
 }
 
-fn differs(number: f32, mark: f32, has_mark: bool) -> bool {
+fn float_differs(number: f32, mark: f32, has_mark: bool) -> bool {
     if !has_mark {
         return false;
     }

@@ -9,12 +9,9 @@ mod said;
 mod stored;
 mod tally;
 
+use stored::LONGEST_FILE;
 use stored::Parsed;
 use tally::Outcome;
-use tally::Tally;
-
-// The longest file that is taken; one byte more is read, so that a longer one is seen.
-const LONGEST: usize = 262144;
 
 // Call after call, to the end of the file, which must come right after the last.
 fn replay(file: &[u8]) -> Outcome {
@@ -42,11 +39,12 @@ fn replay(file: &[u8]) -> Outcome {
     Outcome::Done(calls, tally)
 }
 
+// One byte more than the longest file is read, so that a longer one is seen.
 fn replay_open(name: &[u8], fd: i32) {
     let mut file = [0u8; 262145];
     let n = io::read_full(fd, &mut file);
     said::name(name);
-    if LONGEST < n {
+    if LONGEST_FILE < n {
         said::text(b"longer than 262,144 bytes, not replayed\n");
         return;
     }

@@ -1,5 +1,5 @@
 // A stored call: where its lists stand in the file, and what it must answer.
-ghost use Prim.Native.Nat.{_≤_};
+ghost use Prim.Native.Nat.{_+_, _≤_};
 use crate::list::number;
 use crate::list::part;
 use grid::Extent;
@@ -41,26 +41,29 @@ pub enum Parsed {
     Malformed,
 }
 
-// No grid is longer than 256 numbers and no buffer longer than 512.
-pub const LONGEST_GRID: usize = 256;
+// No file is longer than 262,144 bytes, no grid than 256 numbers and no buffer than 512.
+pub const LONGEST_FILE: usize = 262144;
 
-pub const LONGEST_BUFFER: usize = 512;
+const LONGEST_GRID: usize = 256;
 
-// A length, cut down to 513: one that is too long stays so, and sums stay small.
+const LONGEST_BUFFER: usize = 512;
+
+// A length, cut down to 513: one that is too long stays so, and what is made of it stays small.
 fn length_at(list: &[u8], j: usize) -> usize
     ensures { λ r. ⌜ r ≤ 513 ⌝ }
 {
-    let n = number(list, j);
-    if 512 < n {
-        return 513;
+    let n = number(list, j) as usize;
+    if LONGEST_BUFFER < n {
+        return LONGEST_BUFFER + 1;
     }
-    n as usize
+    n
 }
 
-// The buffers stand one after the other from `at` on; their lengths are the first six numbers of `tail`.
+// The buffers stand one after the other from `at` on; their lengths are the first six numbers of `tail`. The bound on `at`, here and below,
+// only keeps sums from wrapping.
 fn buffers_from(tail: &[u8], at: usize) -> Buffers
-    requires { ⌜ at ≤ 1000000 ⌝ }
-    ensures { λ r. ⌜ r .end ≤ 2000000 ⌝ }
+    requires { ⌜ at ≤ 400000 ⌝ }
+    ensures { λ r. ⌜ (at ≤ r .end) × (r .end ≤ at + 12312) ⌝ }
 {
     let p = length_at(tail, 0);
     let n = length_at(tail, 1);
@@ -74,26 +77,18 @@ fn buffers_from(tail: &[u8], at: usize) -> Buffers
     let map = strides + 4 * s;
     let indices = map + 4 * m;
     Buffers {
-        positions: Place { at, length: p },
-        normals: Place {
-            at: normals,
-            length: n,
-        },
-        cells: Place {
-            at: cells,
-            length: c,
-        },
-        strides: Place {
-            at: strides,
-            length: s,
-        },
-        map: Place { at: map, length: m },
-        indices: Place {
-            at: indices,
-            length: i,
-        },
+        positions: place_of(at, p),
+        normals: place_of(normals, n),
+        cells: place_of(cells, c),
+        strides: place_of(strides, s),
+        map: place_of(map, m),
+        indices: place_of(indices, i),
         end: indices + 4 * i,
     }
+}
+
+fn place_of(at: usize, length: usize) -> Place {
+    Place { at, length }
 }
 
 fn is_too_long(b: Buffers) -> bool {
@@ -125,7 +120,7 @@ fn corner(head: &[u8], x: usize, y: usize, z: usize) -> Extent {
 
 // What follows the grid: six lengths, the answer, V and I, then the buffers.
 fn parse_rest(file: &[u8], head: &[u8], grid: Place, at: usize) -> Parsed
-    requires { ⌜ at ≤ 900000 ⌝ }
+    requires { ⌜ at ≤ 300000 ⌝ }
 {
     let tail = part(file, at, 9);
     if tail.len() < 36 {
@@ -155,7 +150,7 @@ fn parse_rest(file: &[u8], head: &[u8], grid: Place, at: usize) -> Parsed
 
 // The call that stands at byte `at` of the file.
 pub fn parse(file: &[u8], at: usize) -> Parsed {
-    if 800000 < at {
+    if LONGEST_FILE < at {
         return Parsed::Cut;
     }
     let head = part(file, at, 11);
@@ -169,9 +164,6 @@ pub fn parse(file: &[u8], at: usize) -> Parsed {
     if LONGEST_GRID < n {
         return Parsed::Malformed;
     }
-    let grid = Place {
-        at: at + 44,
-        length: n,
-    };
+    let grid = place_of(at + 44, n);
     parse_rest(file, head, grid, at + 44 + 4 * n)
 }

@@ -14,14 +14,14 @@ abbrev μ-loop : tie.MeasureT-loop
 loop-holds : tie.Need-loop-holds Inv-loop μ-loop
 loop-holds c = search needs
 
-mul-differs : tie.Need-mul-differs Inv-loop μ-loop
-mul-differs c = search needs
+mul-float-differs : tie.Need-mul-float-differs Inv-loop μ-loop
+mul-float-differs c = search needs
 
-shared-slice-read-differs : tie.Need-shared-slice-read-differs Inv-loop μ-loop
-shared-slice-read-differs c = search needs
+shared-slice-read-float-differs : tie.Need-shared-slice-read-float-differs Inv-loop μ-loop
+shared-slice-read-float-differs c = search needs
 
-differs-requires : tie.Need-differs-requires Inv-loop μ-loop
-differs-requires c κs = search needs
+float-differs-requires : tie.Need-float-differs-requires Inv-loop μ-loop
+float-differs-requires c κs = search needs
 
 returns : tie.Need-returns Inv-loop μ-loop
 returns c = search needs
@@ -45,9 +45,9 @@ floats-kept-spec =
     Inv-loop
     μ-loop
     loop-holds
-    mul-differs
-    shared-slice-read-differs
-    differs-requires
+    mul-float-differs
+    shared-slice-read-float-differs
+    float-differs-requires
     returns
     add-j
     loop-less

@@ -92,6 +92,34 @@ uint32_t bed_surface_nets(
     uint32_t *indices, size_t indices_len,
     uint64_t *vertex_count, uint64_t *index_count);
 
+/* Tests whether the mesh of a box has no hole: whether every point of the box with a distance below zero
+ * lies from min + 1 to max - 2 on each axis. It reads the distances of the box and writes one yes or no.
+ *
+ * Answers BED_DONE, BED_BAD_DIMENSIONS, BED_BAD_BOX or BED_GRID_SHORT, tried in the order of their
+ * numbers; sdf, the dimensions and the box are as in bed_surface_nets. What bed_surface_nets refuses for
+ * other reasons is tested all the same: a distance that is not a number is not below zero.
+ *
+ * Out, on every answer:
+ *   enclosed         the test's outcome on BED_DONE, false on every other answer.
+ *
+ * A yes means, proved: if bed_surface_nets answers BED_DONE on the same grid and box, with max_plane or
+ * without, then in the first I indices, read as triangles, each directed side from one vertex to another
+ * occurs exactly as often as its reverse. A side may occur twice, and then its reverse occurs twice. A box
+ * without a point below zero is enclosed, and its mesh has no triangle.
+ *
+ * It does not say that triangles have an area, that the mesh does not touch or cross itself, or that it is
+ * in one piece. A no does not say that there is a hole.
+ *
+ * enclosed is never null, points to a bool that holds false or true, and may not overlap the grid; sdf may
+ * be null only where its length is 0.
+ */
+uint32_t bed_is_enclosed(
+    const float *sdf, size_t sdf_len,
+    uint32_t dim_x, uint32_t dim_y, uint32_t dim_z,
+    uint32_t min_x, uint32_t min_y, uint32_t min_z,
+    uint32_t max_x, uint32_t max_y, uint32_t max_z,
+    bool *enclosed);
+
 #ifdef __cplusplus
 }
 #endif

@@ -1,4 +1,4 @@
-//! The C function as `include/bed.h` declares it.
+//! The C functions as `include/bed.h` declares them.
 
 extern "C" {
     /// Meshes the box min..=max of a grid into lent buffers and returns the answer number, 0 to 7.
@@ -34,5 +34,26 @@ extern "C" {
         indices_len: usize,
         vertex_count: *mut u64,
         index_count: *mut u64,
+    ) -> u32;
+
+    /// Tests whether the box's points below zero all lie from min + 1 to max - 2, and returns the answer
+    /// number, 0 to 3.
+    ///
+    /// # Safety
+    ///
+    /// As above; `enclosed` points to a `bool` that holds a value and is written on every answer.
+    pub fn bed_is_enclosed(
+        sdf: *const f32,
+        sdf_len: usize,
+        dim_x: u32,
+        dim_y: u32,
+        dim_z: u32,
+        min_x: u32,
+        min_y: u32,
+        min_z: u32,
+        max_x: u32,
+        max_y: u32,
+        max_z: u32,
+        enclosed: *mut bool,
     ) -> u32;
 }

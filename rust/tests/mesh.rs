@@ -1,7 +1,11 @@
 //! The wrapper on meshes whose numbers document 01 gives, on the octant of the original's own
 //! documentation, on refusals, and on a buffer that is used again.
 
-use bed::{surface_nets, surface_nets_lent, Counts, Lent, Refusal, SurfaceNetsBuffer, NULL_VERTEX};
+use bed::{
+    is_enclosed, surface_nets, surface_nets_lent, Counts, Lent, Refusal, SurfaceNetsBuffer,
+    NULL_VERTEX,
+};
+use std::collections::HashMap;
 
 const ROOM_FOR_BALL: Counts = Counts {
     vertices: 8,
@@ -183,4 +187,69 @@ fn a_refused_call_leaves_the_buffer_as_it_was() {
     let refused = surface_nets(&[f32::NAN; 64], [4; 3], [0; 3], [3; 3], false, &mut buffer);
     assert_eq!(refused, Err(Refusal::Distance));
     assert_eq!(buffer, before);
+}
+
+/// How often each directed side of the triangles occurs.
+fn sides(indices: &[u32]) -> HashMap<(u32, u32), u32> {
+    let mut sides = HashMap::new();
+    for triangle in indices.chunks_exact(3) {
+        for k in 0..3 {
+            *sides
+                .entry((triangle[k], triangle[(k + 1) % 3]))
+                .or_default() += 1;
+        }
+    }
+    sides
+}
+
+/// Two points inside that touch along no edge: four crossings meet on one square, and a side occurs
+/// twice there.
+#[test]
+fn an_enclosed_mesh_has_no_hole() {
+    let mut sdf = [1.0; 125];
+    sdf[31] = -1.0;
+    sdf[37] = -1.0;
+    assert_eq!(is_enclosed(&sdf, [5; 3], [0; 3], [4; 3]), Ok(true));
+    for max_plane in [false, true] {
+        let mut mesh = SurfaceNetsBuffer::default();
+        surface_nets(&sdf, [5; 3], [0; 3], [4; 3], max_plane, &mut mesh).unwrap();
+        let sides = sides(&mesh.indices);
+        assert!(sides.values().any(|&often| often == 2));
+        assert!(sides
+            .iter()
+            .all(|((a, b), often)| sides.get(&(*b, *a)) == Some(often)));
+    }
+}
+
+#[test]
+fn a_box_is_enclosed_if_its_margin_is_outside() {
+    let mut sdf = [1.0; 64];
+    assert_eq!(is_enclosed(&sdf, [4; 3], [0; 3], [3; 3]), Ok(true));
+    sdf[21] = -1.0;
+    assert_eq!(is_enclosed(&sdf, [4; 3], [0; 3], [3; 3]), Ok(true));
+    assert_eq!(is_enclosed(&sdf, [4; 3], [0; 3], [2; 3]), Ok(false));
+    assert_eq!(is_enclosed(&sdf, [4; 3], [1, 0, 0], [3; 3]), Ok(false));
+    assert_eq!(is_enclosed(&sdf, [4; 3], [2, 0, 0], [3; 3]), Ok(true));
+    sdf[42] = f32::NEG_INFINITY;
+    assert_eq!(is_enclosed(&sdf, [4; 3], [0; 3], [3; 3]), Ok(false));
+    sdf[42] = -f32::NAN;
+    assert_eq!(is_enclosed(&sdf, [4; 3], [0; 3], [3; 3]), Ok(true));
+    sdf[42] = -0.0;
+    assert_eq!(is_enclosed(&sdf, [4; 3], [0; 3], [3; 3]), Ok(true));
+}
+
+#[test]
+fn the_test_is_refused_as_the_call_is() {
+    let refused = |sdf: &[f32], dims, min, max| is_enclosed(sdf, dims, min, max).unwrap_err();
+    assert_eq!(
+        refused(&ball(), [0, 3, 3], [0; 3], [2; 3]),
+        Refusal::Dimensions
+    );
+    assert_eq!(refused(&ball(), [3; 3], [2, 0, 0], [1, 2, 2]), Refusal::Box);
+    assert_eq!(refused(&ball(), [3; 3], [0; 3], [3, 2, 2]), Refusal::Box);
+    assert_eq!(
+        refused(&ball()[..26], [3; 3], [0; 3], [2; 3]),
+        Refusal::GridShort
+    );
+    assert_eq!(is_enclosed(&ball(), [3; 3], [0; 3], [2; 3]), Ok(false));
 }

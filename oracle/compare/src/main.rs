@@ -3,6 +3,8 @@
 //! `compare FOLDER` replays the stored answers of the folder and then makes calls of its own. These are
 //! made with a fixed seed, so that two runs make the same calls. Exit status 0: all calls agreed,
 //! enough were made, and each thing that must come up came up. Exit status 1: not so.
+//!
+//! `compare skin` counts the directed triangle sides of meshes instead (document 02, request 8).
 
 mod calls;
 mod check;
@@ -14,6 +16,7 @@ mod one_cell;
 mod random;
 mod refused;
 mod replay;
+mod skin;
 mod tally;
 mod wrapper;
 
@@ -44,9 +47,16 @@ struct Run {
 
 fn main() -> ExitCode {
     let Some(folder) = std::env::args().nth(1) else {
-        eprintln!("usage: compare FOLDER_OF_STORED_ANSWERS");
+        eprintln!("usage: compare FOLDER_OF_STORED_ANSWERS, or compare skin");
         return ExitCode::FAILURE;
     };
+    if folder == "skin" {
+        return if skin::run() {
+            ExitCode::SUCCESS
+        } else {
+            ExitCode::FAILURE
+        };
+    }
     let stored_agree = replay::run(folder.as_ref()).unwrap_or_else(|error| {
         println!("{error}");
         false

@@ -164,7 +164,7 @@ fn index_count(call: &Call) -> u64 {
 }
 
 /// Whether the box owns the edge along `axis` from p1, the lowest corner of one of its cells.
-fn owned(call: &Call, axis: usize, p1: [u32; 3]) -> bool {
+pub(crate) fn owned(call: &Call, axis: usize, p1: [u32; 3]) -> bool {
     let above_min = |other: usize| p1[other] > call.min[other];
     above_min((axis + 1) % 3)
         && above_min((axis + 2) % 3)

@@ -1,0 +1,52 @@
+// Document 02, request 8: the skin has no hole where every negative point of the box lies from min + 1 to max - 2 on each axis. That law is
+// about the rules and stands in proofs/; here is the test whether a grid and a box meet its premise.
+mod scan;
+
+ghost use mathlib.Core.Path.{_≡_};
+ghost use Rattle.skin.specs.Scan.{examined};
+use grid::Block;
+use grid::Extent;
+use grid::MaxPlane;
+
+// Answer 0 with the test's outcome, or a refusal of document 01, 1, 2 or 3, with `enclosed` false.
+pub struct Enclosed {
+    pub answer: u32,
+    pub enclosed: bool,
+}
+
+pub fn is_enclosed(sdf: &[f32], dims: Extent, low: Extent, high: Extent) -> Enclosed
+    ensures { λ r. ⌜ r ≡ examined (now (sdf .entry)) dims low high ⌝ }
+{
+    let k = Block {
+        dims,
+        low,
+        high,
+        max_plane: MaxPlane {
+            x: false,
+            y: false,
+            z: false,
+        },
+    };
+    if grid::checks::bad_dimensions(dims) {
+        return Enclosed {
+            answer: 1,
+            enclosed: false,
+        };
+    }
+    if grid::checks::bad_box(k) {
+        return Enclosed {
+            answer: 2,
+            enclosed: false,
+        };
+    }
+    if sdf.len() <= grid::place::linearize(dims, high) {
+        return Enclosed {
+            answer: 3,
+            enclosed: false,
+        };
+    }
+    Enclosed {
+        answer: 0,
+        enclosed: !scan::stray_box(sdf, k),
+    }
+}

@@ -1,0 +1,89 @@
+// A negative point that is not from min + 1 to max - 2 on each axis. One function for a point, a row, a layer and the box.
+ghost use mathlib.Core.Path.{_≡_};
+ghost use mathlib.Core.Bool.{_&&_, not};
+ghost use Prim.Native.Nat.{_≤_};
+ghost use Rattle.rules.specs.Cell.{negative};
+ghost use Rattle.grid.specs.Block.{point, boxOf, fieldOf};
+ghost use Rattle.grid.specs.Inside.{Inside};
+ghost use Rattle.skin.specs.Enclosed.{innerSide, inner};
+ghost use Rattle.skin.specs.Scan.{strayRow, strayLayer, strayBox};
+use grid::Block;
+use grid::Extent;
+
+// From min + 1 to max - 2 on one axis. No sum is formed that could pass 32 bits.
+pub(crate) fn inner_side(low: u32, high: u32, n: u32) -> bool
+    ensures { λ r. ⌜ r ≡ innerSide low high n ⌝ }
+{
+    if n <= low {
+        return false;
+    }
+    if high <= n {
+        return false;
+    }
+    2 <= high - n
+}
+
+pub(crate) fn is_inner(k: Block, p: Extent) -> bool
+    ensures { λ r. ⌜ r ≡ inner (boxOf k) (point p) ⌝ }
+{
+    if !inner_side(k.low.x, k.high.x, p.x) {
+        return false;
+    }
+    if !inner_side(k.low.y, k.high.y, p.y) {
+        return false;
+    }
+    inner_side(k.low.z, k.high.z, p.z)
+}
+
+// The point p has the distance d.
+pub(crate) fn is_stray(d: f32, k: Block, p: Extent) -> bool
+    ensures { λ r. ⌜ r ≡ (negative d && not (inner (boxOf k) (point p))) ⌝ }
+{
+    if !cube::negative(d) {
+        return false;
+    }
+    !is_inner(k, p)
+}
+
+pub(crate) fn stray_row(sdf: &[f32], k: Block, y: u32, z: u32) -> bool
+    requires { ⌜ Inside (now sdf) k ⌝ }
+    requires { ⌜ (k .low .y ≤ y) × (y ≤ k .high .y) × (k .low .z ≤ z) × (z ≤ k .high .z) ⌝ }
+    ensures { λ r. ⌜ r ≡ strayRow (fieldOf (now (sdf .entry)) k) (boxOf k) z y ⌝ }
+{
+    let from = k.low.x;
+    let end = k.high.x + 1;
+    let mut stray = false;
+    for x in from..end {
+        let p = Extent { x, y, z };
+        let at = grid::place::linearize(k.dims, p);
+        stray = grid::scan::either(stray, is_stray(sdf[at], k, p));
+    }
+    stray
+}
+
+pub(crate) fn stray_layer(sdf: &[f32], k: Block, z: u32) -> bool
+    requires { ⌜ Inside (now sdf) k ⌝ }
+    requires { ⌜ (k .low .z ≤ z) × (z ≤ k .high .z) ⌝ }
+    ensures { λ r. ⌜ r ≡ strayLayer (fieldOf (now (sdf .entry)) k) (boxOf k) z ⌝ }
+{
+    let from = k.low.y;
+    let end = k.high.y + 1;
+    let mut stray = false;
+    for y in from..end {
+        stray = grid::scan::either(stray, stray_row(sdf, k, y, z));
+    }
+    stray
+}
+
+pub(crate) fn stray_box(sdf: &[f32], k: Block) -> bool
+    requires { ⌜ Inside (now sdf) k ⌝ }
+    ensures { λ r. ⌜ r ≡ strayBox (fieldOf (now (sdf .entry)) k) (boxOf k) ⌝ }
+{
+    let from = k.low.z;
+    let end = k.high.z + 1;
+    let mut stray = false;
+    for z in from..end {
+        stray = grid::scan::either(stray, stray_layer(sdf, k, z));
+    }
+    stray
+}

@@ -1,0 +1,47 @@
+//! Whether the mesh of a box has no hole, from the distances alone.
+
+use crate::lent::Counts;
+use crate::raw::bed_is_enclosed;
+use crate::refusal::Refusal;
+
+/// Whether every distance below zero in the box from `min` to `max`, both included, lies from min + 1 to
+/// max - 2 on each axis.
+///
+/// If so, each directed triangle side of the box's mesh, with or without max plane, occurs exactly as
+/// often as its reverse: the skin has no hole. A box without a distance below zero is enclosed too, and
+/// its mesh is empty. A no does not say that there is a hole. Refused are [`Refusal::Dimensions`],
+/// [`Refusal::Box`] and [`Refusal::GridShort`] alone.
+///
+/// ```
+/// let mut sdf = [1.0; 64];
+/// sdf[21] = -1.0;
+/// assert_eq!(bed::is_enclosed(&sdf, [4; 3], [0; 3], [3; 3]), Ok(true));
+/// assert_eq!(bed::is_enclosed(&sdf, [4; 3], [0; 3], [2; 3]), Ok(false));
+/// ```
+pub fn is_enclosed(
+    sdf: &[f32],
+    dims: [u32; 3],
+    min: [u32; 3],
+    max: [u32; 3],
+) -> Result<bool, Refusal> {
+    let mut enclosed = false;
+    // SAFETY: the pointer and length come from a slice, which is aligned and never null, and `enclosed`
+    // is a variable of its own.
+    let answer = unsafe {
+        bed_is_enclosed(
+            sdf.as_ptr(),
+            sdf.len(),
+            dims[0],
+            dims[1],
+            dims[2],
+            min[0],
+            min[1],
+            min[2],
+            max[0],
+            max[1],
+            max[2],
+            &mut enclosed,
+        )
+    };
+    Refusal::of(answer, Counts::default()).map(|_| enclosed)
+}

@@ -1,9 +1,9 @@
 /* bed.h: the bed mesher for C and C++.
  *
  * The library makes a triangle mesh of the surface where a grid of signed distances changes sign (naive
- * surface nets). It allocates nothing, keeps no state between calls and calls nothing of yours: all it
- * reads and writes is lent by the caller for the length of the call. It may be called from several
- * threads at once on memory of their own.
+ * surface nets), and writes and reads meshes as files. It allocates nothing, keeps no state between calls
+ * and calls nothing of yours: all it reads and writes is lent by the caller for the length of the call. It
+ * may be called from several threads at once on memory of their own.
  *
  * Link libbed.a. Numbers are IEEE 754 binary32; every operation rounds once, so that the same call gives
  * the same bits on every machine.
@@ -119,6 +119,101 @@ uint32_t bed_is_enclosed(
     uint32_t min_x, uint32_t min_y, uint32_t min_z,
     uint32_t max_x, uint32_t max_y, uint32_t max_z,
     bool *enclosed);
+
+/* Mesh files: a mesh as bytes that show a power cut. The library opens no file; the bytes are lent, as
+ * everything else is.
+ *
+ * A file is records of 32 bytes without a header, each of eight 32-bit words, the lowest byte first. The
+ * eighth word is the sum of the other seven modulo 2^32. First a record for each vertex: 1, its position,
+ * its normal (the bits of the floats); then one for each triangle: 2, three indices, three zeros; then the
+ * closing record: 3, the number of vertices, the number of triangles, four zeros. Nothing follows it. A
+ * file that was written whole is accepted; every shorter beginning of it is refused with BED_FILE_CUT. */
+
+/* What reading or writing a mesh file answers. The reader goes record by record and the first fault
+ * answers, in one record the lowest number; BED_FILE_ROOM comes last of all. The writer tries
+ * BED_FILE_LISTS, BED_FILE_INDEX, BED_FILE_NOT_FINITE and BED_FILE_ROOM, in this order. On every answer
+ * but BED_FILE_DONE nothing at all is changed but the counts, which are then 0. */
+enum bed_file_answer {
+    /* The mesh was read, or the file was written. */
+    BED_FILE_DONE = 0,
+    /* The file ends before its closing record does: it was cut off, or is empty. */
+    BED_FILE_CUT = 21,
+    /* A record's eighth word is not the sum of the other seven. */
+    BED_FILE_SUM = 22,
+    /* A record is of no known kind, or a vertex comes after a triangle. */
+    BED_FILE_KIND = 23,
+    /* A word of a triangle or of the closing record that should be zero is not. */
+    BED_FILE_ZERO = 24,
+    /* The closing record's counts are not those of the records before it. */
+    BED_FILE_COUNTS = 25,
+    /* A triangle has an index that is not below the number of vertices. */
+    BED_FILE_INDEX = 26,
+    /* A position or normal is infinite or not a number. */
+    BED_FILE_NOT_FINITE = 27,
+    /* Bytes follow the closing record. */
+    BED_FILE_AFTER = 28,
+    /* What was lent is too short. */
+    BED_FILE_ROOM = 29,
+    /* Writing: a list is not in threes, normals are not as long as positions, or there are 2^32 vertices
+     * or triangles, or more. */
+    BED_FILE_LISTS = 30
+};
+
+/* Writes the file of a mesh into lent bytes.
+ *
+ * In:
+ *   positions        three floats a vertex.
+ *   normals          three floats a vertex, as many as positions.
+ *   indices          three vertex numbers a triangle.
+ * After bed_surface_nets these are the first 3 V, 3 V and I numbers of its lists: pass those lengths and
+ * not the lists' own. Such a mesh is refused only for want of room, or with 2^32 triangles or more.
+ *
+ * Lent for writing:
+ *   file             room for the file: 32 * (vertices + triangles + 1) bytes are enough.
+ *
+ * Out, on every answer:
+ *   byte_count       the number of bytes written; 0 on every answer but BED_FILE_DONE.
+ *
+ * What is written on BED_FILE_DONE: the first byte_count bytes. The rest of the room keeps what it held.
+ *
+ * Nothing that is lent for writing may overlap anything else, the count included. Pointers are aligned
+ * for their type; a pointer may be null only where its length is 0. The count's pointer is never null.
+ */
+uint32_t bed_write_mesh(
+    const float *positions, size_t positions_len,
+    const float *normals, size_t normals_len,
+    const uint32_t *indices, size_t indices_len,
+    uint8_t *file, size_t file_len,
+    uint64_t *byte_count);
+
+/* Reads the mesh of a file into lent lists. The whole file is checked before anything is written.
+ *
+ * In:
+ *   file             the bytes of the file, all of them and no more.
+ *
+ * Lent for writing:
+ *   positions        room for three floats a vertex.
+ *   normals          room for three floats a vertex.
+ *   indices          room for three vertex numbers a triangle.
+ * A file of n bytes has fewer than n / 32 vertices and triangles together.
+ *
+ * Out, on every answer:
+ *   vertex_count     the number of vertices read,  both 0 on every answer but BED_FILE_DONE, so also
+ *   triangle_count   the number of triangles read: where the room is too short.
+ *
+ * What is written on BED_FILE_DONE: the first 3 * vertex_count numbers of positions and normals and the
+ * first 3 * triangle_count of indices, with the bits that were written to the file. The rest of the lists
+ * keeps what it held. Every index is below vertex_count and every float is finite.
+ *
+ * Nothing that is lent for writing may overlap anything else, the counts included. Pointers are aligned
+ * for their type; a pointer may be null only where its length is 0. The counts' pointers are never null.
+ */
+uint32_t bed_read_mesh(
+    const uint8_t *file, size_t file_len,
+    float *positions, size_t positions_len,
+    float *normals, size_t normals_len,
+    uint32_t *indices, size_t indices_len,
+    uint64_t *vertex_count, uint64_t *triangle_count);
 
 #ifdef __cplusplus
 }

@@ -55,5 +55,39 @@ extern "C" {
         max_y: u32,
         max_z: u32,
         enclosed: *mut bool,
+
+    /// Writes the file of a mesh into lent bytes and returns the answer number: 0, 26, 27, 29 or 30.
+    ///
+    /// # Safety
+    ///
+    /// As for [`bed_surface_nets`], but what is only read may overlap itself.
+    pub fn bed_write_mesh(
+        positions: *const f32,
+        positions_len: usize,
+        normals: *const f32,
+        normals_len: usize,
+        indices: *const u32,
+        indices_len: usize,
+        file: *mut u8,
+        file_len: usize,
+        byte_count: *mut u64,
+    ) -> u32;
+
+    /// Reads the mesh of a file into lent lists and returns the answer number: 0 or 21 to 29.
+    ///
+    /// # Safety
+    ///
+    /// As for [`bed_surface_nets`].
+    pub fn bed_read_mesh(
+        file: *const u8,
+        file_len: usize,
+        positions: *mut f32,
+        positions_len: usize,
+        normals: *mut f32,
+        normals_len: usize,
+        indices: *mut u32,
+        indices_len: usize,
+        vertex_count: *mut u64,
+        triangle_count: *mut u64,
     ) -> u32;
 }

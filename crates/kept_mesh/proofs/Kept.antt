@@ -1,0 +1,202 @@
+-- What a call of document 01 writes under answer 0 is a mesh that the writer of request 2 accepts, wherever the file has room and the counts fit 32 bits;
+-- and what is read back from that file has the same bits. From the laws of the call and of the file. Assumes nothing.
+use Prim.Native.Nat.{ℕ, _+_, _*_, _/_, _%_, _^_, _≤_, _<_}
+use native.Mathlib.Omega.{arith}
+use mathlib.Core.Bool.{false, not}
+use mathlib.Core.List.{List, map}
+use mathlib.Core.Path.{_≡_, refl, sym, ap, ap₂, subst, _∙_}
+use borrow.Author.Tests.{eq-eqb, lt-leb}
+use lib.Dec.{T}
+use lib.Ieee.{Float, nan, inf, fin, binary32, fits}
+use lib.Ieee.Bits.{is-true}
+use lib.Ieee.Fits.{add-fits}
+use lib.Ieee.Scale.{finite}
+use lib.ListN.{length, getD, take, drop}
+use lib.Seq.{take-at, getD-take}
+use Rattle.rules.specs.Lists.{some, over}
+use Rattle.rules.specs.Grid.{GridPoint, index, inBox, value}
+use Rattle.rules.specs.Cell.{Vector, position, normal}
+use Rattle.rules.specs.Vertices.{vertices, vertexPosition, vertexNormal}
+use Rattle.rules.specs.Faces.{indices}
+use Rattle.rules.specs.Call.{Buffers, flatVectors, written}
+use Rattle.rules.proofs.Lists.{All, none, more, all-at, all-each, all-map, all-joined}
+use Rattle.rules.proofs.Indexes as place
+use Rattle.rules.proofs.Edges.{index-count}
+use Rattle.rules.proofs.Numbers.{index-below}
+use Rattle.surface_nets.proofs.Lookups.{length-vectors}
+use Rattle.mesh_file.specs.Mesh as file
+use Rattle.mesh_file.specs.Reading.{whole, readOf, meshIn}
+use Rattle.mesh_file.specs.Writing.{badLengths, noVertex, notFinite, writeAnswer}
+use Rattle.mesh_file.specs.Writing as writer
+use Rattle.mesh_record.proofs.Either.{or-none}
+use Rattle.mesh_file.proofs.Searching.{none-some}
+use Rattle.mesh_file.proofs.RoundTrip.{AllFit, Writable}
+use Rattle.mesh_file.proofs.Settled.{room-writes, bytes-counted, read-after-write, same-after-write}
+use Rattle.promises.specs.Served.{Served, Done}
+use Rattle.promises.proofs.Done.{done-accepts, done-counts, done-writes}
+use Rattle.promises.proofs.Runs.{Run, gridOf, served, BedRun, bedGrid, bedServed}
+use Rattle.promises.proofs.ClosedMesh.{ClosedMesh, closed-mesh, Binary32}
+use Rattle.kept_mesh.specs.Parts.{meshOf}
+
+-- ---- three numbers for each vertex
+
+-- the first numbers of a list that was written over
+vectors-first : (f : GridPoint → Vector) (vs : List GridPoint) (old : List Float) → take (3 * length vs) (over (flatVectors (map f vs)) old) ≡ flatVectors (map f vs)
+vectors-first f vs old = take-at (flatVectors (map f vs)) (drop (length (flatVectors (map f vs))) old) (3 * length vs) (length-vectors f vs)
+
+-- a sum is a value of binary32
+vectors-fit : (f : GridPoint → Vector) (vs : List GridPoint) → ((c : GridPoint) → T (fits binary32 (f c .x)) × T (fits binary32 (f c .y)) × T (fits binary32 (f c .z)))
+    → AllFit (flatVectors (map f vs))
+vectors-fit f vs h i l =
+    all-at (all-joined {P = λ (x : Float). T (fits binary32 x)} (all-map f (all-each (λ c. more (h c .0) (more (h c .1) (more (h c .2) none))) vs))) i l nan
+
+-- the two names of a finite number
+finite-file : (x : Float) → T (finite x) → T (file.finite x)
+unfolding file.finite
+finite-file nan h = absurd h
+finite-file (inf s) h = absurd h
+finite-file (fin s m e) h = tt
+
+none-infinite : (xs : List Float) → ((i : ℕ) → i < length xs → T (finite (getD xs i nan))) → some notFinite xs ≡ false
+none-infinite xs h = none-some notFinite nan xs (λ i l. ap not (is-true (file.finite (getD xs i nan)) (finite-file (getD xs i nan) (h i l))))
+
+-- lists in threes, as many normals as positions, and counts that fit 32 bits
+good-lengths : (p n i v : ℕ) → p ≡ 3 * v → n ≡ 3 * v → i % 3 ≡ 0 → v < 2 ^ 32 → i / 3 < 2 ^ 32 → badLengths p n i ≡ false
+good-lengths p n i v ep en c hv y =
+    let a : p % 3 ≡ 0 = omega arith in
+    let b : n % 3 ≡ 0 = omega arith in
+    let d : n ≡ p = omega arith in
+    let x : p / 3 < 2 ^ 32 = omega arith in
+    rw (eq-eqb _ _ a, eq-eqb _ _ b, eq-eqb _ _ c, eq-eqb _ _ d, lt-leb _ _ x, lt-leb _ _ y) refl
+
+-- ---- what a call that is done has written
+
+module _ (u : Served) (done : Done u) where
+  abbrev vs : List GridPoint
+  vs = vertices (u .call .grid) (u .call .box)
+
+  abbrev is : List ℕ
+  is = indices (u .call .grid) (u .call .box) (u .call .flags)
+
+  positions-are : meshOf u .positions ≡ flatVectors (map (vertexPosition (u .call .grid)) vs)
+  unfolding written
+  positions-are =
+      ap₂ (λ (n : ℕ) (s : Buffers). take (3 * n) (s .positions)) (done-counts u done .0) (done-writes u done)
+      ∙ vectors-first (vertexPosition (u .call .grid)) vs (u .before .positions)
+
+  normals-are : meshOf u .normals ≡ flatVectors (map (vertexNormal (u .call .grid)) vs)
+  unfolding written
+  normals-are =
+      ap₂ (λ (n : ℕ) (s : Buffers). take (3 * n) (s .normals)) (done-counts u done .0) (done-writes u done)
+      ∙ vectors-first (vertexNormal (u .call .grid)) vs (u .before .normals)
+
+  indices-are : meshOf u .indices ≡ is
+  unfolding written
+  indices-are =
+      ap₂ (λ (n : ℕ) (s : Buffers). take n (s .indices)) (done-counts u done .1) (done-writes u done)
+      ∙ take-at is (drop (length is) (u .before .indices)) (length is) refl
+
+  positions-length : length (meshOf u .positions) ≡ 3 * u .says .vertices
+  positions-length = omega (arith, ap length positions-are, length-vectors (vertexPosition (u .call .grid)) vs, done-counts u done .0)
+
+  normals-length : length (meshOf u .normals) ≡ 3 * u .says .vertices
+  normals-length = omega (arith, ap length normals-are, length-vectors (vertexNormal (u .call .grid)) vs, done-counts u done .0)
+
+  indices-length : length (meshOf u .indices) ≡ u .says .indices
+  indices-length = omega (arith, ap length indices-are, done-counts u done .1)
+
+  pub vertices-kept : file.vertexCount (meshOf u) ≡ u .says .vertices
+  vertices-kept = omega (arith, positions-length)
+
+  pub triangles-kept : file.triangleCount (meshOf u) ≡ u .says .indices / 3
+  triangles-kept = ap (λ (n : ℕ). n / 3) indices-length
+
+  in-threes : length (meshOf u .indices) % 3 ≡ 0
+  in-threes = omega (arith, indices-length, done-counts u done .1, index-count (u .call .grid) (u .call .box) (u .call .flags))
+
+  index-kept : (i : ℕ) → i < length (meshOf u .indices) → getD (meshOf u .indices) i 0 < file.vertexCount (meshOf u)
+  index-kept i l =
+      let e : length vs ≡ file.vertexCount (meshOf u) = omega (arith, vertices-kept, done-counts u done .0) in
+      subst (λ (n : ℕ). getD (meshOf u .indices) i 0 < n) e
+      (subst (λ (l : List ℕ). getD l i 0 < length vs) (sym indices-are)
+      (index-below (u .call .grid) (u .call .box) (u .call .flags) i (omega (arith, ap length indices-are))))
+
+  positions-fit : AllFit (meshOf u .positions)
+  unfolding position
+  positions-fit = subst AllFit (sym positions-are) (vectors-fit (vertexPosition (u .call .grid)) vs (λ c. (add-fits binary32 _ _, add-fits binary32 _ _, add-fits binary32 _ _)))
+
+  normals-fit : AllFit (meshOf u .normals)
+  unfolding normal
+  normals-fit = subst AllFit (sym normals-are) (vectors-fit (vertexNormal (u .call .grid)) vs (λ c. (add-fits binary32 _ _, add-fits binary32 _ _, add-fits binary32 _ _)))
+
+-- ---- the law
+
+-- the premise of closed-mesh: the distances in the box are values of binary32, as those of any f32 grid are
+module _ (u : Served) (values32 : (p : GridPoint) → T (inBox (u .call .box) p) → T (fits binary32 (value (u .call .grid) p))) (done : Done u)
+    (few : u .says .vertices < 2 ^ 32) (fewer : u .says .indices / 3 < 2 ^ 32) where
+  closed : ClosedMesh u
+  closed = closed-mesh u values32 done
+
+  finite-kept : (some notFinite (meshOf u .positions) ≡ false) × (some notFinite (meshOf u .normals) ≡ false)
+  finite-kept = (
+    none-infinite (meshOf u .positions)
+        (λ i l.
+        let k : i < 3 * u .says .vertices = omega (arith, positions-length u done) in
+        rw (getD-take (3 * u .says .vertices) (u .after .positions) i nan k) (closed .finite i k .0)),
+    none-infinite (meshOf u .normals)
+        (λ i l.
+        let k : i < 3 * u .says .vertices = omega (arith, normals-length u done) in
+        rw (getD-take (3 * u .says .vertices) (u .after .normals) i nan k) (closed .finite i k .1)),
+  )
+
+  -- the writer refuses it neither with 30 nor with 26 nor with 27
+  pub kept-writable : Writable (meshOf u)
+  kept-writable =
+      record {
+        lists = good-lengths _ _ _ (u .says .vertices) (positions-length u done) (normals-length u done) (in-threes u done) few (omega (arith, triangles-kept u done));
+        indices = none-some (noVertex (file.vertexCount (meshOf u))) 0 (meshOf u .indices) (λ i l. lt-leb (file.vertexCount (meshOf u)) (getD (meshOf u .indices) i 0) (index-kept u done i l));
+        floats = or-none (some notFinite (meshOf u .positions)) (some notFinite (meshOf u .normals)) (finite-kept .0) (finite-kept .1);
+        positions-fit = positions-fit u done;
+        normals-fit = normals-fit u done;
+      }
+
+  -- so it is written wherever there is room: 32 bytes for each vertex and triangle, and for the closing record
+  pub kept-written : (room : ℕ) → 32 * (u .says .vertices + u .says .indices / 3 + 1) ≤ room → writeAnswer (meshOf u) room ≡ 0
+  kept-written room h = room-writes (meshOf u) kept-writable room (omega (arith, vertices-kept u done, triangles-kept u done))
+
+  -- and the file that is then left reads as that mesh: V vertices, I / 3 triangles and the same bits
+  module _ (f : List ℕ) (room : 32 * (u .says .vertices + u .says .indices / 3 + 1) ≤ length f) where
+    enough : file.fileLength (meshOf u) ≤ length f
+    enough = omega (arith, vertices-kept u done, triangles-kept u done)
+
+    -- what write_mesh then answers
+    pub kept-answered : writer.writing (meshOf u) (length f) ≡ writer.wrote 0 (32 * (u .says .vertices + u .says .indices / 3 + 1))
+    kept-answered =
+        bytes-counted (meshOf u) f (kept-written (length f) room)
+        ∙ ap₂ (λ (v t : ℕ). writer.wrote 0 (32 * (v + t + 1))) (vertices-kept u done) (triangles-kept u done)
+
+    abbrev pub left : List ℕ
+    left = take (file.fileLength (meshOf u)) (writer.written (meshOf u) f)
+
+    pub kept-reads : readOf left ≡ whole (u .says .vertices) (u .says .indices / 3)
+    kept-reads = read-after-write (meshOf u) kept-writable f enough ∙ ap₂ whole (vertices-kept u done) (triangles-kept u done)
+
+    pub kept-same : meshIn left (u .says .vertices) (u .says .indices / 3) ≡ meshOf u
+    kept-same = ap₂ (meshIn left) (sym (vertices-kept u done)) (sym (triangles-kept u done)) ∙ same-after-write (meshOf u) kept-writable f enough
+
+-- ---- of surface_nets, and of bed_surface_nets
+
+-- the premise is one on the grid
+pub surface-nets-kept : (u : Run) → Binary32 (gridOf u) → Done (served u) → served u .says .vertices < 2 ^ 32 → served u .says .indices / 3 < 2 ^ 32 → Writable (meshOf (served u))
+surface-nets-kept u h done =
+    kept-writable (served u)
+    (λ (p : GridPoint) (t : T (inBox (served u .call .box) p)). h (index (served u .call .grid .dims) p)
+    (place.index-below (served u .call .grid .dims) (served u .call .box) (length (gridOf u)) p (done-accepts (served u) done .length) t))
+    done
+
+pub bed-surface-nets-kept : (u : BedRun) → Binary32 (bedGrid u) → Done (bedServed u) → bedServed u .says .vertices < 2 ^ 32 → bedServed u .says .indices / 3 < 2 ^ 32 → Writable (meshOf (bedServed u))
+bed-surface-nets-kept u h done =
+    kept-writable (bedServed u)
+    (λ (p : GridPoint) (t : T (inBox (bedServed u .call .box) p)). h (index (bedServed u .call .grid .dims) p)
+    (place.index-below (bedServed u .call .grid .dims) (bedServed u .call .box) (length (bedGrid u)) p (done-accepts (bedServed u) done .length) t))
+    done

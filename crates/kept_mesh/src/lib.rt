@@ -1,0 +1,1 @@
+// What the mesher and the mesh file promise together. There is no code here: the theorems stand in proofs/.

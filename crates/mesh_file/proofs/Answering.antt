@@ -1,0 +1,89 @@
+-- The writer's answers: which condition gives which, what a refusal leaves, and that the three parts it writes are the file. Assumes nothing.
+use Prim.Native.Nat.{ℕ, suc, _+_, _*_, _/_, _%_, _^_, _≤_, _<_, zero-le}
+use native.Mathlib.Omega.{arith}
+use mathlib.Core.Path.{_≡_, refl, sym, ap, _∙_}
+use mathlib.Core.Bool.{true, false, not, _||_}
+use mathlib.Core.List.{List, _++_, append-assoc}
+use borrow.Author.Tests.{lt-ltb, le-ltb, leb-false, eqb-true, not-false}
+use lib.Dec.{leb, eqb, eqb·suc-zero}
+use lib.ListN.{length, length-append}
+use Rattle.rules.specs.Lists.{over}
+use Rattle.mesh_file.specs.Record.{each, laid}
+use Rattle.mesh_file.specs.Mesh.{Mesh, vertexCount, triangleCount, vertexRecord, triangleRecord, closingRecord, fileOf, fileLength}
+use Rattle.mesh_file.specs.Writing.{notThrees, badLengths, badLists, badIndices, badFloats, writeAnswer, wrote, writing, written}
+use Rattle.mesh_file.specs.declared.Wrote.{Wrote}
+use Rattle.mesh_record.proofs.Laying.{laid-after, over-laid, each-length}
+use Rattle.mesh_record.proofs.Recording.{record-length}
+use Rattle.mesh_record.proofs.Either.{or-left, or-right}
+
+-- ---- the lengths
+
+pub record Lengths (p n i : ℕ) : Type 0 where
+  pub threes : p % 3 ≡ 0
+  pub sixes : i % 3 ≡ 0
+  pub same : n ≡ p
+  pub few : p / 3 < 2 ^ 32
+  pub fewer : i / 3 < 2 ^ 32
+
+pub good-lengths : (p n i : ℕ) → badLengths p n i ≡ false → Lengths p n i
+good-lengths p n i h =
+    let h₁ = or-left (notThrees p || notThrees n || notThrees i || not (eqb n p) || leb (2 ^ 32) (p / 3)) (leb (2 ^ 32) (i / 3)) h in
+    let h₂ = or-left (notThrees p || notThrees n || notThrees i || not (eqb n p)) (leb (2 ^ 32) (p / 3)) h₁ in
+    let h₃ = or-left (notThrees p || notThrees n || notThrees i) (not (eqb n p)) h₂ in
+    let h₄ = or-left (notThrees p || notThrees n) (notThrees i) h₃ in
+    let h₅ = or-left (notThrees p) (notThrees n) h₄ in
+    record {
+      threes = eqb-true (p % 3) 0 (not-false (eqb (p % 3) 0) h₅);
+      sixes = eqb-true (i % 3) 0 (not-false (eqb (i % 3) 0) (or-right (notThrees p || notThrees n) (notThrees i) h₃));
+      same = eqb-true n p (not-false (eqb n p) (or-right (notThrees p || notThrees n || notThrees i) (not (eqb n p)) h₂));
+      few = leb-false (2 ^ 32) (p / 3) (or-right (notThrees p || notThrees n || notThrees i || not (eqb n p)) (leb (2 ^ 32) (p / 3)) h₁);
+      fewer = leb-false (2 ^ 32) (i / 3) (or-right (notThrees p || notThrees n || notThrees i || not (eqb n p) || leb (2 ^ 32) (p / 3)) (leb (2 ^ 32) (i / 3)) h);
+    }
+
+-- ---- the answers
+
+abbrev pub Answered : Mesh → List ℕ → Wrote → List ℕ → Type 0
+Answered m f r g = (r ≡ writing m (length f)) × (g ≡ written m f)
+
+refused : (m : Mesh) (f : List ℕ) (a : ℕ) (r : Wrote) → writeAnswer m (length f) ≡ suc a → r ≡ wrote (suc a) 0 → Answered m f r f
+unfolding writing written
+refused m f a r e q = (rw (q, e) (rw (eqb·suc-zero a) refl), rw e (rw (eqb·suc-zero a) refl))
+
+module _ (m : Mesh) (f : List ℕ) (r : Wrote) where
+  pub refused-30 : badLists m ≡ true → r ≡ wrote 30 0 → Answered m f r f
+  unfolding writeAnswer
+  refused-30 a = refused m f 29 r (rw a refl)
+
+  pub refused-26 : badLists m ≡ false → badIndices m ≡ true → r ≡ wrote 26 0 → Answered m f r f
+  unfolding writeAnswer
+  refused-26 a b = refused m f 25 r (rw (a, b) refl)
+
+  pub refused-27 : badLists m ≡ false → badIndices m ≡ false → badFloats m ≡ true → r ≡ wrote 27 0 → Answered m f r f
+  unfolding writeAnswer
+  refused-27 a b c = refused m f 26 r (rw (a, b, c) refl)
+
+  pub refused-29 : badLists m ≡ false → badIndices m ≡ false → badFloats m ≡ false → length f < fileLength m → r ≡ wrote 29 0 → Answered m f r f
+  unfolding writeAnswer
+  refused-29 a b c h = refused m f 28 r (rw (a, b, c) (rw (lt-ltb (length f) (fileLength m) h) refl))
+
+  pub done : badLists m ≡ false → badIndices m ≡ false → badFloats m ≡ false → fileLength m ≤ length f → r ≡ wrote 0 (fileLength m) → (g : List ℕ) → g ≡ over (fileOf m) f → Answered m f r g
+  unfolding writeAnswer writing written
+  done a b c h q g e = (rw q (rw (a, b, c) (rw (le-ltb (length f) (fileLength m) h) refl)), rw e (rw (a, b, c) (rw (le-ltb (length f) (fileLength m) h) refl)))
+
+-- ---- the three parts
+
+pub file-laid : (m : Mesh) (f₀ f₁ f₂ f₃ : List ℕ) → f₁ ≡ laid (each (vertexRecord (m .positions) (m .normals)) (vertexCount m)) 0 f₀
+    → f₂ ≡ laid (each (triangleRecord (m .indices)) (triangleCount m)) (32 * vertexCount m) f₁
+    → f₃ ≡ laid (closingRecord (vertexCount m) (triangleCount m)) (32 * vertexCount m + 32 * triangleCount m) f₂ → f₃ ≡ over (fileOf m) f₀
+unfolding fileOf
+file-laid m f₀ f₁ f₂ f₃ e₁ e₂ e₃ =
+    let v = each (vertexRecord (m .positions) (m .normals)) (vertexCount m) in
+    let t = each (triangleRecord (m .indices)) (triangleCount m) in
+    let c = closingRecord (vertexCount m) (triangleCount m) in
+    let nv : length v ≡ 32 * vertexCount m = each-length (vertexRecord (m .positions) (m .normals)) 32 (λ k. record-length _ _ _ _ _ _ _) (vertexCount m) in
+    let nt : length t ≡ 32 * triangleCount m = each-length (triangleRecord (m .indices)) 32 (λ k. record-length _ _ _ _ _ _ _) (triangleCount m) in
+    let p₂ : 32 * vertexCount m ≡ 0 + length v = omega arith in
+    let p₃ : 32 * vertexCount m + 32 * triangleCount m ≡ 0 + length (v ++ t) = omega (arith, length-append v t) in
+    let q₂ = laid-after v t 0 (32 * vertexCount m) f₀ f₁ f₂ p₂ zero-le e₁ e₂ in
+    let q₃ = laid-after (v ++ t) c 0 (32 * vertexCount m + 32 * triangleCount m) f₀ f₂ f₃ p₃ zero-le q₂ e₃ in
+    q₃ ∙ (ap (λ (x : List ℕ). laid x 0 f₀) (append-assoc v t c) ∙ sym (over-laid (v ++ (t ++ c)) f₀))

@@ -1,0 +1,57 @@
+-- Document 02, request 2: a mesh, and its file, byte by byte: "All vertices, then all triangles, then one closing record." Definitions only.
+-- Assumes nothing.
+use Prim.Native.Nat.{ℕ, _+_, _*_, _/_, _<_}
+use mathlib.Core.List.{List, [], _∷_, _++_}
+use lib.Dec.{T}
+use lib.ListN.{length, getD}
+use lib.Ieee.{Float, nan, binary32, toBits}
+use Rattle.mesh_file.specs.Record.{recordOf, each}
+unfoldable pub use Rattle.mesh_record.specs.Faults.{finite}
+
+-- flat lists, three numbers for each vertex and for each triangle
+pub record Mesh : Type 0 where
+  pub positions : List Float
+  pub normals : List Float
+  pub indices : List ℕ
+
+abbrev pub mesh : List Float → List Float → List ℕ → Mesh
+mesh p n i = record { positions = p; normals = n; indices = i }
+
+abbrev pub vertexCount : Mesh → ℕ
+vertexCount m = length (m .positions) / 3
+
+abbrev pub triangleCount : Mesh → ℕ
+triangleCount m = length (m .indices) / 3
+
+-- every float of a list is finite
+abbrev pub AllFinite : List Float → Type 0
+AllFinite xs = (i : ℕ) → i < length xs → T (finite (getD xs i nan))
+
+-- the word of the float at a place of a list
+abbrev pub bitsAt : List Float → ℕ → ℕ
+bitsAt xs i = toBits binary32 (getD xs i nan)
+
+-- "Vertex: 1, position, normal."
+abbrev pub vertexWords : List Float → List Float → ℕ → List ℕ
+vertexWords p n i = recordOf (1 ∷ bitsAt p i ∷ bitsAt p (i + 1) ∷ bitsAt p (i + 2) ∷ bitsAt n i ∷ bitsAt n (i + 1) ∷ bitsAt n (i + 2) ∷ [])
+
+abbrev pub vertexRecord : List Float → List Float → ℕ → List ℕ
+vertexRecord p n k = vertexWords p n (3 * k)
+
+-- "Triangle: 2, three indices, three zeros."
+abbrev pub triangleRecord : List ℕ → ℕ → List ℕ
+triangleRecord i k = recordOf (2 ∷ getD i (3 * k) 0 ∷ getD i (3 * k + 1) 0 ∷ getD i (3 * k + 2) 0 ∷ 0 ∷ 0 ∷ 0 ∷ [])
+
+-- "Closing: 3, vertex count, triangle count, four zeros."
+abbrev pub closingRecord : ℕ → ℕ → List ℕ
+closingRecord v t = recordOf (3 ∷ v ∷ t ∷ 0 ∷ 0 ∷ 0 ∷ 0 ∷ [])
+
+-- "All vertices, then all triangles, then one closing record."
+unfoldable pub fileOf : Mesh → List ℕ
+fileOf m =
+    each (vertexRecord (m .positions) (m .normals)) (vertexCount m)
+    ++ (each (triangleRecord (m .indices)) (triangleCount m)
+    ++ closingRecord (vertexCount m) (triangleCount m))
+
+abbrev pub fileLength : Mesh → ℕ
+fileLength m = 32 * (vertexCount m + triangleCount m + 1)

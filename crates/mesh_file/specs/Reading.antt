@@ -1,0 +1,94 @@
+-- Document 02, request 2: the reader goes "record by record and the first fault answers, in one record the lowest number". Definitions only.
+-- Assumes nothing.
+use Prim.Native.Nat.{ℕ, zero, suc, _+_, _*_, _/_, _<_}
+use mathlib.Core.Bool.{Bool, _||_, cond}
+use mathlib.Core.List.{List, [], _∷_}
+use lib.Dec.{T, ltb}
+use lib.ListN.{length}
+use lib.Ieee.{Float, binary32, ofBits}
+use Rattle.rules.specs.Lists.{over}
+unfoldable pub use Rattle.mesh_record.specs.Faults.{badSum, badKind, badZero, badCounts, badIndex, badFloat, badEnd, faultOf, stepAt}
+pub use Rattle.mesh_record.specs.Faults.{wordsAt, cut, allZero, finiteBits, threeFinite, goodStep, stepOf, seen}
+use Rattle.mesh_file.specs.Record.{wordAt, each}
+use Rattle.mesh_file.specs.Mesh.{Mesh, mesh}
+use Rattle.mesh_record.specs.declared.Step.{Step}
+use Rattle.mesh_record.specs.declared.Step.the-variants.{Vertex, Triangle, Closed, Refused}
+use Rattle.mesh_file.specs.declared.Read.{Read}
+
+-- ---- the whole file
+
+-- how far reading has come: so many vertices and triangles so far, the whole mesh, or a fault
+pub data Progress : Type 0 where
+  reading : ℕ → ℕ → Progress
+  whole : ℕ → ℕ → Progress
+  refused : ℕ → Progress
+
+abbrev pub counted : Step → ℕ → ℕ → Progress
+counted Vertex v t = reading (suc v) t
+counted Triangle v t = reading v (suc t)
+counted Closed v t = whole v t
+counted (Refused n) v t = refused n
+
+abbrev pub further : List ℕ → ℕ → Progress → Progress
+further f k (reading v t) = counted (stepAt f (32 * k) (seen v t)) v t
+further f k (whole v t) = whole v t
+further f k (refused n) = refused n
+
+-- after the first k records
+unfoldable pub after : List ℕ → ℕ → Progress
+after f zero = reading 0 0
+after f (suc k) = further f k (after f k)
+
+-- "It goes record by record and the first fault answers": a file has no more records than this, and one past them is cut
+unfoldable pub readOf : List ℕ → Progress
+readOf f = after f (suc (length f / 32))
+
+-- ---- the reader's answer, and the lent lists afterwards
+
+abbrev pub readAnswer : ℕ → ℕ → ℕ → Read
+readAnswer n v t = record { answer = n; vertices = v; triangles = t }
+
+abbrev pub checked : Progress → Read
+checked (reading v t) = readAnswer 21 0 0
+checked (whole v t) = readAnswer 0 v t
+checked (refused n) = readAnswer n 0 0
+
+-- "last of all, 29 lent room too short"
+abbrev pub shortRoom : ℕ → ℕ → Mesh → Bool
+shortRoom v t s = ltb (length (s .positions)) (3 * v) || (ltb (length (s .normals)) (3 * v) || ltb (length (s .indices)) (3 * t))
+
+abbrev pub readingIn : Progress → Mesh → Read
+readingIn (reading v t) s = readAnswer 21 0 0
+readingIn (whole v t) s = cond (shortRoom v t s) (readAnswer 29 0 0) (readAnswer 0 v t)
+readingIn (refused n) s = readAnswer n 0 0
+
+-- three floats, and three numbers, from a place on
+abbrev pub floatsAt : List ℕ → ℕ → List Float
+floatsAt f at = ofBits binary32 (wordAt f at) ∷ ofBits binary32 (wordAt f (at + 4)) ∷ ofBits binary32 (wordAt f (at + 8)) ∷ []
+
+abbrev pub numbersAt : List ℕ → ℕ → List ℕ
+numbersAt f at = wordAt f at ∷ wordAt f (at + 4) ∷ wordAt f (at + 8) ∷ []
+
+-- the three floats at a place of each of the first v records are finite
+abbrev pub FiniteFloats : List ℕ → ℕ → ℕ → Type 0
+FiniteFloats f first v = (k : ℕ) → k < v → T (finiteBits (wordAt f (32 * k + first))) × T (finiteBits (wordAt f (32 * k + first + 4))) × T (finiteBits (wordAt f (32 * k + first + 8)))
+
+-- the floats at a place of each of the first v records, and the indices of the t records after them
+unfoldable pub floatsOf : List ℕ → ℕ → ℕ → List Float
+floatsOf f first v = each (λ k. floatsAt f (32 * k + first)) v
+
+unfoldable pub indicesOf : List ℕ → ℕ → ℕ → List ℕ
+indicesOf f v t = each (λ k. numbersAt f (32 * (v + k) + 4)) t
+
+-- the mesh of a file with so many vertices and triangles
+unfoldable pub meshIn : List ℕ → ℕ → ℕ → Mesh
+meshIn f v t = mesh (floatsOf f 4 v) (floatsOf f 16 v) (indicesOf f v t)
+
+abbrev pub overMesh : Mesh → Mesh → Mesh
+overMesh new old = mesh (over (new .positions) (old .positions)) (over (new .normals) (old .normals)) (over (new .indices) (old .indices))
+
+-- "A refusal writes nothing": the lent lists afterwards
+abbrev pub filledIn : List ℕ → Progress → Mesh → Mesh
+filledIn f (reading v t) s = s
+filledIn f (whole v t) s = cond (shortRoom v t s) s (overMesh (meshIn f v t) s)
+filledIn f (refused n) s = s

@@ -1,0 +1,108 @@
+// Reads the mesh file that each argument names, or standard input where there is none, and prints one line for it: its counts, the
+// number that it is refused with, or that it is longer than 65,536 bytes (document 02, request 2).
+ghost use mathlib.Core.Path.{_≡_};
+ghost use Prim.Native.Nat.{_≤_};
+ghost use lib.ListN.{length};
+ghost use Rattle.io.specs.Counts.{Counts};
+ghost use Rattle.mesh_file.specs.Reading.{checked, readOf};
+use libc::STDIN_FILENO;
+use libc::STDOUT_FILENO;
+
+struct Got {
+    bytes: usize,
+    failed: bool,
+}
+
+// All that there is to read, up to the buffer's length.
+fn read_all(fd: i32, buf: &mut [u8]) -> Got
+    ensures { λ r. ⌜ Counts (r .bytes) (now (buf .exit)) ⌝ }
+{
+    let mut n = 0;
+    while n < buf.len() {
+        let got = libc::read(fd, &mut buf[n..]);
+        if got < 0 {
+            return Got {
+                bytes: n,
+                failed: true,
+            };
+        }
+        let more = io::count(got, &buf[n..]);
+        if more == 0 {
+            return Got {
+                bytes: n,
+                failed: false,
+            };
+        }
+        n += more;
+    }
+    Got {
+        bytes: n,
+        failed: false,
+    }
+}
+
+// A file of 65,536 bytes has at most 2,047 vertices or triangles, so the room is never too short.
+fn answer_for(file: &[u8]) -> mesh_file::Read
+    requires { ⌜ length (now file) ≤ 65536 ⌝ }
+    ensures { λ r. ⌜ r ≡ checked (readOf (now (file .entry))) ⌝ }
+{
+    let mut positions = [0.0f32; 6141];
+    let mut normals = [0.0f32; 6141];
+    let mut indices = [0u32; 6141];
+    mesh_file::read_mesh(file, &mut positions, &mut normals, &mut indices)
+}
+
+fn print(text: &[u8]) {
+    io::write_all(STDOUT_FILENO, text);
+}
+
+fn print_answer(read: mesh_file::Read) {
+    if read.answer == 0 {
+        print(b"vertices ");
+        io::print_decimal(STDOUT_FILENO, read.vertices as u64);
+        print(b" triangles ");
+        io::print_decimal(STDOUT_FILENO, read.triangles as u64);
+    } else {
+        print(b"refused ");
+        io::print_decimal(STDOUT_FILENO, read.answer as u64);
+    }
+    print(b"\n");
+}
+
+fn report(fd: i32) {
+    let mut file = [0u8; 65537];
+    let got = read_all(fd, &mut file);
+    if got.failed {
+        print(b"cannot read\n");
+        return;
+    }
+    let n = got.bytes;
+    if n > 65536 {
+        print(b"too long\n");
+        return;
+    }
+    print_answer(answer_for(&file[..n]));
+}
+
+fn report_argument(i: usize) {
+    let mut path = io::buffer();
+    let n = os::arg(i, &mut path);
+    let fd = os::open_read(&path[..n]);
+    if fd < 0 {
+        print(b"cannot open\n");
+        return;
+    }
+    report(fd);
+    libc::close(fd);
+}
+
+fn main() {
+    let arguments = os::arg_count();
+    if arguments < 2 {
+        report(STDIN_FILENO);
+        return;
+    }
+    for i in 1..arguments {
+        report_argument(i);
+    }
+}

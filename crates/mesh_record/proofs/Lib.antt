@@ -1,0 +1,8 @@
+-- The laws that belong to no one function.
+pub mod Either
+pub mod Numbers
+pub mod OneWord
+pub mod Laying
+pub mod Recording
+pub mod OneStep
+pub mod Told

@@ -55,6 +55,7 @@ extern "C" {
         max_y: u32,
         max_z: u32,
         enclosed: *mut bool,
+    ) -> u32;
 
     /// Writes the file of a mesh into lent bytes and returns the answer number: 0, 26, 27, 29 or 30.
     ///

@@ -1,6 +1,6 @@
 // One bench grid: the lists are marked, the library is called, and what it answered is printed with what became of the marks.
 ghost use Prim.Native.Nat.{_≤_};
-use crate::marks;
+use crate::map;
 use crate::said;
 use grid::Extent;
 use surface_nets::Answer;
@@ -47,6 +47,17 @@ fn least(a: usize, b: usize) -> usize
     if a < b { a } else { b }
 }
 
+// As much of a list as is lent.
+fn lent_floats(list: &mut [f32], length: usize) -> &mut [f32] {
+    let n = least(length, list.len());
+    &mut list[0..n]
+}
+
+fn lent_words(list: &mut [u32], length: usize) -> &mut [u32] {
+    let n = least(length, list.len());
+    &mut list[0..n]
+}
+
 // How many vertices or indices an answer 0 writes, cut down to a hundred, which no list here can hold.
 fn written(number: u32, count: u64) -> usize
     ensures { λ r. ⌜ r ≤ 100 ⌝ }
@@ -60,11 +71,11 @@ fn written(number: u32, count: u64) -> usize
     count as usize
 }
 
-fn is_map_kept(map: &[u32], call: Call, number: u32) -> bool {
+fn is_map_kept(list: &[u32], call: Call, number: u32) -> bool {
     if number != 0 {
-        return marks::words_kept(map, 0, MAP);
+        return marks::words_kept(list, 0, MAP);
     }
-    marks::map_kept(map, call, MAP)
+    map::map_kept(list, call, MAP)
 }
 
 // The lists hold marks past what an answer 0 writes, and a refusal left them all.
@@ -98,11 +109,36 @@ fn kept(
     marks::words_kept(indices, i, INDICES)
 }
 
-fn show_mesh(a: Answer, positions: &[f32; 27], strides: &[u32], indices: &[u32]) {
+fn show_mesh(a: Answer, positions: &[f32], strides: &[u32], indices: &[u32]) {
     said::words(b"    strides", strides, written(a.number, a.vertex_count));
     said::words(b"    indices", indices, written(a.number, a.index_count));
-    said::point(b"    vertex 0", positions[0], positions[1], positions[2]);
-    said::point(b"    vertex 1", positions[3], positions[4], positions[5]);
+    said::point(b"    vertex 0", positions, 0);
+    said::point(b"    vertex 1", positions, 1);
+}
+
+fn show_vertex(positions: &[f32], normals: &[f32]) {
+    said::point(b"    position", positions, 0);
+    said::point(b"    normal", normals, 0);
+}
+
+fn show_indices(a: Answer, indices: &[u32]) {
+    said::words(b"    indices", indices, written(a.number, a.index_count));
+}
+
+fn show_more(
+    what: Show,
+    a: Answer,
+    positions: &[f32],
+    normals: &[f32],
+    strides: &[u32],
+    indices: &[u32],
+) {
+    match what {
+        Show::Counts => {}
+        Show::Mesh => show_mesh(a, positions, strides, indices),
+        Show::Indices => show_indices(a, indices),
+        Show::Vertex => show_vertex(positions, normals),
+    }
 }
 
 // The call itself, on as much of the lists as the room says.
@@ -117,25 +153,22 @@ fn mesh(
     map: &mut [u32],
     indices: &mut [u32],
 ) -> Answer {
-    let p = least(room.positions, positions.len());
-    let m = least(room.map, map.len());
-    let i = least(room.indices, indices.len());
     surface_nets::surface_nets(
         sdf,
         call.dims,
         call.low,
         call.high,
         call.max_plane,
-        &mut positions[0..p],
+        lent_floats(positions, room.positions),
         normals,
         cells,
         strides,
-        &mut map[0..m],
-        &mut indices[0..i],
+        lent_words(map, room.map),
+        lent_words(indices, room.indices),
     )
 }
 
-pub fn case(name: &[u8], sdf: &[f32], call: Call, room: Room, show: Show) {
+pub fn case(name: &[u8], sdf: &[f32], call: Call, room: Room, what: Show) {
     let mut positions = [0.0f32; 27];
     let mut normals = [0.0f32; 27];
     let mut cells = [0u32; 27];
@@ -159,27 +192,16 @@ pub fn case(name: &[u8], sdf: &[f32], call: Call, room: Room, show: Show) {
         &mut map,
         &mut indices,
     );
-    said::answer(
-        name,
+    let is_kept = kept(
         a,
-        kept(
-            a,
-            call,
-            &positions,
-            &normals,
-            &cells,
-            &strides,
-            &map,
-            &indices,
-        ),
+        call,
+        &positions,
+        &normals,
+        &cells,
+        &strides,
+        &map,
+        &indices,
     );
-    match show {
-        Show::Counts => {}
-        Show::Mesh => show_mesh(a, &positions, &strides, &indices),
-        Show::Indices => said::words(b"    indices", &indices, written(a.number, a.index_count)),
-        Show::Vertex => {
-            said::point(b"    position", positions[0], positions[1], positions[2]);
-            said::point(b"    normal", normals[0], normals[1], normals[2]);
-        }
-    }
+    said::answer(name, a, is_kept);
+    show_more(what, a, &positions, &normals, &strides, &indices);
 }

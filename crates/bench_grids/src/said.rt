@@ -42,23 +42,29 @@ fn blanks(line: &[u8], used: usize) {
     }
 }
 
-pub fn answer(label: &[u8], a: Answer, is_kept: bool) {
-    name(label);
-    text(b"answer ");
-    number(a.number as u64);
-    text(b", V ");
-    number(a.vertex_count);
-    text(b", I ");
-    number(a.index_count);
+fn counted(label: &[u8], n: u64) {
+    text(label);
+    number(n);
+}
+
+fn rest(is_kept: bool, is_done: bool) {
     if !is_kept {
         text(b", CHANGED\n");
         return;
     }
-    if a.number == 0 {
+    if is_done {
         text(b", rest kept\n");
     } else {
         text(b", all kept\n");
     }
+}
+
+pub fn answer(label: &[u8], a: Answer, is_kept: bool) {
+    name(label);
+    counted(b"answer ", a.number as u64);
+    counted(b", V ", a.vertex_count);
+    counted(b", I ", a.index_count);
+    rest(is_kept, a.number == 0);
 }
 
 // The first `count` numbers of a list.
@@ -72,27 +78,25 @@ pub fn words(label: &[u8], list: &[u32], count: usize) {
     text(b"\n");
 }
 
-// The bits of a float that is a number.
-fn bits(x: f32) -> u32 {
-    if x != x {
-        return 0;
-    }
-    f32::to_bits(x)
-}
-
+// A float's bits, or a word for not-a-number, which has no one pattern.
 fn float(x: f32) {
     if x != x {
         text(b" nan");
         return;
     }
     text(b" ");
-    io::print_hex(STDOUT_FILENO, bits(x) as u64, 8);
+    io::print_hex(STDOUT_FILENO, marks::bits(x) as u64, 8);
 }
 
-pub fn point(label: &[u8], x: f32, y: f32, z: f32) {
+// The v-th three floats of a list.
+pub fn point(label: &[u8], list: &[f32], v: usize) {
     text(label);
-    float(x);
-    float(y);
-    float(z);
+    let mut j = 0;
+    while j < list.len() {
+        if j / 3 == v {
+            float(list[j]);
+        }
+        j += 1;
+    }
     text(b"\n");
 }

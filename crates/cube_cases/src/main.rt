@@ -7,14 +7,6 @@ fn text(s: &[u8]) {
     io::write_all(STDOUT_FILENO, s);
 }
 
-// The bits of a float that is a number.
-fn bits(x: f32) -> u32 {
-    if x != x {
-        return 0;
-    }
-    f32::to_bits(x)
-}
-
 fn hex(n: u32) {
     io::print_hex(STDOUT_FILENO, n as u64, 8);
 }
@@ -25,7 +17,7 @@ fn float(x: f32) {
     if x != x {
         text(b"nan");
     } else {
-        hex(bits(x));
+        hex(marks::bits(x));
     }
 }
 

@@ -1,4 +1,4 @@
--- Document 01, "What a claim has to settle": "Show that two outcomes that fit are equal". For each public function of grid, step, surface_nets and bed
+-- Document 01, "What a claim has to settle": "Show that two outcomes that fit are equal". For each public function of marks, grid, judge, step, surface_nets and bed
 -- one outcome alone fits the contract: the result, and every list behind a `&mut` afterwards, refused calls too. Those of cube stand in
 -- its own proofs/Unique. Assumes nothing.
 use mathlib.Core.Path.{_≡_, _∙_, sym}
@@ -42,6 +42,18 @@ use Rattle.grid.proofs.scan.bad_layer.Kinds as bad-layer-kinds
 use Rattle.grid.proofs.scan.bad_layer.Reads as bad-layer
 use Rattle.grid.proofs.scan.bad_distance.Kinds as bad-distance-kinds
 use Rattle.grid.proofs.scan.bad_distance.Reads as bad-distance
+use Rattle.marks.proofs.bits.Kinds as bits-kinds
+use Rattle.marks.proofs.bits.Reads as bits
+use Rattle.marks.proofs.mark_words.Kinds as mark-words-kinds
+use Rattle.marks.proofs.mark_words.Reads as mark-words
+use Rattle.marks.proofs.mark_floats.Kinds as mark-floats-kinds
+use Rattle.marks.proofs.mark_floats.Reads as mark-floats
+use Rattle.marks.proofs.words_kept.Kinds as words-kept-kinds
+use Rattle.marks.proofs.words_kept.Reads as words-kept
+use Rattle.marks.proofs.floats_kept.Kinds as floats-kept-kinds
+use Rattle.marks.proofs.floats_kept.Reads as floats-kept
+use Rattle.judge.proofs.answer_for.Kinds as answer-for-kinds
+use Rattle.judge.proofs.answer_for.Reads as answer-for
 use Rattle.step.proofs.mesh_cell.Kinds as mesh-cell-kinds
 use Rattle.step.proofs.mesh_cell.Reads as mesh-cell
 use Rattle.surface_nets.proofs.surface_nets.Kinds as surface-nets-kinds
@@ -110,6 +122,29 @@ bad-layer-once κs a o o' l l' = let s = l ∙ sym l' in λ i. record { result =
 
 pub bad-distance-once : OneOutcome 1 bad-distance-kinds.ps bad-distance-kinds.r bad-distance.Learnt
 bad-distance-once κs a o o' l l' = let s = l ∙ sym l' in λ i. record { result = s i; last = o .last }
+
+-- the answer alone
+pub answer-for-once : OneOutcome 1 answer-for-kinds.ps answer-for-kinds.r answer-for.Learnt
+answer-for-once κs a o o' l l' =
+    let s = l ∙ sym l' in
+    λ i. record { result = record { number = s i .number; «vertex_count» = s i .vertices; «index_count» = s i .indices }; last = o .last }
+
+-- ---- the marks of the test programs
+
+pub bits-once : OneOutcome 0 bits-kinds.ps bits-kinds.r bits.Learnt
+bits-once κs a o o' l l' = let s = l ∙ sym l' in λ i. record { result = s i; last = o .last }
+
+pub words-kept-once : OneOutcome 1 words-kept-kinds.ps words-kept-kinds.r words-kept.Learnt
+words-kept-once κs a o o' l l' = let s = l ∙ sym l' in λ i. record { result = s i; last = o .last }
+
+pub floats-kept-once : OneOutcome 1 floats-kept-kinds.ps floats-kept-kinds.r floats-kept.Learnt
+floats-kept-once κs a o o' l l' = let s = l ∙ sym l' in λ i. record { result = s i; last = o .last }
+
+pub mark-words-once : OneOutcome 1 mark-words-kinds.ps mark-words-kinds.r mark-words.Learnt
+mark-words-once κs a o o' l l' = let s = l ∙ sym l' in λ i. record { result = tt; last = (s i, (tt, tt)) }
+
+pub mark-floats-once : OneOutcome 1 mark-floats-kinds.ps mark-floats-kinds.r mark-floats.Learnt
+mark-floats-once κs a o o' l l' = let s = l ∙ sym l' in λ i. record { result = tt; last = (s i, (tt, tt)) }
 
 -- ---- with lent lists
 

@@ -6,7 +6,8 @@ use lib.Ieee.{Float}
 use contract.Lifetimes.{Lfts}
 use borrow.Fn.Kinds.{Dens}
 use Rattle.grid.specs.declared.Extent.{Extent}
-use Rattle.surface_nets.specs.Reading.{answerOf, buffers, callMade}
+use Rattle.judge.specs.Reading.{answerOf}
+use Rattle.surface_nets.specs.Reading.{buffers, callMade}
 use Rattle.bed.specs.Boundary.{extent, said}
 use Rattle.promises.specs.Served.{Served}
 use Rattle.promises.proofs.OneOutcome.{Outcome, FitsContract}

@@ -9,56 +9,50 @@ mod said;
 mod stored;
 mod tally;
 
-use stored::LONGEST_FILE;
-use stored::Parsed;
+use call::Replayed;
 use tally::Outcome;
 
+// Whether the file goes on.
+fn goes_on(fd: i32) -> bool {
+    let mut one = [0u8; 1];
+    io::read_full(fd, &mut one) != 0
+}
+
 // Call after call, to the end of the file, which must come right after the last.
-fn replay(file: &[u8]) -> Outcome {
-    if file.len() < 4 {
-        return Outcome::Cut(0);
-    }
-    let calls = list::number(file, 0);
+fn replay(fd: i32, calls: u32) -> Outcome {
     let mut tally = tally::NONE;
-    let mut at = 4usize;
     let mut done = 0u32;
     while done < calls {
-        match stored::parse(file, at) {
-            Parsed::Cut => return Outcome::Cut(done),
-            Parsed::Malformed => return Outcome::Malformed(done),
-            Parsed::Call(s) => {
-                tally = tally::counted(tally, call::replay(file, s));
-                at = s.next;
-            }
+        match call::replay(fd) {
+            Replayed::Cut => return Outcome::Cut(done),
+            Replayed::Malformed => return Outcome::Malformed(done),
+            Replayed::Compared(d) => tally = tally::counted(tally, d),
         }
         done += 1;
     }
-    if at != file.len() {
+    if goes_on(fd) {
         return Outcome::LeftOver;
     }
     Outcome::Done(calls, tally)
 }
 
-// One byte more than the longest file is read, so that a longer one is seen.
-fn replay_open(name: &[u8], fd: i32) {
-    let mut file = [0u8; 262145];
-    let n = io::read_full(fd, &mut file);
-    said::name(name);
-    if LONGEST_FILE < n {
-        said::text(b"longer than 262,144 bytes, not replayed\n");
-        return;
+// The first number is that of the calls.
+fn replay_open(fd: i32) -> Outcome {
+    let mut first = [0u8; 4];
+    if !list::read(fd, 1, &mut first) {
+        return Outcome::Cut(0);
     }
-    said::outcome(replay(&file[..n]));
+    replay(fd, list::number(&first, 0))
 }
 
 fn replay_file(name: &[u8]) {
     let fd = os::open_read(name);
+    said::name(name);
     if fd < 0 {
-        said::name(name);
         said::text(b"cannot be opened\n");
         return;
     }
-    replay_open(name, fd);
+    said::outcome(replay_open(fd));
     libc::close(fd);
 }
 

@@ -1,114 +1,46 @@
-// A stored call: where its lists stand in the file, and what it must answer.
-ghost use Prim.Native.Nat.{_+_, _≤_};
+// A stored call, read from an open file: what is asked, and what it must answer.
 use crate::list::number;
-use crate::list::part;
+use crate::list::read;
 use grid::Extent;
 
-// A list of numbers: its first byte in the file, and its length in numbers.
-pub struct Place {
-    pub at: usize,
-    pub length: usize,
-}
-
-// The six lent buffers as they must be after the call; `end` is the byte after the last.
-pub struct Buffers {
-    pub positions: Place,
-    pub normals: Place,
-    pub cells: Place,
-    pub strides: Place,
-    pub map: Place,
-    pub indices: Place,
-    pub end: usize,
-}
-
-pub struct Stored {
+// What stands before the distances; `grid` is their number.
+pub struct Asked {
     pub dims: Extent,
     pub low: Extent,
     pub high: Extent,
     pub max_plane: bool,
-    pub grid: Place,
+    pub grid: usize,
+}
+
+// What stands after the distances: the length of each lent list, and what is answered. The lists as they must be follow.
+pub struct Expected {
+    pub positions: usize,
+    pub normals: usize,
+    pub cells: usize,
+    pub strides: usize,
+    pub map: usize,
+    pub indices: usize,
     pub answer: u32,
-    pub vertices: u32,
-    pub indices: u32,
-    pub buffers: Buffers,
-    pub next: usize,
+    pub vertex_count: u32,
+    pub index_count: u32,
 }
 
 // Malformed: a max plane that is neither 0 nor 1, or a list that is too long.
-pub enum Parsed {
-    Call(Stored),
+pub enum Head {
+    Call(Asked),
     Cut,
     Malformed,
 }
 
-// No file is longer than 262,144 bytes, no grid than 256 numbers and no buffer than 512.
-pub const LONGEST_FILE: usize = 262144;
-
-const LONGEST_GRID: usize = 256;
-
-const LONGEST_BUFFER: usize = 512;
-
-// A length, cut down to 513: one that is too long stays so, and what is made of it stays small.
-fn length_at(list: &[u8], j: usize) -> usize
-    ensures { λ r. ⌜ r ≤ 513 ⌝ }
-{
-    let n = number(list, j) as usize;
-    if LONGEST_BUFFER < n {
-        return LONGEST_BUFFER + 1;
-    }
-    n
+pub enum Tail {
+    Answer(Expected),
+    Cut,
+    Malformed,
 }
 
-// The buffers stand one after the other from `at` on; their lengths are the first six numbers of `tail`. The bound on `at`, here and below,
-// only keeps sums from wrapping.
-fn buffers_from(tail: &[u8], at: usize) -> Buffers
-    requires { ⌜ at ≤ 400000 ⌝ }
-    ensures { λ r. ⌜ (at ≤ r .end) × (r .end ≤ at + 12312) ⌝ }
-{
-    let p = length_at(tail, 0);
-    let n = length_at(tail, 1);
-    let c = length_at(tail, 2);
-    let s = length_at(tail, 3);
-    let m = length_at(tail, 4);
-    let i = length_at(tail, 5);
-    let normals = at + 4 * p;
-    let cells = normals + 4 * n;
-    let strides = cells + 4 * c;
-    let map = strides + 4 * s;
-    let indices = map + 4 * m;
-    Buffers {
-        positions: place_of(at, p),
-        normals: place_of(normals, n),
-        cells: place_of(cells, c),
-        strides: place_of(strides, s),
-        map: place_of(map, m),
-        indices: place_of(indices, i),
-        end: indices + 4 * i,
-    }
-}
+const LONGEST_GRID: u32 = 256;
 
-fn place_of(at: usize, length: usize) -> Place {
-    Place { at, length }
-}
-
-fn is_too_long(b: Buffers) -> bool {
-    if LONGEST_BUFFER < b.positions.length {
-        return true;
-    }
-    if LONGEST_BUFFER < b.normals.length {
-        return true;
-    }
-    if LONGEST_BUFFER < b.cells.length {
-        return true;
-    }
-    if LONGEST_BUFFER < b.strides.length {
-        return true;
-    }
-    if LONGEST_BUFFER < b.map.length {
-        return true;
-    }
-    LONGEST_BUFFER < b.indices.length
-}
+const LONGEST_LIST: u32 = 512;
 
 fn corner(head: &[u8], x: usize, y: usize, z: usize) -> Extent {
     Extent {
@@ -118,52 +50,63 @@ fn corner(head: &[u8], x: usize, y: usize, z: usize) -> Extent {
     }
 }
 
-// What follows the grid: six lengths, the answer, V and I, then the buffers.
-fn parse_rest(file: &[u8], head: &[u8], grid: Place, at: usize) -> Parsed
-    requires { ⌜ at ≤ 300000 ⌝ }
-{
-    let tail = part(file, at, 9);
-    if tail.len() < 36 {
-        return Parsed::Cut;
-    }
-    let buffers = buffers_from(tail, at + 36);
-    if is_too_long(buffers) {
-        return Parsed::Malformed;
-    }
-    let next = buffers.end;
-    if file.len() < next {
-        return Parsed::Cut;
-    }
-    Parsed::Call(Stored {
+fn asked_in(head: &[u8]) -> Asked {
+    Asked {
         dims: corner(head, 0, 1, 2),
         low: corner(head, 3, 4, 5),
         high: corner(head, 6, 7, 8),
         max_plane: number(head, 9) == 1,
-        grid,
-        answer: number(tail, 6),
-        vertices: number(tail, 7),
-        indices: number(tail, 8),
-        buffers,
-        next,
-    })
+        grid: number(head, 10) as usize,
+    }
 }
 
-// The call that stands at byte `at` of the file.
-pub fn parse(file: &[u8], at: usize) -> Parsed {
-    if LONGEST_FILE < at {
-        return Parsed::Cut;
+pub fn read_head(fd: i32) -> Head {
+    let mut head = [0u8; 44];
+    if !read(fd, 11, &mut head) {
+        return Head::Cut;
     }
-    let head = part(file, at, 11);
-    if head.len() < 44 {
-        return Parsed::Cut;
+    if 1 < number(&head, 9) {
+        return Head::Malformed;
     }
-    if 1 < number(head, 9) {
-        return Parsed::Malformed;
+    if LONGEST_GRID < number(&head, 10) {
+        return Head::Malformed;
     }
-    let n = length_at(head, 10);
-    if LONGEST_GRID < n {
-        return Parsed::Malformed;
+    Head::Call(asked_in(&head))
+}
+
+fn expected_in(tail: &[u8]) -> Expected {
+    Expected {
+        positions: number(tail, 0) as usize,
+        normals: number(tail, 1) as usize,
+        cells: number(tail, 2) as usize,
+        strides: number(tail, 3) as usize,
+        map: number(tail, 4) as usize,
+        indices: number(tail, 5) as usize,
+        answer: number(tail, 6),
+        vertex_count: number(tail, 7),
+        index_count: number(tail, 8),
     }
-    let grid = place_of(at + 44, n);
-    parse_rest(file, head, grid, at + 44 + 4 * n)
+}
+
+// Whether one of the six lengths is too long.
+fn too_long(tail: &[u8]) -> bool {
+    let mut j = 0usize;
+    while j < 6 {
+        if LONGEST_LIST < number(tail, j) {
+            return true;
+        }
+        j += 1;
+    }
+    false
+}
+
+pub fn read_tail(fd: i32) -> Tail {
+    let mut tail = [0u8; 36];
+    if !read(fd, 9, &mut tail) {
+        return Tail::Cut;
+    }
+    if too_long(&tail) {
+        return Tail::Malformed;
+    }
+    Tail::Answer(expected_in(&tail))
 }

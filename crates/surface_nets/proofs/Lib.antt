@@ -1,5 +1,5 @@
--- Laws of the call: that the cells' turns, one after the other, leave what document 01 says, that every step finds what it needs, and what the
--- answer says.
+-- Laws of the call: that the cells' turns, one after the other, leave what document 01 says, that every step finds what it needs, and what an
+-- answer of 0 says.
 pub mod Folds
 pub mod Stores
 pub mod Ascending
@@ -11,4 +11,4 @@ pub mod Faces
 pub mod Steps
 pub mod Reading
 pub mod CellRead
-pub mod Judging
+pub mod Done

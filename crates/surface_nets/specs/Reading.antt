@@ -1,27 +1,17 @@
--- The call's structs as the rules have them. Definitions only. Assumes nothing.
+-- The call's arguments as the rules have them. Definitions only. Assumes nothing.
 use Prim.Native.Nat.{ℕ}
 use mathlib.Core.Bool.{Bool}
 use mathlib.Core.List.{List}
 use lib.Ieee.{Float}
-use Rattle.rules.specs.Call.{Answer, Buffers, Room, Call}
+use Rattle.rules.specs.Call.{Buffers, Call}
 use Rattle.rules.specs.Faces.{allThree}
 use Rattle.grid.specs.declared.Extent.{Extent}
 use Rattle.grid.specs.declared.Block.{Block}
 use Rattle.grid.specs.Block.{callOf}
-use Rattle.surface_nets.specs.declared.Answer.{Answer as Said}
-use Rattle.surface_nets.specs.declared.judge.Lengths.{Lengths}
-
--- document 01's number and counts
-abbrev pub answerOf : Said → Answer
-answerOf a = record { number = a .number; vertices = a .«vertex_count»; indices = a .«index_count» }
 
 abbrev pub buffers : List Float → List Float → List ℕ → List ℕ → List ℕ → List ℕ → Buffers
 buffers positions normals cells strides map indices =
     record { positions = positions; normals = normals; cells = cells; strides = strides; map = map; indices = indices }
-
--- the lengths of the lent lists
-abbrev pub roomOf : Lengths → Room
-roomOf r = record { positions = r .positions; normals = r .normals; cells = r .cells; strides = r .strides; map = r .map; indices = r .indices }
 
 -- the block of a call: document 01's yes/no sets all three flags
 abbrev pub blockOf : Extent → Extent → Extent → Bool → Block

@@ -2,22 +2,17 @@
 // writes each surface cell's vertex and, right after it, its faces.
 ghost use mathlib.Core.Path.{_≡_};
 ghost use Rattle.rules.specs.Call.{answer, afterwards, room};
-ghost use Rattle.surface_nets.specs.Reading.{answerOf, buffers, callMade};
+ghost use Rattle.judge.specs.Reading.{answerOf};
+ghost use Rattle.surface_nets.specs.Reading.{buffers, callMade};
 
-mod judge;
 mod passes;
 
 use grid::Block;
 use grid::Extent;
 use grid::MaxPlane;
+pub use judge::Answer;
 use judge::Lengths;
 use step::Made;
-// Document 01's answer number with V and I.
-pub struct Answer {
-    pub number: u32,
-    pub vertex_count: u64,
-    pub index_count: u64,
-}
 
 // Extracts the surface of the distances in the box from `low` to `high`, both corners included, of a grid of dimensions `dims`.
 // Positions and normals take three floats a vertex, cells three numbers, strides one; the map one for each number of the grid.

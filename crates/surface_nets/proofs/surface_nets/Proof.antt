@@ -8,7 +8,7 @@ use Rattle.grid.specs.Block.{callOf}
 use Rattle.step.specs.Turns.{Lent}
 use Rattle.surface_nets.specs.Reading.{buffers, blockOf}
 use Rattle.surface_nets.proofs.Reading.{pass-writes}
-use Rattle.surface_nets.proofs.Judging.{done-inside, done-roomy}
+use Rattle.surface_nets.proofs.Done.{done-inside, done-roomy}
 use borrow.Author.Needs.{needs}
 use Rattle.surface_nets.proofs.surface_nets.Statement.{statement}
 use Rattle.surface_nets.proofs.surface_nets.Tie as tie

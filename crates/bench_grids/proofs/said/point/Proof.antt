@@ -1,0 +1,63 @@
+-- `bench_grids::said::point` is safe and ends: the index is at most the length. Assumes nothing.
+use Prim.Native.Nat.{_≤_, _-_}
+use lib.ListN.{length}
+use borrow.Author.Needs.{needs}
+use Rattle.bench_grids.proofs.said.point.Statement.{statement}
+use Rattle.bench_grids.proofs.said.point.Tie as tie
+
+abbrev Inv-loop : tie.InvT-loop
+Inv-loop label list v j₀ t5 j = j ≤ length list
+
+abbrev μ-loop : tie.MeasureT-loop
+μ-loop label list v j₀ t5 j = length list - j
+
+text-requires : tie.Need-text-requires Inv-loop μ-loop
+text-requires c κs = search needs
+
+loop-holds : tie.Need-loop-holds Inv-loop μ-loop
+loop-holds c = search needs
+
+mul-float : tie.Need-mul-float Inv-loop μ-loop
+mul-float c = search needs
+
+shared-slice-read-float : tie.Need-shared-slice-read-float Inv-loop μ-loop
+shared-slice-read-float c = search needs
+
+float-requires : tie.Need-float-requires Inv-loop μ-loop
+float-requires c κs = search needs
+
+add-j : tie.Need-add-j Inv-loop μ-loop
+add-j c = search needs
+
+loop-less : tie.Need-loop-less Inv-loop μ-loop
+loop-less c = search needs
+
+loop-again : tie.Need-loop-again Inv-loop μ-loop
+loop-again c = search needs
+
+slice-aggregate-text : tie.Need-slice-aggregate-text Inv-loop μ-loop
+slice-aggregate-text c = search needs
+
+text-requires-2 : tie.Need-text-requires-2 Inv-loop μ-loop
+text-requires-2 c κs = search needs
+
+returns : tie.Need-returns Inv-loop μ-loop
+returns c = search needs
+
+pub point-spec : {M : Type 1} → statement M
+point-spec =
+    tie.close
+    (tie.spec
+    Inv-loop
+    μ-loop
+    text-requires
+    loop-holds
+    mul-float
+    shared-slice-read-float
+    float-requires
+    add-j
+    loop-less
+    loop-again
+    slice-aggregate-text
+    text-requires-2
+    returns)

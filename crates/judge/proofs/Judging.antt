@@ -1,0 +1,154 @@
+-- The answer by the tests that led to it, in their order, and the counts that it says. Assumes nothing.
+use Prim.Native.Nat.{ℕ, _+_, _*_, _^_, _≤_, _<_}
+use native.Mathlib.Omega.{arith}
+use mathlib.Core.Bool.{Bool, true, false, not, _||_, cond, true≢false}
+use mathlib.Core.List.{List}
+use mathlib.Core.Path.{_≡_, refl, sym, ap, _∙_}
+use borrow.Author.Tests.{lt-ltb, le-ltb, le-leb, lt-leb}
+use lib.Dec.{T, ltb, nltb→le}
+use lib.ListN.{length}
+use lib.Ieee.{Float}
+use Rattle.rules.specs.Lists.{keep, joined}
+use Rattle.rules.specs.Grid.{GridPoint, Box, Field, index}
+use Rattle.rules.specs.Vertices.{surfaceCell, vertices, cells}
+use Rattle.rules.specs.Faces.{Edge, Flags, cellEdges, edges, indices}
+use Rattle.rules.specs.Call.{Call, Buffers, Room, room, Answer, answers, answer, roomAnswer, badDimensions, badBox, badLength, badMap, badDistance, badVertexRoom, badIndexRoom, vertexCount, indexCount}
+use Rattle.rules.proofs.Tests.{nor-left, nor-right}
+use Rattle.rules.proofs.Accepted.{accepted-answer, done-accepted}
+use Rattle.rules.proofs.Counting.{vertices-are}
+use Rattle.rules.proofs.Indexes.{box-fits}
+use Rattle.rules.proofs.Edges.{edges-are, edge-count, index-count}
+use Rattle.grid.specs.declared.Block.{Block}
+use Rattle.grid.specs.declared.count.Tally.{Tally}
+use Rattle.grid.specs.Block.{point, boxOf, flagsOf, fieldOf, callOf}
+use Rattle.grid.specs.Inside.{PointInside, Inside}
+use Rattle.grid.specs.Tally.{tallyOf}
+use Rattle.grid.proofs.Bounds.{few}
+use Rattle.grid.proofs.Order.{box-ends}
+use Rattle.grid.proofs.Rows.{box-short}
+use Rattle.grid.proofs.Tallies.{vertices-few}
+
+-- ---- conditions 1 to 5
+
+module _ (c : Call) (r : Room) where
+  pub says-1 : badDimensions (c .grid .dims) ≡ true → answers 1 0 0 ≡ answer c r
+  unfolding answer
+  says-1 a = rw a
+
+  pub says-2 : badDimensions (c .grid .dims) ≡ false → badBox (c .grid .dims) (c .box) ≡ true → answers 2 0 0 ≡ answer c r
+  unfolding answer
+  says-2 a b = rw (a, b)
+
+  pub says-3 : badDimensions (c .grid .dims) ≡ false → badBox (c .grid .dims) (c .box) ≡ false → badLength (c .grid .dims) (c .box) (c .size) ≡ true → answers 3 0 0 ≡ answer c r
+  unfolding answer
+  says-3 a b d = rw (a, b, d)
+
+  pub says-4 : badDimensions (c .grid .dims) ≡ false → badBox (c .grid .dims) (c .box) ≡ false → badLength (c .grid .dims) (c .box) (c .size) ≡ false → ltb (r .map) (c .size) ≡ true → answers 4 0 0 ≡ answer c r
+  unfolding answer
+  says-4 a b d e = rw (a, b, d, e)
+
+  pub says-5 : badDimensions (c .grid .dims) ≡ false → badBox (c .grid .dims) (c .box) ≡ false → badLength (c .grid .dims) (c .box) (c .size) ≡ false → ltb (r .map) (c .size) ≡ false → badDistance (c .grid) (c .box) ≡ true → answers 5 0 0 ≡ answer c r
+  unfolding answer
+  says-5 a b d e f = rw (a, b, d, e, f)
+
+  pub says-room : badDimensions (c .grid .dims) ≡ false → badBox (c .grid .dims) (c .box) ≡ false → badLength (c .grid .dims) (c .box) (c .size) ≡ false → ltb (r .map) (c .size) ≡ false → badDistance (c .grid) (c .box) ≡ false → roomAnswer r (vertexCount c) (indexCount c) ≡ answer c r
+  unfolding answer
+  says-room a b d e f = rw (a, b, d, e, f)
+
+pub too-short : (d : GridPoint) (b : Box) (size : ℕ) {at : ℕ} → at ≡ index d (b .high) → size ≤ at → badLength d b size ≡ true
+unfolding badLength
+too-short d b size e h = le-leb size (index d (b .high)) (omega arith)
+
+pub long-enough : (d : GridPoint) (b : Box) (size : ℕ) {at : ℕ} → at ≡ index d (b .high) → at < size → badLength d b size ≡ false
+unfolding badLength
+long-enough d b size e h = lt-leb size (index d (b .high)) (omega arith)
+
+-- ---- conditions 6 and 7
+
+module _ (r : Room) (v i : ℕ) where
+  pub positions-short : r .positions < 3 * v → answers 6 v i ≡ roomAnswer r v i
+  unfolding roomAnswer
+  positions-short h = simp (lt-ltb (r .positions) (3 * v) h)
+
+  pub normals-short : 3 * v ≤ r .positions → r .normals < 3 * v → answers 6 v i ≡ roomAnswer r v i
+  unfolding roomAnswer
+  normals-short p h = simp (le-ltb (r .positions) (3 * v) p, lt-ltb (r .normals) (3 * v) h)
+
+  pub cells-short : 3 * v ≤ r .positions → 3 * v ≤ r .normals → r .cells < 3 * v → answers 6 v i ≡ roomAnswer r v i
+  unfolding roomAnswer
+  cells-short p n h = simp (le-ltb (r .positions) (3 * v) p, le-ltb (r .normals) (3 * v) n, lt-ltb (r .cells) (3 * v) h)
+
+  pub strides-short : 3 * v ≤ r .positions → 3 * v ≤ r .normals → 3 * v ≤ r .cells → r .strides < v → answers 6 v i ≡ roomAnswer r v i
+  unfolding roomAnswer
+  strides-short p n c h = simp (le-ltb (r .positions) (3 * v) p, le-ltb (r .normals) (3 * v) n, le-ltb (r .cells) (3 * v) c, lt-ltb (r .strides) v h)
+
+  pub indices-short : 3 * v ≤ r .positions → 3 * v ≤ r .normals → 3 * v ≤ r .cells → v ≤ r .strides → r .indices < i → answers 7 v i ≡ roomAnswer r v i
+  unfolding roomAnswer
+  indices-short p n c s h = simp (le-ltb (r .positions) (3 * v) p, le-ltb (r .normals) (3 * v) n, le-ltb (r .cells) (3 * v) c, le-ltb (r .strides) v s, lt-ltb (r .indices) i h)
+
+  pub room-enough : 3 * v ≤ r .positions → 3 * v ≤ r .normals → 3 * v ≤ r .cells → v ≤ r .strides → i ≤ r .indices → answers 0 v i ≡ roomAnswer r v i
+  unfolding roomAnswer
+  room-enough p n c s h = simp (le-ltb (r .positions) (3 * v) p, le-ltb (r .normals) (3 * v) n, le-ltb (r .cells) (3 * v) c, le-ltb (r .strides) v s, le-ltb (r .indices) i h)
+
+-- ---- V and I are the counts of the definitions
+
+pub counts : (g : Field) (b : Box) (m : Flags) → tallyOf g b m (cells b) ≡ record { vertices = length (vertices g b); indices = length (indices g b m) }
+unfolding tallyOf
+counts g b m =
+    let v : length (keep (surfaceCell g) (cells b)) ≡ length (vertices g b) = ap length (sym (vertices-are g b)) in
+    let i : 6 * length (joined (cellEdges g b m) (keep (surfaceCell g) (cells b))) ≡ length (indices g b m) =
+    ap (λ (l : List GridPoint). 6 * length (joined (cellEdges g b m) l)) (sym (vertices-are g b))
+    ∙ ap (λ (l : List Edge). 6 * length l) (sym (edges-are g b m)) ∙ ap (λ (n : ℕ). 6 * n) (edge-count g b m) ∙ sym (index-count g b m) in
+    λ j. record { vertices = v j; indices = i j }
+
+pub few-vertices : (grid : List Float) (k : Block) → Inside grid k → (t : Tally) → t ≡ tallyOf (fieldOf grid k) (boxOf k) (flagsOf k) (cells (boxOf k)) → t .vertices < 2 ^ 60
+few-vertices grid k i t e =
+    let same : t .vertices ≡ tallyOf (fieldOf grid k) (boxOf k) (flagsOf k) (cells (boxOf k)) .vertices = ap (λ (u : Tally). u .vertices) e in
+    let few = vertices-few (fieldOf grid k) (boxOf k) (flagsOf k) (cells (boxOf k)) in
+    let short : length (cells (boxOf k)) ≤ 1073741824 = rw (← box-ends (boxOf k)) (box-short grid k i (k .high .z) (omega arith)) in
+    omega arith
+
+-- ---- what failed tests say
+
+pub not-bad : (t : Bool) → t ≡ false → T (not t)
+not-bad true e = absurd (true≢false e)
+not-bad false e = tt
+
+-- what passed the first three tests
+pub passed : (grid : List Float) (k : Block) → badDimensions (point (k .dims)) ≡ false → badBox (point (k .dims)) (boxOf k) ≡ false → badLength (point (k .dims)) (boxOf k) (length grid) ≡ false → Inside grid k
+passed grid k a b c = record { dims = not-bad (badDimensions (point (k .dims))) a; box = not-bad (badBox (point (k .dims)) (boxOf k)) b; size = not-bad (badLength (point (k .dims)) (boxOf k) (length grid)) c }
+
+-- the box's high corner lies in the grid, by conditions 1 and 2
+pub corner-inside : (d : GridPoint) (b : Box) → T (not (badDimensions d)) → T (not (badBox d b)) → PointInside d (b .high)
+corner-inside d b s t = let f = box-fits d b t in record { x = f .x .1; y = f .y .1; z = f .z .1; few = few d s }
+
+-- ---- what an answer of 0 says
+
+pub record Enough (r : Room) (v i : ℕ) : Type 0 where
+  pub positions : 3 * v ≤ r .positions
+  pub normals : 3 * v ≤ r .normals
+  pub cells : 3 * v ≤ r .cells
+  pub strides : v ≤ r .strides
+  pub indices : i ≤ r .indices
+
+neither : (t u : Bool) (v i : ℕ) → cond t (answers 6 v i) (cond u (answers 7 v i) (answers 0 v i)) .number ≡ 0 → T (not t) × T (not u)
+neither true u v i e = absurd (omega arith)
+neither false true v i e = absurd (omega arith)
+neither false false v i e = (tt, tt)
+
+pub room-done : (r : Room) (v i : ℕ) → roomAnswer r v i .number ≡ 0 → Enough r v i
+unfolding roomAnswer
+room-done r v i e =
+    let both = neither (badVertexRoom r v) (badIndexRoom r i) v i e in
+    let second = nor-right (ltb (r .positions) (3 * v)) (ltb (r .normals) (3 * v) || (ltb (r .cells) (3 * v) || ltb (r .strides) v)) (both .0) in
+    let third = nor-right (ltb (r .normals) (3 * v)) (ltb (r .cells) (3 * v) || ltb (r .strides) v) second in
+    record {
+      positions = nltb→le (r .positions) (3 * v) (nor-left (ltb (r .positions) (3 * v)) (ltb (r .normals) (3 * v) || (ltb (r .cells) (3 * v) || ltb (r .strides) v)) (both .0));
+      normals = nltb→le (r .normals) (3 * v) (nor-left (ltb (r .normals) (3 * v)) (ltb (r .cells) (3 * v) || ltb (r .strides) v) second);
+      cells = nltb→le (r .cells) (3 * v) (nor-left (ltb (r .cells) (3 * v)) (ltb (r .strides) v) third);
+      strides = nltb→le (r .strides) v (nor-right (ltb (r .cells) (3 * v)) (ltb (r .strides) v) third);
+      indices = nltb→le (r .indices) i (both .1);
+    }
+
+pub done-enough : (c : Call) (r : Room) → answer c r .number ≡ 0 → Enough r (vertexCount c) (indexCount c)
+done-enough c r e = room-done r (vertexCount c) (indexCount c) (ap (λ (a : Answer). a .number) (sym (accepted-answer c r (done-accepted c r e))) ∙ e)

@@ -1,0 +1,2 @@
+-- What the contracts of `marks` cite. Assumes nothing.
+pub mod Marks

@@ -1,0 +1,32 @@
+-- What an answer of 0 says to the pass: the box lies in the grid, and the lists have room for all that is written. Assumes nothing.
+use Prim.Native.Nat.{ℕ}
+use mathlib.Core.List.{List}
+use mathlib.Core.Path.{_≡_}
+use lib.Dec.{nltb→le}
+use lib.ListN.{length}
+use lib.Ieee.{Float}
+use Rattle.rules.specs.Call.{Buffers, room, answer}
+use Rattle.rules.proofs.Accepted.{done-accepted}
+use Rattle.grid.specs.declared.Block.{Block}
+use Rattle.grid.specs.Block.{boxOf, flagsOf, fieldOf, callOf}
+use Rattle.grid.specs.Inside.{Inside}
+use Rattle.judge.proofs.Judging.{done-enough}
+use Rattle.step.specs.Turns.{Roomy}
+use Rattle.surface_nets.proofs.Reading.{lentOf}
+
+module _ (grid : List Float) (k : Block) (s : Buffers) (e : answer (callOf grid k) (room s) .number ≡ 0) where
+  pub done-inside : Inside grid k
+  done-inside = let a = done-accepted (callOf grid k) (room s) e in record { dims = a .dims; box = a .box; size = a .length }
+
+  pub done-roomy : Roomy (fieldOf grid k) (boxOf k) (flagsOf k) (length grid) (lentOf s 0 0)
+  done-roomy =
+      let a = done-accepted (callOf grid k) (room s) e in
+      let h = done-enough (callOf grid k) (room s) e in
+      record {
+        positions = h .positions;
+        normals = h .normals;
+        cells = h .cells;
+        strides = h .strides;
+        map = nltb→le (length (s .map)) (length grid) (a .map);
+        indices = h .indices;
+      }

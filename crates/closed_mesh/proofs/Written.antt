@@ -3,21 +3,22 @@
 use Prim.Native.Nat.{ℕ, zero, suc, _+_, _*_, _<_}
 use native.Mathlib.Omega.{arith}
 use mathlib.Core.Bool.{Bool, true, false, _&&_, cond}
-use mathlib.Core.List.{List, [], _∷_, _++_}
-use mathlib.Core.Path.{_≡_, refl, sym, ap, _∙_}
-use lib.ListN.{length, getD, take, drop, List·getD-append}
+use mathlib.Core.List.{List, [], _∷_}
+use mathlib.Core.Path.{_≡_, sym, ap, _∙_}
+use lib.ListN.{length, getD, take, drop}
 use lib.Seq.{take-at}
-use Rattle.rules.specs.Lists.{one, many, place}
+use lib.Ieee.Bits.{is-true}
+use Rattle.rules.specs.Lists.{one, many, place, over}
 use Rattle.rules.specs.Grid.{GridPoint, samePoint, isCell}
 use Rattle.rules.specs.Vertices.{surfaceCell, vertices}
 use Rattle.rules.specs.Faces.{indices}
-use Rattle.rules.specs.Call.{Call, Buffers, Room, Answer, answers, room, badVertexRoom, badIndexRoom, vertexCount, indexCount, roomAnswer, answer, flatPoints, written, afterwards}
-use Rattle.rules.proofs.Tests.{is-true, one-most}
-use Rattle.rules.proofs.Lists.{many-some, length-joined, total-times}
+use Rattle.rules.specs.Call.{Call, Buffers, room, answer, flatPoints, written, afterwards}
+use Rattle.rules.proofs.Tests.{one-most}
+use Rattle.rules.proofs.Lists.{many-some}
 use Rattle.rules.proofs.Counting.{samePoint-itself, vertices-once}
-use Rattle.rules.proofs.Accepted.{done-accepted, accepted-answer}
+use Rattle.rules.proofs.Accepted.{done-counted}
 use Rattle.rules.proofs.Locality.{when-done}
-use Rattle.rules.proofs.Seen.{ThreeAt, three-at}
+use Rattle.rules.proofs.Seen.{ThreeAt, three-at, three-over, length-points}
 use Rattle.skin.specs.Links.{numberOf}
 
 -- the cell of the vertex v, in a list of three numbers a vertex
@@ -39,51 +40,31 @@ module _ (d : GridPoint) where
       go true k r = absurd (omega (arith, many-some f xs v d (omega arith) (samePoint-itself (getD xs v d))))
       go false k r = ap suc (r (omega arith))
 
--- 6, 7 and 0 all say V and I
-room-counts : (r : Room) (v i : ℕ) → (roomAnswer r v i .vertices ≡ v) × (roomAnswer r v i .indices ≡ i)
-unfolding roomAnswer
-room-counts r v i = go (badVertexRoom r v) (badIndexRoom r i)
-  where
-    go : (p q : Bool) → (cond p (answers 6 v i) (cond q (answers 7 v i) (answers 0 v i)) .vertices ≡ v) × (cond p (answers 6 v i) (cond q (answers 7 v i) (answers 0 v i)) .indices ≡ i)
-    go true q = (refl, refl)
-    go false true = (refl, refl)
-    go false false = (refl, refl)
-
 module _ (c : Call) (s : Buffers) (done : answer c (room s) .number ≡ 0) where
   abbrev vs : List GridPoint
   vs = vertices (c .grid) (c .box)
-
-  counted : answer c (room s) ≡ roomAnswer (room s) (vertexCount c) (indexCount c)
-  counted = accepted-answer c (room s) (done-accepted c (room s) done)
 
   pub indices-written : take (answer c (room s) .indices) (afterwards c s .indices) ≡ indices (c .grid) (c .box) (c .flags)
   unfolding written
   indices-written =
       let is : List ℕ = indices (c .grid) (c .box) (c .flags) in
-      let said : length is ≡ answer c (room s) .indices = sym (ap (λ (r : Answer). r .indices) counted ∙ room-counts (room s) (vertexCount c) (indexCount c) .1) in
-      rw (when-done c s done) (take-at is (drop (length is) (s .indices)) (answer c (room s) .indices) said)
-
-  flat-long : length (flatPoints vs) ≡ 3 * length vs
-  flat-long = length-joined (λ (p : GridPoint). p .x ∷ p .y ∷ p .z ∷ []) vs ∙ total-times 3 vs
+      rw (when-done c s done) (take-at is (drop (length is) (s .indices)) (answer c (room s) .indices) (sym (done-counted c (room s) done .1)))
 
   abbrev origin : GridPoint
   origin = record { x = 0; y = 0; z = 0 }
 
   vertex-within : (v : ℕ) → v < answer c (room s) .vertices → v < length vs
-  vertex-within v h = omega (arith, ap (λ (r : Answer). r .vertices) counted, room-counts (room s) (vertexCount c) (indexCount c) .0)
+  vertex-within v h = omega (arith, done-counted c (room s) done .0)
 
   -- the first V cells are the vertices in their order
   cell-written : (v : ℕ) → v < answer c (room s) .vertices → cellAt (afterwards c s .cells) v ≡ getD vs v origin
   unfolding written
-  cell-written v h =
-      rw (when-done c s done)
-      (λ j. record { x = (kept (3 * v) (omega (arith, vertex-within v h)) ∙ t .first) j; y = (kept (3 * v + 1) (omega (arith, vertex-within v h)) ∙ t .second) j; z = (kept (3 * v + 2) (omega (arith, vertex-within v h)) ∙ t .third) j })
+  cell-written v h = rw (when-done c s done) (λ j. record { x = t .first j; y = t .second j; z = t .third j })
     where
-      t : ThreeAt (λ (q : GridPoint). q .x) (λ (q : GridPoint). q .y) (λ (q : GridPoint). q .z) (flatPoints vs) v 0 (getD vs v origin)
-      t = three-at (λ (q : GridPoint). q .x) (λ (q : GridPoint). q .y) (λ (q : GridPoint). q .z) vs v 0 origin (vertex-within v h)
-
-      kept : (n : ℕ) → n < 3 * length vs → getD (flatPoints vs ++ drop (length (flatPoints vs)) (s .cells)) n 0 ≡ getD (flatPoints vs) n 0
-      kept n k = List·getD-append (flatPoints vs) (drop (length (flatPoints vs)) (s .cells)) 0 n (omega (arith, flat-long))
+      t : ThreeAt (λ (q : GridPoint). q .x) (λ (q : GridPoint). q .y) (λ (q : GridPoint). q .z) (over (flatPoints vs) (s .cells)) v 0 (getD vs v origin)
+      t =
+          three-over (λ (q : GridPoint). q .x) (λ (q : GridPoint). q .y) (λ (q : GridPoint). q .z) (flatPoints vs) (drop (length (flatPoints vs)) (s .cells)) v 0 (getD vs v origin) (omega (arith, vertex-within v h, length-points vs))
+          (three-at (λ (q : GridPoint). q .x) (λ (q : GridPoint). q .y) (λ (q : GridPoint). q .z) vs v 0 origin (vertex-within v h))
 
   -- and each has the number at which it stands
   pub number-written : (v : ℕ) → v < answer c (room s) .vertices → numberOf (c .grid) (c .box) (cellAt (afterwards c s .cells) v) ≡ v

@@ -8,7 +8,6 @@ use native.Mathlib.Omega.{arith}
 use mathlib.Core.Bool.{not}
 use mathlib.Core.List.{List}
 use lib.Dec.{T, nltb→le, lit≤, lit<}
-use lib.Arith.{le→nltb}
 use lib.ListN.{length}
 use lib.Pow.{pow-add, pow-mono}
 use lib.Ieee.{Float, nan, inf, fin, binary32, fits, up, down}
@@ -98,18 +97,12 @@ finite-normal k d K c s h =
 
 -- ---- the cap of document 01, 2 ^ 100, and one of 2 ^ 124: `finite-normal` at 100 and at 124
 
--- what condition 5 lets pass is finite, and at most 2 ^ 100 in magnitude; and the other way round
+-- what condition 5 lets pass is finite, and at most 2 ^ 100 in magnitude
 pub not-beyond : (x : Float) → T (not (beyond x)) → Within cap x
 unfolding beyond
 not-beyond nan h = absurd h
 not-beyond (inf s) h = absurd h
 not-beyond (fin s m e) h = (tt, nltb→le (cap * down e) (m * up e) h)
-
-pub within-not-beyond : (x : Float) → Within cap x → T (not (beyond x))
-unfolding beyond
-within-not-beyond nan h = absurd (h .0)
-within-not-beyond (inf s) h = absurd (h .0)
-within-not-beyond (fin s m e) h = le→nltb (cap * down e) (m * up e) (h .1)
 
 -- a value of binary32 that condition 5 lets pass
 abbrev pub Capped : Float → Type 0

@@ -16,7 +16,8 @@ use Rattle.rounding.proofs.Sign.{weak-finite}
 use Rattle.rounding.proofs.Order.{weak-le}
 use Rattle.rounding.proofs.Quotient.{share-above, share-below}
 use Rattle.rules.specs.Cell.{CubeEdge, corner, negative, crosses, fraction, cubeEdges, zero32, one32}
-use Rattle.cube.proofs.Corners.{Every, Cell, every-at}
+use Rattle.rules.proofs.Lists.{All, none, more, all-in}
+use Rattle.cube.proofs.Corners.{Cell}
 
 -- ---- "Negative means d < 0, so 0 and -0.0 are not negative."
 
@@ -65,26 +66,10 @@ fraction-held a b s = (div-fits binary32 a (sub binary32 a b), weak-finite (frac
 abbrev pub Ends : CubeEdge → Type 0
 Ends e = (e .a < 8) × (e .b < 8)
 
-pub cube-ends : Every Ends cubeEdges
-cube-ends = (
-  (lit< tt, lit< tt),
-  (
-    (lit< tt, lit< tt),
-    (
-      (lit< tt, lit< tt),
-      (
-        (lit< tt, lit< tt),
-        (
-          (lit< tt, lit< tt),
-          (
-            (lit< tt, lit< tt),
-            ((lit< tt, lit< tt), ((lit< tt, lit< tt), ((lit< tt, lit< tt), ((lit< tt, lit< tt), ((lit< tt, lit< tt), ((lit< tt, lit< tt), tt)))))),
-          ),
-        ),
-      ),
-    ),
-  ),
-)
+pub cube-ends : All Ends cubeEdges
+cube-ends =
+    more (lit< tt, lit< tt) (more (lit< tt, lit< tt) (more (lit< tt, lit< tt) (more (lit< tt, lit< tt) (more (lit< tt, lit< tt) (more (lit< tt, lit< tt)
+    (more (lit< tt, lit< tt) (more (lit< tt, lit< tt) (more (lit< tt, lit< tt) (more (lit< tt, lit< tt) (more (lit< tt, lit< tt) (more (lit< tt, lit< tt) none)))))))))))
 
 pub share-of-edge : (d : List Float) (e : CubeEdge) → Cell d → Ends e → T (crosses d e) → Share (fraction (corner d (e .a)) (corner d (e .b)))
 share-of-edge d e c n t = share-of-crossing (corner d (e .a)) (corner d (e .b)) (c .1 (e .a) (n .0)) (c .1 (e .b) (n .1)) t
@@ -99,4 +84,4 @@ share-in-unit x s = (
 
 pub fraction-in-unit : (d : List Float) (e : CubeEdge) → Cell d → List·Memᴰ e cubeEdges → T (crosses d e)
     → T (le zero32 (fraction (corner d (e .a)) (corner d (e .b)))) × T (le (fraction (corner d (e .a)) (corner d (e .b))) one32)
-fraction-in-unit d e c m t = share-in-unit (fraction (corner d (e .a)) (corner d (e .b))) (share-of-edge d e c (every-at Ends m cube-ends) t)
+fraction-in-unit d e c m t = share-in-unit (fraction (corner d (e .a)) (corner d (e .b))) (share-of-edge d e c (all-in m cube-ends) t)

@@ -8,7 +8,6 @@ pub mod Taking
 pub mod Unique
 pub mod Corners
 pub mod Fraction
-pub mod SomeCrossing
 pub mod UnitCentroid
 pub mod ClosedCell
 pub mod Finite

@@ -6,7 +6,7 @@ use mathlib.Core.List.{List, [], _∷_, map}
 use lib.Ieee.{Float, binary32, ofBits, toBits, add, sub, mul, div, lt, ofInt}
 use Rattle.rules.specs.Lists.{keep, many}
 use Rattle.rules.specs.Cell.{Vector, fraction, pointBetween, crossingPoint, crossingPoints, summed, crossings, centroid, normal}
-use Rattle.cube.proofs.Corners.{Every}
+use Rattle.rules.proofs.Lists.{All, none, more}
 
 -- the bits of eight corner values, and those of x, y, z of the centroid and of the normal
 pub record Sample : Type 0 where
@@ -54,6 +54,6 @@ bits v = toBits binary32 (v .x) ∷ toBits binary32 (v .y) ∷ toBits binary32 (
 abbrev pub AsComputed : Sample → Type 0
 AsComputed s = (bits (centroid (floats (s .corners))) ≡ s .middle) × (bits (normal (floats (s .corners)) (centroid (floats (s .corners)))) ≡ s .slope)
 
-pub samples-computed : Every AsComputed samples
+pub samples-computed : All AsComputed samples
 unfolding keep many fraction pointBetween crossingPoint crossingPoints summed crossings centroid normal ofBits toBits add sub mul div lt ofInt
-samples-computed = ((refl, refl), ((refl, refl), ((refl, refl), ((refl, refl), ((refl, refl), ((refl, refl), tt))))))
+samples-computed = more (refl, refl) (more (refl, refl) (more (refl, refl) (more (refl, refl) (more (refl, refl) (more (refl, refl) none)))))

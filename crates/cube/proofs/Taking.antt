@@ -4,20 +4,18 @@ use mathlib.Core.Path.{_≡_, refl, _∙_, sym, ap, ap₂}
 use mathlib.Core.Bool.{Bool, true, false, cond}
 use mathlib.Core.List.{List, [], _∷_, map}
 use Prim.Native.Nat.{ℕ, zero, suc, _+_, _<_}
-use native.Mathlib.Nat.{add-zero, zero-add, add-assoc, le-of-suc-le-suc, not-suc-le-zero}
+use native.Mathlib.Nat.{add-zero, le-of-suc-le-suc, not-suc-le-zero}
 use native.Mathlib.Numerals.{add-one}
 use lib.ListN.{length, take, getD}
+use lib.Seq.{take-suc}
 use Rattle.rules.specs.Lists.{one, keep, many}
 use Rattle.rules.specs.Cell.{Vector, plus, summed}
+use Rattle.rules.proofs.Lists.{many-append}
 
 module _ {A : Type 0} (f : A → Bool) (d : A) where
   many-next : (l : List A) (n : ℕ) → n < length l → many f (take (suc n) l) ≡ many f (take n l) + one (f (getD l n d))
   unfolding many
-  many-next [] n h = absurd (not-suc-le-zero h)
-  many-next (x ∷ xs) zero h = add-zero (one (f x)) ∙ sym (zero-add (one (f x)))
-  many-next (x ∷ xs) (suc n) h =
-      ap (λ (k : ℕ). one (f x) + k) (many-next xs n (le-of-suc-le-suc h))
-      ∙ sym (add-assoc (one (f x)) (many f (take n xs)) (one (f (getD xs n d))))
+  many-next l n h = ap (many f) (take-suc l n d h) ∙ (many-append f (take n l) (getD l n d ∷ []) ∙ ap (λ (k : ℕ). many f (take n l) + k) (add-zero (one (f (getD l n d)))))
 
   -- the turn of a loop that counts: k is the count before it, k' after it, b what the test of the element says
   pub many-turn : {k k' : ℕ} (l : List A) (n : ℕ) (b : Bool) → n < length l → k ≡ many f (take n l) → f (getD l n d) ≡ b → k' ≡ k + one b

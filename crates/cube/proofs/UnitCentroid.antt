@@ -1,24 +1,23 @@
 -- Document 01, "Under the caps .. each s component lies in [0, 1]": for any finite corner values of a surface cell each component of the centroid is from +0.0 up to 1,
 -- and never -0.0. A point of a crossed edge is a mix of two corners; k points sum up to k at most, and k over k is 1. Assumes nothing.
-use mathlib.Core.Path.{_≡_, refl, _∙_, subst}
+use mathlib.Core.Path.{_≡_, sym, _∙_, subst}
 use Prim.Native.Nat.{ℕ, zero, suc, _+_, _/_, _%_, _^_, _≤_, _<_, zero-le}
 use native.Mathlib.Nat.{add-zero, zero-add}
 use native.Mathlib.Omega.{arith}
-use mathlib.Core.Bool.{Bool, true, false, cond}
-use mathlib.Core.List.{List, [], _∷_, map}
+use mathlib.Core.List.{List, [], _∷_}
 use lib.Dec.{T, lit≤}
-use lib.ListN.{length, length-map}
+use lib.ListN.{length}
 use lib.Ieee.{Float, binary32, le}
 use Rattle.rounding.specs.Values.{plain, UpTo, Share, Held}
 use Rattle.rounding.proofs.Sign.{plain-finite}
 use Rattle.rounding.proofs.Bounds.{holds-whole}
 use Rattle.rounding.proofs.Operations.{add-up, div-up, up-to-share}
 use Rattle.rounding.proofs.Mixing.{mix-up}
-use Rattle.rules.specs.Lists.{one, keep, many}
 use Rattle.rules.specs.Cell.{Vector, CubeEdge, zero32, one32, bit, zeroVector, plus, corner, surface, crosses, crossings, cubeEdges, fraction, pointBetween, crossingPoint, crossingPoints, summed, centroid}
-use Rattle.cube.proofs.Corners.{Each, Every, Finite, Cell}
+use Rattle.rules.proofs.Lists.{All, none, more, all-then, all-map, all-keep, many-most}
+use Rattle.rules.proofs.Crossings.{crossings-points, three-to-twelve}
+use Rattle.cube.proofs.Corners.{Each, Finite, Cell}
 use Rattle.cube.proofs.Fraction.{Ends, cube-ends, share-of-edge, fraction-held, share-in-unit}
-use Rattle.cube.proofs.SomeCrossing.{some-crossing, crossings-most}
 
 -- ---- a point
 
@@ -40,15 +39,9 @@ crossing-point-up d e c n t =
     let s = share-of-edge d e c n t in
     point-up (fraction (corner d (e .a)) (corner d (e .b))) (e .a) (e .b) (fraction-held (corner d (e .a)) (corner d (e .b)) s) s
 
-points-up : (d : List Float) → Cell d → (es : List CubeEdge) → Every Ends es → Every (Each (UpTo 1)) (map (crossingPoint d) (keep (crosses d) es))
-unfolding keep
-points-up d c [] h = tt
-points-up d c (e ∷ es) h = go (crosses d e) (crossing-point-up d e c (h .0)) (points-up d c es (h .1))
-  where
-    go : (b : Bool) → (T b → Each (UpTo 1) (crossingPoint d e)) → Every (Each (UpTo 1)) (map (crossingPoint d) (keep (crosses d) es))
-        → Every (Each (UpTo 1)) (map (crossingPoint d) (cond b (e ∷ keep (crosses d) es) (keep (crosses d) es)))
-    go true p r = (p tt, r)
-    go false p r = r
+points-up : (d : List Float) → Cell d → All (Each (UpTo 1)) (crossingPoints d)
+unfolding crossingPoints
+points-up d c = all-map (crossingPoint d) (all-keep (crosses d) (all-then (λ e n. crossing-point-up d e c n) cube-ends))
 
 -- ---- their sum
 
@@ -57,42 +50,33 @@ plus-up k v w h p q =
     let n = holds-whole binary32 (k + 1) h in
     (add-up binary32 k 1 (v .x) (w .x) n (p .0) (q .0), add-up binary32 k 1 (v .y) (w .y) n (p .1) (q .1), add-up binary32 k 1 (v .z) (w .z) n (p .2) (q .2))
 
-pub summed-up : (k : ℕ) (v : Vector) (ps : List Vector) → k + length ps ≤ 2 ^ 24 → Each (UpTo k) v → Every (Each (UpTo 1)) ps → Each (UpTo (k + length ps)) (summed v ps)
+pub summed-up : (k : ℕ) (v : Vector) (ps : List Vector) → k + length ps ≤ 2 ^ 24 → Each (UpTo k) v → All (Each (UpTo 1)) ps → Each (UpTo (k + length ps)) (summed v ps)
 unfolding summed
-summed-up k v [] h p q = rw add-zero p
-summed-up k v (w ∷ ps) h p q =
+summed-up k v [] h p none = rw add-zero p
+summed-up k v (w ∷ ps) h p (more q r) =
     let e : k + 1 + length ps ≡ k + suc (length ps) = omega arith in
     subst (λ (n : ℕ). Each (UpTo n) (summed (plus v w) ps)) e
-    (summed-up (k + 1) (plus v w) ps (omega arith) (plus-up k v w (omega arith) p (q .0)) (q .1))
-
-length-keep : {A : Type 0} (f : A → Bool) (l : List A) → length (keep f l) ≡ many f l
-unfolding keep many
-length-keep f [] = refl
-length-keep f (x ∷ xs) = go (f x) (length-keep f xs)
-  where
-    go : (b : Bool) → length (keep f xs) ≡ many f xs → length (cond b (x ∷ keep f xs) (keep f xs)) ≡ one b + many f xs
-    go true e = omega arith
-    go false e = omega arith
-
-pub points-number : (d : List Float) → length (crossingPoints d) ≡ crossings d
-unfolding crossingPoints crossings
-points-number d = length-map (keep (crosses d) cubeEdges) (crossingPoint d) ∙ length-keep (crosses d) cubeEdges
+    (summed-up (k + 1) (plus v w) ps (omega arith) (plus-up k v w (omega arith) p q) r)
 
 -- ---- the centroid
 
+-- no more crossings than edges
+crossings-most : (d : List Float) → crossings d ≤ 12
+unfolding crossings
+crossings-most d = many-most (crosses d) cubeEdges
+
 sum-up : (d : List Float) → Cell d → Each (UpTo (crossings d)) (summed zeroVector (crossingPoints d))
-unfolding crossingPoints
 sum-up d c =
-    let n = points-number d in
+    let n = sym (crossings-points d) in
     let b : 0 + length (crossingPoints d) ≤ 2 ^ 24 = omega (arith, n, crossings-most d) in
     subst (λ (k : ℕ). Each (UpTo k) (summed zeroVector (crossingPoints d))) (zero-add (length (crossingPoints d)) ∙ n)
-    (summed-up 0 zeroVector (crossingPoints d) b ((tt, zero-le), (tt, zero-le), (tt, zero-le)) (points-up d c cubeEdges cube-ends))
+    (summed-up 0 zeroVector (crossingPoints d) b ((tt, zero-le), (tt, zero-le), (tt, zero-le)) (points-up d c))
 
 pub centroid-up : (d : List Float) → Cell d → T (surface d) → Each (UpTo 1) (centroid d)
 unfolding centroid
 centroid-up d c s =
     let k = crossings d in
-    let K : 0 < k = some-crossing d (c .0) s in
+    let K : 0 < k = omega (arith, three-to-twelve d (c .0) s) in
     let h : k ≤ 2 ^ 24 = omega (arith, crossings-most d) in
     let v = summed zeroVector (crossingPoints d) in
     let u = sum-up d c in

@@ -2,13 +2,13 @@
 -- Assumes nothing.
 use Prim.Native.Nat.{ℕ, _*_, _^_}
 use native.Mathlib.Nat.{mul-one}
-use mathlib.Core.Bool.{Bool, true, false, not, true≢false}
+use mathlib.Core.Bool.{true, false, true≢false}
 use mathlib.Core.Path.{_≡_, refl, sym, ap, _∙_}
-use lib.Dec.{ltb, eqb, eqb-refl}
-use lib.IntN.{ℤ, pos}
+use borrow.Author.Tests.{eq-eqb}
+use lib.Dec.{ltb}
+use lib.IntN.{pos}
 use lib.Ieee.{Float, nan, inf, fin, up, down, lt, eq, ne}
 use Rattle.rules.specs.Call.{beyond}
-use Rattle.rules.proofs.Tests.{is-true}
 
 -- the cap as a float
 abbrev pub cap32 : Float
@@ -34,13 +34,10 @@ beyond-below (inf s) h = refl
 beyond-below (fin false m e) h = absurd (true≢false (sym h))
 beyond-below (fin true m e) h = sym h ∙ unit (m * up e) (2 ^ 100 * down e)
 
-same : (n : ℕ) → eqb n n ≡ true
-same n = is-true (eqb n n) (eqb-refl n)
-
 pub beyond-else : (d : Float) → lt cap32 d ≡ false → lt d below-cap32 ≡ false → ne d d ≡ beyond d
 unfolding lt beyond ne eq
 beyond-else nan h k = refl
 beyond-else (inf true) h k = absurd (true≢false k)
 beyond-else (inf false) h k = absurd (true≢false h)
-beyond-else (fin false m e) h k = rw (same (m * up e * down e)) (sym (sym (unit (m * up e) (2 ^ 100 * down e)) ∙ h))
-beyond-else (fin true m e) h k = rw (same (m * up e * down e)) (sym (sym (unit (m * up e) (2 ^ 100 * down e)) ∙ k))
+beyond-else (fin false m e) h k = rw (eq-eqb (m * up e * down e) (m * up e * down e) refl) (sym (sym (unit (m * up e) (2 ^ 100 * down e)) ∙ h))
+beyond-else (fin true m e) h k = rw (eq-eqb (m * up e * down e) (m * up e * down e) refl) (sym (sym (unit (m * up e) (2 ^ 100 * down e)) ∙ k))

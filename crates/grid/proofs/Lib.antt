@@ -1,8 +1,11 @@
+-- Laws of the grid that belong to no one function: what the conditions leave, the tests against the cap, where rows and cells stand, what
+-- holds in a turn of a loop, and how counts add up. Assumes nothing.
 pub mod Tests
 pub mod Bounds
 pub mod Beyond
 pub mod Runs
 pub mod Owned
 pub mod Rows
+pub mod Walks
 pub mod Order
 pub mod Tallies

@@ -1,16 +1,16 @@
 -- How the lists of passed cells grow, where they begin and end, and how long they are. Assumes nothing.
-use Prim.Native.Nat.{ℕ, zero, suc, _+_, _-_, _*_, _≤_, _<_}
-use native.Mathlib.Nat.{le-refl, mul-comm, mul-zero, mul-suc, mul-le-mul, mul-le-mul-left, le-trans}
+use Prim.Native.Nat.{ℕ, zero, suc, _+_, _-_, _*_, _≤_}
+use native.Mathlib.Nat.{le-refl}
 use native.Mathlib.Numerals.{add-one}
 use native.Mathlib.Omega.{arith}
-use mathlib.Core.List.{List, [], _∷_, _++_, map, append-nil}
+use mathlib.Core.List.{[], _∷_, _++_, map-append}
 use mathlib.Core.Path.{_≡_, refl, sym, ap, _∙_}
 use lib.ListN.{length, length-append, length-map}
 use Rattle.rules.specs.Lists.{run, upTo, joined}
 use Rattle.rules.specs.Grid.{GridPoint, Box}
 use Rattle.rules.specs.Vertices.{rowCells, layerCells, cells}
-use Rattle.rules.proofs.Lists.{map-append, joined-append, joined-one, length-joined, total, total-same, total-times, all-each}
-use Rattle.rules.proofs.Runs.{upTo-last, upTo-none}
+use Rattle.rules.proofs.Lists.{joined-length}
+use Rattle.rules.proofs.Runs.{upTo-last, upTo-none, joined-last}
 use Rattle.grid.specs.Order.{rowTo, layerTo, boxTo}
 
 abbrev at : ℕ → ℕ → ℕ → GridPoint
@@ -38,15 +38,11 @@ row-grows b z y x h = rw (add-one, upTo-last (b .low .x) x h) (map-append (λ (x
 
 pub layer-grows : (b : Box) (z y : ℕ) → b .low .y ≤ y → layerTo b z (y + 1) ≡ layerTo b z y ++ rowCells b z y
 unfolding layerTo
-layer-grows b z y h =
-    rw (add-one, upTo-last (b .low .y) y h)
-    (joined-append (rowCells b z) (upTo (b .low .y) y) (y ∷ []) ∙ ap (λ (t : List GridPoint). joined (rowCells b z) (upTo (b .low .y) y) ++ t) (joined-one (rowCells b z) y))
+layer-grows b z y h = rw add-one (joined-last (rowCells b z) (b .low .y) y h)
 
 pub box-grows : (b : Box) (z : ℕ) → b .low .z ≤ z → boxTo b (z + 1) ≡ boxTo b z ++ layerCells b z
 unfolding boxTo
-box-grows b z h =
-    rw (add-one, upTo-last (b .low .z) z h)
-    (joined-append (layerCells b) (upTo (b .low .z) z) (z ∷ []) ∙ ap (λ (t : List GridPoint). joined (layerCells b) (upTo (b .low .z) z) ++ t) (joined-one (layerCells b) z))
+box-grows b z h = rw add-one (joined-last (layerCells b) (b .low .z) z h)
 
 -- ---- end
 
@@ -72,10 +68,6 @@ length-run (suc n) = length-append (run n) (n ∷ []) ∙ omega (arith, length-r
 pub length-upTo : (low high : ℕ) → length (upTo low high) ≡ high - low
 unfolding upTo
 length-upTo low high = length-map (run (high - low)) (λ (k : ℕ). low + k) ∙ length-run (high - low)
-
--- lists of one length k
-joined-length : {A : Type 0} (f : ℕ → List A) (k : ℕ) → ((n : ℕ) → length (f n) ≡ k) → (l : List ℕ) → length (joined f l) ≡ k * length l
-joined-length f k e l = length-joined f l ∙ total-same (all-each e l) ∙ total-times k l
 
 pub row-length : (b : Box) (z y x : ℕ) → length (rowTo b z y x) ≡ x - b .low .x
 unfolding rowTo

@@ -3,33 +3,33 @@ use Prim.Native.Nat.{ℕ, _+_, _-_, _*_, _<_, _≤_}
 use native.Mathlib.Nat.{le-trans, le-of-eq, mul-one, mul-le-mul, mul-le-mul-left}
 use native.Mathlib.Omega.{arith}
 use mathlib.Core.List.{List}
-use mathlib.Core.Path.{_≡_, sym}
+use mathlib.Core.Path.{sym}
 use lib.Dec.{T, lit<}
 use lib.ListN.{length}
 use lib.Ieee.{Float}
-use Rattle.rules.specs.Grid.{GridPoint, Box, index, inBox, isCell}
+use Rattle.rules.specs.Grid.{GridPoint, index, inBox, isCell}
 use Rattle.rules.specs.Cell.{cornerOf}
-use Rattle.rules.proofs.Indexes.{in-box, is-cell, cell-in-box, corner-in-box, corner-index}
+use Rattle.rules.proofs.Indexes.{in-box, corner-in-box, corner-index}
 use Rattle.grid.specs.declared.Block.{Block}
 use Rattle.grid.specs.Block.{point, boxOf}
 use Rattle.grid.specs.Inside.{PointInside, Inside}
-use Rattle.grid.specs.Order.{layerTo, boxTo}
-use Rattle.grid.proofs.Bounds.{few, plane-few, fits, point-inside, below-length}
-use Rattle.grid.proofs.Order.{layer-length, box-length}
+use Rattle.grid.specs.Order.{rowTo, layerTo, boxTo}
+use Rattle.grid.proofs.Bounds.{few, small, fits, point-inside, below-length}
+use Rattle.grid.proofs.Order.{row-length, layer-length, box-length}
 
-module _ (grid : List Float) (k : Block) (i : Inside grid k) (y z : ℕ) (y-low : k .low .y ≤ y) (y-high : y ≤ k .high .y) (z-low : k .low .z ≤ z) (z-high : z ≤ k .high .z) where
+module _ {grid : List Float} {k : Block} (i : Inside grid k) {y z : ℕ} (ys : (k .low .y ≤ y) × (y ≤ k .high .y)) (zs : (k .low .z ≤ z) × (z ≤ k .high .z)) where
   -- a point of the row
-  pub on-row : (x : ℕ) → k .low .x ≤ x → x ≤ k .high .x → T (inBox (boxOf k) (record { x = x; y = y; z = z }))
-  on-row x x-low x-high = in-box (boxOf k) (record { x = x; y = y; z = z }) (record { x = (x-low, x-high); y = (y-low, y-high); z = (z-low, z-high) })
+  pub on-row : {x : ℕ} → (k .low .x ≤ x) × (x ≤ k .high .x) → T (inBox (boxOf k) (record { x = x; y = y; z = z }))
+  on-row {x} xs = in-box (boxOf k) (record { x = x; y = y; z = z }) (record { x = xs; y = ys; z = zs })
 
   pub row-start : PointInside (point (k .dims)) (record { x = k .low .x; y = y; z = z })
-  row-start = point-inside grid k i (record { x = k .low .x; y = y; z = z }) (on-row (k .low .x) (let f = fits grid k i in omega arith) (let f = fits grid k i in omega arith))
+  row-start = let f = fits grid k i in point-inside grid k i (record { x = k .low .x; y = y; z = z }) (on-row (omega arith))
 
   -- the row's points, both ends included, lie in the list
   pub row-end : index (point (k .dims)) (record { x = k .low .x; y = y; z = z }) + (k .high .x + 1 - k .low .x) ≤ length grid
   row-end =
       let f = fits grid k i in
-      let h = below-length grid k i (record { x = k .high .x; y = y; z = z }) (on-row (k .high .x) (omega arith) (omega arith)) in
+      let h = below-length grid k i (record { x = k .high .x; y = y; z = z }) (on-row (omega arith)) in
       omega arith
 
 -- ---- a cell's corners lie in the list
@@ -40,16 +40,15 @@ module _ (grid : List Float) (k : Block) (i : Inside grid k) (c : GridPoint) (t 
       let d = point (k .dims) in
       omega (arith, corner-index d c 7, below-length grid k i (cornerOf c 7) (corner-in-box (boxOf k) c 7 t (lit< tt)))
 
-  pub layer-few : k .dims .x * k .dims .y ≤ 1073741824
-  layer-few = plane-few (point (k .dims)) c (point-inside grid k i c (cell-in-box (boxOf k) c t))
-
--- a cell of the row (y, z)
-pub cell-on-row : (k : Block) (x y z : ℕ) → k .low .x ≤ x → x < k .high .x → k .low .y ≤ y → y < k .high .y → k .low .z ≤ z → z < k .high .z → T (isCell (boxOf k) (record { x = x; y = y; z = z }))
-cell-on-row k x y z a b c d e f = is-cell (boxOf k) (record { x = x; y = y; z = z }) (record { x = (a, b); y = (c, d); z = (e, f) })
-
 -- ---- the lists of cells are short
 
 module _ (grid : List Float) (k : Block) (i : Inside grid k) where
+  pub row-short : (z y x : ℕ) → x ≤ k .high .x → length (rowTo (boxOf k) z y x) ≤ 1073741824
+  row-short z y x h =
+      let f = fits grid k i in
+      let s = small (point (k .dims)) (i .dims) in
+      omega (arith, row-length (boxOf k) z y x)
+
   pub layer-short : (z y : ℕ) → y ≤ k .high .y → length (layerTo (boxOf k) z y) ≤ 1073741824
   layer-short z y h =
       let f = fits grid k i in

@@ -1,35 +1,24 @@
 -- Condition 5 of a run of distances, of a row, a layer and a box: each is the one below it over a list that grows at its end.
 -- Assumes nothing.
-use Prim.Native.Nat.{ℕ, zero, suc, _+_, _-_, _*_, _≤_, _<_}
+use Prim.Native.Nat.{ℕ, _+_, _-_, _≤_}
 use native.Mathlib.Nat.{le-refl}
 use native.Mathlib.Numerals.{add-one}
 use native.Mathlib.Omega.{arith}
-use mathlib.Core.Bool.{Bool, true, false, _||_}
+use mathlib.Core.Bool.{Bool, false, _||_, or-false}
 use mathlib.Core.List.{List, [], _∷_, _++_, map}
 use mathlib.Core.Path.{_≡_, refl, sym, ap, _∙_}
-use lib.ListN.{length, getD}
+use lib.ListN.{getD}
 use lib.Ieee.{Float, nan}
-use Rattle.rules.specs.Lists.{run, upTo, some, joined}
+use Rattle.rules.specs.Lists.{run, upTo, some}
 use Rattle.rules.specs.Grid.{GridPoint, index, value}
-use Rattle.rules.specs.Faces.{layerPoints, pointLayers}
+use Rattle.rules.specs.Faces.{layerPoints}
 use Rattle.rules.specs.Call.{beyond, badLayer, badDistance}
+use Rattle.rules.proofs.Lists.{all-each}
+use Rattle.rules.proofs.Some.{some-append, some-joined, some-map, some-same}
 use Rattle.rules.proofs.Runs.{upTo-last, upTo-none}
 use Rattle.grid.specs.declared.Block.{Block}
 use Rattle.grid.specs.Block.{point, boxOf, fieldOf}
 use Rattle.grid.specs.Inside.{badRun}
-
-or-assoc' : (a b c : Bool) → (a || b) || c ≡ a || (b || c)
-or-assoc' true b c = refl
-or-assoc' false b c = refl
-
-or-false : (a : Bool) → a || false ≡ a
-or-false true = refl
-or-false false = refl
-
-some-append : {A : Type 0} (f : A → Bool) (s t : List A) → some f (s ++ t) ≡ some f s || some f t
-unfolding some
-some-append f [] t = refl
-some-append f (x ∷ s) t = ap (λ (b : Bool). f x || b) (some-append f s t) ∙ sym (or-assoc' (f x) (some f s) (some f t))
 
 some-one : {A : Type 0} (f : A → Bool) (x : A) → some f (x ∷ []) ≡ f x
 unfolding some
@@ -38,21 +27,6 @@ some-one f x = or-false (f x)
 -- one element more at the end
 some-last : {A : Type 0} (f : A → Bool) (s : List A) (x : A) → some f (s ++ (x ∷ [])) ≡ some f s || f x
 some-last f s x = some-append f s (x ∷ []) ∙ ap (λ (b : Bool). some f s || b) (some-one f x)
-
-some-joined : {A B : Type 0} (f : B → Bool) (h : A → List B) (l : List A) → some f (joined h l) ≡ some (λ x. some f (h x)) l
-unfolding some joined
-some-joined f h [] = refl
-some-joined f h (x ∷ l) = some-append f (h x) (joined h l) ∙ ap (λ (b : Bool). some f (h x) || b) (some-joined f h l)
-
-some-map : {A B : Type 0} (f : B → Bool) (h : A → B) (l : List A) → some f (map h l) ≡ some (λ x. f (h x)) l
-unfolding some
-some-map f h [] = refl
-some-map f h (x ∷ l) = ap (λ (b : Bool). f (h x) || b) (some-map f h l)
-
-some-same : {A : Type 0} (f h : A → Bool) → ((x : A) → f x ≡ h x) → (l : List A) → some f l ≡ some h l
-unfolding some
-some-same f h e [] = refl
-some-same f h e (x ∷ l) = simp (e x, some-same f h e l)
 
 -- ---- a run
 
@@ -85,16 +59,14 @@ row-is : (l : List Float) (k : Block) (z y : ℕ) → badRow l k z y ≡ some (�
 unfolding upTo
 row-is l k z y =
     let here = point (k .dims) in
-    some-same (λ (j : ℕ). beyond (getD l (index here (record { x = k .low .x; y = y; z = z }) + j) nan)) (λ (j : ℕ). beyond (getD l (index here (record { x = k .low .x + j; y = y; z = z })) nan))
-    (λ (j : ℕ). ap (λ (i : ℕ). beyond (getD l i nan)) (row-index here (k .low .x) y z j)) (run (k .high .x + 1 - k .low .x))
+    some-same (all-each (λ (j : ℕ). ap (λ (i : ℕ). beyond (getD l i nan)) (row-index here (k .low .x) y z j)) (run (k .high .x + 1 - k .low .x)))
     ∙ sym (some-map (λ (x : ℕ). beyond (getD l (index here (record { x = x; y = y; z = z })) nan)) (λ (j : ℕ). k .low .x + j) (run (k .high .x + 1 - k .low .x)))
     ∙ sym (some-map (λ (p : GridPoint). beyond (value (fieldOf l k) p)) (λ (x : ℕ). record { x = x; y = y; z = z }) (map (λ (j : ℕ). k .low .x + j) (run (k .high .x + 1 - k .low .x))))
 
 pub layer-is : (l : List Float) (k : Block) (z : ℕ) → some (badRow l k z) (upTo (k .low .y) (k .high .y + 1)) ≡ badLayer (fieldOf l k) (boxOf k) z
 unfolding badLayer layerPoints
 layer-is l k z =
-    some-same (badRow l k z) (λ (y : ℕ). some (λ (p : GridPoint). beyond (value (fieldOf l k) p)) (map (λ (x : ℕ). record { x = x; y = y; z = z }) (upTo (k .low .x) (k .high .x + 1))))
-    (row-is l k z) (upTo (k .low .y) (k .high .y + 1))
+    some-same (all-each (row-is l k z) (upTo (k .low .y) (k .high .y + 1)))
     ∙ sym (some-joined (λ (p : GridPoint). beyond (value (fieldOf l k) p)) (λ (y : ℕ). map (λ (x : ℕ). record { x = x; y = y; z = z }) (upTo (k .low .x) (k .high .x + 1))) (upTo (k .low .y) (k .high .y + 1)))
 
 pub box-is : (l : List Float) (k : Block) → some (badLayer (fieldOf l k) (boxOf k)) (upTo (k .low .z) (k .high .z + 1)) ≡ badDistance (fieldOf l k) (boxOf k)

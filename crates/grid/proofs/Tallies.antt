@@ -1,20 +1,23 @@
 -- What a cell adds to the count is what the list of that one cell counts, and counts of lists add up. From the corner values that the code reads
 -- to the rules' own. Assumes nothing.
-use Prim.Native.Nat.{ℕ, suc, _+_, _*_, _^_, _≤_, _<_}
-use native.Mathlib.Nat.{add-zero, mul-add, le-trans, mul-le-mul-left}
+use Prim.Native.Nat.{ℕ, _+_, _*_, _^_, _≤_, _<_}
+use native.Mathlib.Nat.{mul-add}
 use native.Mathlib.Omega.{arith}
 use mathlib.Core.Bool.{Bool, true, false, _&&_, cond}
 use mathlib.Core.List.{List, [], _∷_, _++_, append-nil}
 use mathlib.Core.Path.{_≡_, refl, sym, ap, _∙_}
+use mir.Syntax.{w64}
+use mir.Val.{Fits}
 use lib.ListN.{length, getD, length-append}
 use lib.Ieee.{Float, nan, unlike}
-use Rattle.rules.specs.Lists.{one, keep, many, joined}
+use Rattle.rules.specs.Lists.{one, keep, joined}
 use Rattle.rules.specs.Grid.{GridPoint, Axis, axisX, axisY, axisZ, Box, Field, index, value, stepUp}
 use Rattle.rules.specs.Cell.{values, cornerOf, corner, negative, surface}
 use Rattle.rules.specs.Vertices.{surfaceCell}
-use Rattle.rules.specs.Faces.{Flags, Edge as Edge', edge, edgesAt, owned, changes, gives, cellEdges}
+use Rattle.rules.specs.Faces.{Flags, Edge as Edge', edge, owned, changes, gives, cellEdges}
 use Rattle.rules.proofs.Indexes.{same-point, corner-index}
 use Rattle.rules.proofs.Lists.{keep-append, joined-append, length-keep, many-most}
+use Rattle.rules.proofs.Edges.{cellEdges-length}
 use Rattle.rules.proofs.Tests.{one-most}
 use Rattle.grid.specs.declared.Block.{Block}
 use Rattle.grid.specs.declared.ownership.Own.{Own}
@@ -40,9 +43,17 @@ values-are l k c at row layer e f h =
     let v7 : getD l (index d (cornerOf c 7)) nan ≡ getD l (at + 1 + row + layer) nan = ap (λ (n : ℕ). getD l n nan) (omega (arith, corner-index d c 7)) in
     λ i. v0 i ∷ v1 i ∷ v2 i ∷ v3 i ∷ v4 i ∷ v5 i ∷ v6 i ∷ v7 i ∷ []
 
+-- what the code makes of the two sides that it read
+pub corners-read : (l : List Float) (k : Block) (c : GridPoint) {at : ℕ} {low high : Side} {d : List Float} → at ≡ index (point (k .dims)) c
+    → low ≡ sideAt l at (k .dims .x) (k .dims .x * k .dims .y) → high ≡ sideAt l (at + 1) (k .dims .x) (k .dims .x * k .dims .y) → d ≡ eightOf low high → d ≡ values (fieldOf l k) c
+corners-read l k c {at} {low} {high} ea elow ehigh ed =
+    let row = k .dims .x in
+    let layer = k .dims .x * k .dims .y in
+    ed ∙ ap (λ (s : Side). eightOf s high) elow ∙ ap (λ (s : Side). eightOf (sideAt l at row layer) s) ehigh ∙ sym (values-are l k c at row layer ea refl refl)
+
 -- the corners 0, 1, 2 and 4 are the cell's lowest corner and the other ends of its three edges
 pub corner-low : (c : GridPoint) → cornerOf c 0 ≡ c
-corner-low c = same-point (omega arith) (omega arith) (omega arith)
+corner-low c = same-point (omega arith)
 
 -- the corner at the other end of an edge
 abbrev pub otherEnd : Axis → ℕ
@@ -51,9 +62,9 @@ otherEnd axisY = 2
 otherEnd axisZ = 4
 
 pub corner-up : (a : Axis) (c : GridPoint) → cornerOf c (otherEnd a) ≡ stepUp a c
-corner-up axisX c = same-point refl (omega arith) (omega arith)
-corner-up axisY c = same-point (omega arith) refl (omega arith)
-corner-up axisZ c = same-point (omega arith) (omega arith) refl
+corner-up axisX c = same-point (omega arith)
+corner-up axisY c = same-point (omega arith)
+corner-up axisZ c = same-point (omega arith)
 
 value-at : (g : Field) (a : Axis) (c : GridPoint) → corner (values g c) (otherEnd a) ≡ value g (cornerOf c (otherEnd a))
 value-at g axisX c = refl
@@ -66,13 +77,6 @@ changes-at g a c = ap (λ (v : Float). unlike (negative (value g (cornerOf c 0))
 
 -- ---- one cell
 
-three : (a b c : Bool) → 6 * (one a + (one b + (one c + 0))) ≡ 6 * (one a + one b + one c)
-three a b c = omega arith
-
-edges-many : (g : Field) (b : Box) (m : Flags) (c : GridPoint) → length (cellEdges g b m c) ≡ one (gives g b m (edge axisX c)) + (one (gives g b m (edge axisY c)) + (one (gives g b m (edge axisZ c)) + 0))
-unfolding cellEdges many
-edges-many g b m c = length-keep (gives g b m) (edgesAt c)
-
 face-is : (g : Field) (b : Box) (m : Flags) (a : Axis) (c : GridPoint) (own : Bool) → own ≡ owned b m (edge a c) → one (own && unlike (negative (corner (values g c) 0)) (negative (corner (values g c) (otherEnd a)))) ≡ one (gives g b m (edge a c))
 face-is g b m a c own e = rw (e, changes-at g a c)
 
@@ -82,8 +86,7 @@ faces-are g b m c own ex ey ez =
     ap (λ (n : ℕ). n + faceAt (values g c) (own .y) 2 + faceAt (values g c) (own .z) 4) (face-is g b m axisX c (own .x) ex)
     ∙ ap (λ (n : ℕ). one (gives g b m (edge axisX c)) + n + faceAt (values g c) (own .z) 4) (face-is g b m axisY c (own .y) ey)
     ∙ ap (λ (n : ℕ). one (gives g b m (edge axisX c)) + one (gives g b m (edge axisY c)) + n) (face-is g b m axisZ c (own .z) ez))
-    ∙ sym (ap (λ (l : List Edge'). 6 * length l) (append-nil (cellEdges g b m c)) ∙ ap (λ (n : ℕ). 6 * n) (edges-many g b m c)
-    ∙ three (gives g b m (edge axisX c)) (gives g b m (edge axisY c)) (gives g b m (edge axisZ c)))
+    ∙ sym (ap (λ (l : List Edge'). 6 * length l) (append-nil (cellEdges g b m c)) ∙ ap (λ (n : ℕ). 6 * n) (cellEdges-length g b m c))
 
 kept : (g : Field) (b : Box) (m : Flags) (c : GridPoint) (n : ℕ) → n ≡ 6 * length (cellEdges g b m c ++ []) → (t : Bool) → pickTally t (record { vertices = 1; indices = n }) ≡ record { vertices = length (cond t (c ∷ []) []); indices = 6 * length (joined (cellEdges g b m) (cond t (c ∷ []) [])) }
 unfolding joined
@@ -128,7 +131,7 @@ edges-few : (g : Field) (b : Box) (m : Flags) (l : List GridPoint) → length (j
 unfolding joined
 edges-few g b m [] = omega arith
 edges-few g b m (c ∷ l) =
-    let here : length (cellEdges g b m c) ≤ 3 = rw (edges-many g b m c) (omega (arith, one-most (gives g b m (edge axisX c)), one-most (gives g b m (edge axisY c)), one-most (gives g b m (edge axisZ c)))) in
+    let here : length (cellEdges g b m c) ≤ 3 = rw (cellEdges-length g b m c) (omega (arith, one-most (gives g b m (edge axisX c)), one-most (gives g b m (edge axisY c)), one-most (gives g b m (edge axisZ c)))) in
     rw (length-append (cellEdges g b m c) (joined (cellEdges g b m) l)) (omega (arith, edges-few g b m l))
 
 pub vertices-few : (g : Field) (b : Box) (m : Flags) (l : List GridPoint) → tallyOf g b m l .vertices ≤ length l
@@ -142,28 +145,44 @@ indices-few g b m l =
     let e = edges-few g b m (keep (surfaceCell g) l) in
     omega arith
 
--- ---- a step of a loop: what was counted and one list more, which is the longer list's count and fits
+-- ---- a loop's counts
 
-pub record Step (g : Field) (b : Box) (m : Flags) (v i v' i' : ℕ) (next : List GridPoint) : Type 0 where
-  pub vertices-fit : v + v' < 2 ^ 60
-  pub indices-fit : i + i' < 2 ^ 60
-  pub same : _≡_ {A = Tally} (record { vertices = v + v'; indices = i + i' }) (tallyOf g b m next)
+-- v and i are the counts of the cells that are passed
+pub record Counts (l : List Float) (k : Block) (passed : List GridPoint) (v i : ℕ) : Type 0 where
+  pub same : _≡_ {A = Tally} (record { vertices = v; indices = i }) (tallyOf (fieldOf l k) (boxOf k) (flagsOf k) passed)
 
-pub step : (g : Field) (b : Box) (m : Flags) (s t next : List GridPoint) (v i v' i' : ℕ) → next ≡ s ++ t → length next ≤ 2 ^ 40 → _≡_ {A = Tally} (record { vertices = v; indices = i }) (tallyOf g b m s) → _≡_ {A = Tally} (record { vertices = v'; indices = i' }) (tallyOf g b m t) → Step g b m v i v' i' next
-step g b m s t next v i v' i' e few old new =
-    let ev : v + v' ≡ tallyOf g b m next .vertices = ap (λ (a : Tally). a .vertices + v') old ∙ ap (λ (a : Tally). tallyOf g b m s .vertices + a .vertices) new ∙ sym (ap (λ (l : List GridPoint). tallyOf g b m l .vertices) e ∙ vertices-add g b m s t) in
-    let ei : i + i' ≡ tallyOf g b m next .indices = ap (λ (a : Tally). a .indices + i') old ∙ ap (λ (a : Tally). tallyOf g b m s .indices + a .indices) new ∙ sym (ap (λ (l : List GridPoint). tallyOf g b m l .indices) e ∙ indices-add g b m s t) in
+pub counts-none : {l : List Float} {k : Block} {passed : List GridPoint} → passed ≡ [] → Counts l k passed 0 0
+counts-none {l} {k} e = record { same = sym (ap (tallyOf (fieldOf l k) (boxOf k) (flagsOf k)) e ∙ none-counted (fieldOf l k) (boxOf k) (flagsOf k)) }
+
+pub counts-all : {l : List Float} {k : Block} {passed all : List GridPoint} {v i : ℕ} → Counts l k passed v i → passed ≡ all
+    → _≡_ {A = Tally} (record { vertices = v; indices = i }) (tallyOf (fieldOf l k) (boxOf k) (flagsOf k) all)
+counts-all {l} {k} c e = c .same ∙ ap (tallyOf (fieldOf l k) (boxOf k) (flagsOf k)) e
+
+-- a step of a loop: what was counted and one list more, which is the longer list's count and fits
+pub record Step (l : List Float) (k : Block) (next : List GridPoint) (v i v' i' : ℕ) : Type 0 where
+  pub vertices-fit : Fits w64 (v + v')
+  pub indices-fit : Fits w64 (i + i')
+  pub counts : Counts l k next (v + v') (i + i')
+
+pub step : {l : List Float} {k : Block} {s t next : List GridPoint} {v i v' i' : ℕ} → Counts l k s v i → Counts l k t v' i' → next ≡ s ++ t → length next ≤ 1073741824 → Step l k next v i v' i'
+step {l} {k} {s} {t} {next} {v} {i} {v'} {i'} old new e few =
+    let tally = tallyOf (fieldOf l k) (boxOf k) (flagsOf k) in
+    let ev : v + v' ≡ tally next .vertices = ap (λ (a : Tally). a .vertices + v') (old .same) ∙ ap (λ (a : Tally). tally s .vertices + a .vertices) (new .same) ∙ sym (ap (λ (c : List GridPoint). tally c .vertices) e ∙ vertices-add (fieldOf l k) (boxOf k) (flagsOf k) s t) in
+    let ei : i + i' ≡ tally next .indices = ap (λ (a : Tally). a .indices + i') (old .same) ∙ ap (λ (a : Tally). tally s .indices + a .indices) (new .same) ∙ sym (ap (λ (c : List GridPoint). tally c .indices) e ∙ indices-add (fieldOf l k) (boxOf k) (flagsOf k) s t) in
     record {
-      vertices-fit = omega (arith, vertices-few g b m next);
-      indices-fit = omega (arith, indices-few g b m next);
-      same = λ j. record { vertices = ev j; indices = ei j };
+      vertices-fit = omega (arith, vertices-few (fieldOf l k) (boxOf k) (flagsOf k) next);
+      indices-fit = omega (arith, indices-few (fieldOf l k) (boxOf k) (flagsOf k) next);
+      counts = record { same = λ j. record { vertices = ev j; indices = ei j } };
     }
 
 -- the count of one cell, by the way the code takes to it
-pub cell-counted : (l : List Float) (k : Block) (c : GridPoint) (at row layer : ℕ) (low high : Side) (d : List Float) (own : Own) (r : Tally) → at ≡ index (point (k .dims)) c → row ≡ k .dims .x → layer ≡ k .dims .x * k .dims .y
-    → low ≡ sideAt l at row layer → high ≡ sideAt l (at + 1) row layer → d ≡ eightOf low high
+pub cell-counts : {l : List Float} {k : Block} {c : GridPoint} {at : ℕ} {low high : Side} {d : List Float} {own : Own} {r : Tally} → at ≡ index (point (k .dims)) c
+    → low ≡ sideAt l at (k .dims .x) (k .dims .x * k .dims .y) → high ≡ sideAt l (at + 1) (k .dims .x) (k .dims .x * k .dims .y) → d ≡ eightOf low high
     → (own .x ≡ owned (boxOf k) (flagsOf k) (edge axisX c)) × ((own .y ≡ owned (boxOf k) (flagsOf k) (edge axisY c)) × (own .z ≡ owned (boxOf k) (flagsOf k) (edge axisZ c)))
-    → r ≡ cellTally d own → r ≡ tallyOf (fieldOf l k) (boxOf k) (flagsOf k) (c ∷ [])
-cell-counted l k c at row layer low high d own r ea er el elow ehigh ed eo e =
-    e ∙ ap (λ (v : List Float). cellTally v own) (ed ∙ ap (λ (s : Side). eightOf s high) elow ∙ ap (λ (s : Side). eightOf (sideAt l at row layer) s) ehigh ∙ sym (values-are l k c at row layer ea er el))
-    ∙ cell-tally (fieldOf l k) (boxOf k) (flagsOf k) c own (eo .0) (eo .1 .0) (eo .1 .1)
+    → r ≡ cellTally d own → Counts l k (c ∷ []) (r .vertices) (r .indices)
+cell-counts {l} {k} {c} {own = own} ea elow ehigh ed eo e =
+    record {
+      same =
+          e ∙ ap (λ (v : List Float). cellTally v own) (corners-read l k c ea elow ehigh ed)
+          ∙ cell-tally (fieldOf l k) (boxOf k) (flagsOf k) c own (eo .0) (eo .1 .0) (eo .1 .1);
+    }

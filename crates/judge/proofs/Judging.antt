@@ -13,17 +13,15 @@ use Rattle.rules.specs.Grid.{GridPoint, Box, Field, index}
 use Rattle.rules.specs.Vertices.{surfaceCell, vertices, cells}
 use Rattle.rules.specs.Faces.{Edge, Flags, cellEdges, edges, indices}
 use Rattle.rules.specs.Call.{Call, Buffers, Room, room, Answer, answers, answer, roomAnswer, badDimensions, badBox, badLength, badMap, badDistance, badVertexRoom, badIndexRoom, vertexCount, indexCount}
-use Rattle.rules.proofs.Tests.{nor-left, nor-right}
+use Rattle.rules.proofs.Tests.{failed, nor-left, nor-right}
 use Rattle.rules.proofs.Accepted.{accepted-answer, done-accepted}
 use Rattle.rules.proofs.Counting.{vertices-are}
-use Rattle.rules.proofs.Indexes.{box-fits}
 use Rattle.rules.proofs.Edges.{edges-are, edge-count, index-count}
 use Rattle.grid.specs.declared.Block.{Block}
 use Rattle.grid.specs.declared.count.Tally.{Tally}
 use Rattle.grid.specs.Block.{point, boxOf, flagsOf, fieldOf, callOf}
-use Rattle.grid.specs.Inside.{PointInside, Inside}
+use Rattle.grid.specs.Inside.{Inside}
 use Rattle.grid.specs.Tally.{tallyOf}
-use Rattle.grid.proofs.Bounds.{few}
 use Rattle.grid.proofs.Order.{box-ends}
 use Rattle.grid.proofs.Rows.{box-short}
 use Rattle.grid.proofs.Tallies.{vertices-few}
@@ -110,17 +108,9 @@ few-vertices grid k i t e =
 
 -- ---- what failed tests say
 
-pub not-bad : (t : Bool) → t ≡ false → T (not t)
-not-bad true e = absurd (true≢false e)
-not-bad false e = tt
-
 -- what passed the first three tests
 pub passed : (grid : List Float) (k : Block) → badDimensions (point (k .dims)) ≡ false → badBox (point (k .dims)) (boxOf k) ≡ false → badLength (point (k .dims)) (boxOf k) (length grid) ≡ false → Inside grid k
-passed grid k a b c = record { dims = not-bad (badDimensions (point (k .dims))) a; box = not-bad (badBox (point (k .dims)) (boxOf k)) b; size = not-bad (badLength (point (k .dims)) (boxOf k) (length grid)) c }
-
--- the box's high corner lies in the grid, by conditions 1 and 2
-pub corner-inside : (d : GridPoint) (b : Box) → T (not (badDimensions d)) → T (not (badBox d b)) → PointInside d (b .high)
-corner-inside d b s t = let f = box-fits d b t in record { x = f .x .1; y = f .y .1; z = f .z .1; few = few d s }
+passed grid k a b c = record { dims = failed refl a; box = failed refl b; size = failed refl c }
 
 -- ---- what an answer of 0 says
 

@@ -5,7 +5,7 @@ use native.Mathlib.Omega.{arith}
 use mathlib.Core.Bool.{false, not}
 use mathlib.Core.List.{List, map}
 use mathlib.Core.Path.{_≡_, refl, sym, ap, ap₂, subst, _∙_}
-use borrow.Author.Tests.{eq-eqb, lt-leb}
+use borrow.Author.Tests.{lt-leb}
 use lib.Dec.{T}
 use lib.Ieee.{Float, nan, inf, fin, binary32, fits}
 use lib.Ieee.Bits.{is-true}
@@ -14,28 +14,28 @@ use lib.Ieee.Scale.{finite}
 use lib.ListN.{length, getD, take, drop}
 use lib.Seq.{take-at, getD-take}
 use Rattle.rules.specs.Lists.{some, over}
-use Rattle.rules.specs.Grid.{GridPoint, index, inBox, value}
+use Rattle.rules.specs.Grid.{GridPoint, inBox, value}
 use Rattle.rules.specs.Cell.{Vector, position, normal}
 use Rattle.rules.specs.Vertices.{vertices, vertexPosition, vertexNormal}
 use Rattle.rules.specs.Faces.{indices}
 use Rattle.rules.specs.Call.{Buffers, flatVectors, written}
-use Rattle.rules.proofs.Lists.{All, none, more, all-at, all-each, all-map, all-joined}
-use Rattle.rules.proofs.Indexes as place
+use Rattle.rules.proofs.Lists.{none, more, all-at, all-each, all-map, all-joined}
 use Rattle.rules.proofs.Edges.{index-count}
 use Rattle.rules.proofs.Numbers.{index-below}
-use Rattle.surface_nets.proofs.Lookups.{length-vectors}
+use Rattle.rules.proofs.Seen.{length-vectors}
 use Rattle.mesh_file.specs.Mesh as file
 use Rattle.mesh_file.specs.Reading.{whole, readOf, meshIn}
-use Rattle.mesh_file.specs.Writing.{badLengths, noVertex, notFinite, writeAnswer}
+use Rattle.mesh_file.specs.Writing.{noVertex, notFinite, writeAnswer}
 use Rattle.mesh_file.specs.Writing as writer
 use Rattle.mesh_record.proofs.Either.{or-none}
+use Rattle.mesh_file.proofs.Answering.{lengths-good}
 use Rattle.mesh_file.proofs.Searching.{none-some}
 use Rattle.mesh_file.proofs.RoundTrip.{AllFit, Writable}
 use Rattle.mesh_file.proofs.Settled.{room-writes, bytes-counted, read-after-write, same-after-write}
 use Rattle.promises.specs.Served.{Served, Done}
 use Rattle.promises.proofs.Done.{done-accepts, done-counts, done-writes}
-use Rattle.promises.proofs.Runs.{Run, gridOf, served, BedRun, bedGrid, bedServed}
-use Rattle.promises.proofs.ClosedMesh.{ClosedMesh, closed-mesh, Binary32}
+use Rattle.promises.proofs.Runs.{Run, gridOf, dimsOf, lowOf, highOf, planeOf, served, BedRun, bedGrid, bedDims, bedLow, bedHigh, bedPlane, bedServed}
+use Rattle.promises.proofs.ClosedMesh.{ClosedMesh, closed-mesh, Binary32, values-held}
 use Rattle.kept_mesh.specs.Parts.{meshOf}
 
 -- ---- three numbers for each vertex
@@ -59,15 +59,6 @@ finite-file (fin s m e) h = tt
 
 none-infinite : (xs : List Float) → ((i : ℕ) → i < length xs → T (finite (getD xs i nan))) → some notFinite xs ≡ false
 none-infinite xs h = none-some notFinite nan xs (λ i l. ap not (is-true (file.finite (getD xs i nan)) (finite-file (getD xs i nan) (h i l))))
-
--- lists in threes, as many normals as positions, and counts that fit 32 bits
-good-lengths : (p n i v : ℕ) → p ≡ 3 * v → n ≡ 3 * v → i % 3 ≡ 0 → v < 2 ^ 32 → i / 3 < 2 ^ 32 → badLengths p n i ≡ false
-good-lengths p n i v ep en c hv y =
-    let a : p % 3 ≡ 0 = omega arith in
-    let b : n % 3 ≡ 0 = omega arith in
-    let d : n ≡ p = omega arith in
-    let x : p / 3 < 2 ^ 32 = omega arith in
-    rw (eq-eqb _ _ a, eq-eqb _ _ b, eq-eqb _ _ c, eq-eqb _ _ d, lt-leb _ _ x, lt-leb _ _ y) refl
 
 -- ---- what a call that is done has written
 
@@ -153,7 +144,9 @@ module _ (u : Served) (values32 : (p : GridPoint) → T (inBox (u .call .box) p)
   pub kept-writable : Writable (meshOf u)
   kept-writable =
       record {
-        lists = good-lengths _ _ _ (u .says .vertices) (positions-length u done) (normals-length u done) (in-threes u done) few (omega (arith, triangles-kept u done));
+        lists =
+            lengths-good (length (meshOf u .positions)) (length (meshOf u .normals)) (length (meshOf u .indices))
+            (omega (arith, positions-length u done, normals-length u done, in-threes u done, triangles-kept u done));
         indices = none-some (noVertex (file.vertexCount (meshOf u))) 0 (meshOf u .indices) (λ i l. lt-leb (file.vertexCount (meshOf u)) (getD (meshOf u .indices) i 0) (index-kept u done i l));
         floats = or-none (some notFinite (meshOf u .positions)) (some notFinite (meshOf u .normals)) (finite-kept .0) (finite-kept .1);
         positions-fit = positions-fit u done;
@@ -189,14 +182,8 @@ module _ (u : Served) (values32 : (p : GridPoint) → T (inBox (u .call .box) p)
 -- the premise is one on the grid
 pub surface-nets-kept : (u : Run) → Binary32 (gridOf u) → Done (served u) → served u .says .vertices < 2 ^ 32 → served u .says .indices / 3 < 2 ^ 32 → Writable (meshOf (served u))
 surface-nets-kept u h done =
-    kept-writable (served u)
-    (λ (p : GridPoint) (t : T (inBox (served u .call .box) p)). h (index (served u .call .grid .dims) p)
-    (place.index-below (served u .call .grid .dims) (served u .call .box) (length (gridOf u)) p (done-accepts (served u) done .length) t))
-    done
+    kept-writable (served u) (values-held (gridOf u) (dimsOf u) (lowOf u) (highOf u) (planeOf u) h (done-accepts (served u) done .length)) done
 
 pub bed-surface-nets-kept : (u : BedRun) → Binary32 (bedGrid u) → Done (bedServed u) → bedServed u .says .vertices < 2 ^ 32 → bedServed u .says .indices / 3 < 2 ^ 32 → Writable (meshOf (bedServed u))
 bed-surface-nets-kept u h done =
-    kept-writable (bedServed u)
-    (λ (p : GridPoint) (t : T (inBox (bedServed u .call .box) p)). h (index (bedServed u .call .grid .dims) p)
-    (place.index-below (bedServed u .call .grid .dims) (bedServed u .call .box) (length (bedGrid u)) p (done-accepts (bedServed u) done .length) t))
-    done
+    kept-writable (bedServed u) (values-held (bedGrid u) (bedDims u) (bedLow u) (bedHigh u) (bedPlane u) h (done-accepts (bedServed u) done .length)) done

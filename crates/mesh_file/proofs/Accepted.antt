@@ -7,12 +7,13 @@ use mathlib.Core.List.{List}
 use lib.Dec.{T}
 use lib.ListN.{length}
 use lib.Ieee.{Float}
+use Rattle.rules.proofs.Tests.{is-test}
 use Rattle.mesh_file.specs.Record.{wordAt, laid}
 use Rattle.mesh_file.specs.Mesh.{Mesh, mesh}
 use Rattle.mesh_file.specs.Reading.{finiteBits, threeFinite, FiniteFloats, seen, Progress, reading, whole, refused, readOf, readAnswer, checked, shortRoom, readingIn, floatsOf, indicesOf, meshIn, filledIn}
 use Rattle.mesh_file.specs.declared.Read.{Read}
 use Rattle.mesh_record.proofs.Laying.{over-laid}
-use Rattle.mesh_record.proofs.Told.{both-left, both-right, is-so, vertex-told, closing-told}
+use Rattle.mesh_record.proofs.Told.{both-left, both-right, vertex-told, closing-told}
 use Rattle.mesh_file.proofs.History.{whole-records}
 
 module _ (f : List ℕ) (v t : ℕ) (e : readOf f ≡ whole v t) where
@@ -24,7 +25,7 @@ module _ (f : List ℕ) (v t : ℕ) (e : readOf f ≡ whole v t) where
   six-finite k l = vertex-told f (32 * k) (seen k 0) (whole-records f v t e .0 .vertices k l) .floats
 
 three : (a b c : Bool) → a && b && c ≡ true → T a × T b × T c
-three a b c h = (is-so a (both-left a b (both-left (a && b) c h)), is-so b (both-right a b (both-left (a && b) c h)), is-so c (both-right (a && b) c h))
+three a b c h = (is-test a (both-left a b (both-left (a && b) c h)), is-test b (both-right a b (both-left (a && b) c h)), is-test c (both-right (a && b) c h))
 
 at-place : (f : List ℕ) (p q : ℕ) → p ≡ q → T (finiteBits (wordAt f p)) → T (finiteBits (wordAt f q))
 at-place f p q e = subst (λ (x : ℕ). T (finiteBits (wordAt f x))) e

@@ -4,7 +4,7 @@ use native.Mathlib.Omega.{arith}
 use mathlib.Core.Path.{_≡_, refl, sym, ap, _∙_}
 use mathlib.Core.Bool.{true, false, not, _||_}
 use mathlib.Core.List.{List, _++_, append-assoc}
-use borrow.Author.Tests.{lt-ltb, le-ltb, leb-false, eqb-true, not-false}
+use borrow.Author.Tests.{lt-ltb, le-ltb, leb-false, lt-leb, eqb-true, eq-eqb, not-false}
 use lib.Dec.{leb, eqb, eqb·suc-zero}
 use lib.ListN.{length, length-append}
 use Rattle.rules.specs.Lists.{over}
@@ -39,6 +39,12 @@ good-lengths p n i h =
       few = leb-false (2 ^ 32) (p / 3) (or-right (notThrees p || notThrees n || notThrees i || not (eqb n p)) (leb (2 ^ 32) (p / 3)) h₁);
       fewer = leb-false (2 ^ 32) (i / 3) (or-right (notThrees p || notThrees n || notThrees i || not (eqb n p) || leb (2 ^ 32) (p / 3)) (leb (2 ^ 32) (i / 3)) h);
     }
+
+-- and the other way
+pub lengths-good : (p n i : ℕ) → Lengths p n i → badLengths p n i ≡ false
+lengths-good p n i l =
+    let threes : n % 3 ≡ 0 = omega arith in
+    rw (eq-eqb _ _ (l .threes), eq-eqb _ _ threes, eq-eqb _ _ (l .sixes), eq-eqb _ _ (l .same), lt-leb _ _ (l .few), lt-leb _ _ (l .fewer)) refl
 
 -- ---- the answers
 

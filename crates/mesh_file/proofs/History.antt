@@ -9,13 +9,13 @@ use mathlib.Core.List.{List}
 use borrow.Author.Tests.{eqb-false}
 use lib.Dec.{ltb, eqb}
 use lib.ListN.{length}
+use Rattle.rules.proofs.Tests.{less-or-not}
 use Rattle.mesh_file.specs.Record.{wordAt}
 use Rattle.mesh_file.specs.Reading.{wordsAt, cut, faultOf, goodStep, stepOf, stepAt, seen, Progress, reading, whole, refused, counted, further, after, readOf, readAnswer, checked}
 use Rattle.mesh_record.specs.declared.Seen.{Seen}
 use Rattle.mesh_file.specs.declared.Read.{Read}
 use Rattle.mesh_record.specs.declared.Step.{Step}
 use Rattle.mesh_record.specs.declared.Step.the-variants.{Vertex, Triangle, Closed, Refused}
-use Rattle.mesh_record.proofs.Numbers.{le-or-lt}
 use Rattle.mesh_record.proofs.Told.{vertex-told}
 
 -- ---- a refusal's number is not 0
@@ -93,7 +93,7 @@ Records f k (whole v t) = History f (v + t) v t × (stepAt f (32 * (v + t)) (see
 Records f k (refused n) = Unit {0}
 
 pub last-or-before : (j n : ℕ) → j < suc n → (j < n) ⊎ (j ≡ n)
-last-or-before j n h = ⊎-elim (λ (p : n ≤ j). inr (omega arith)) (λ (p : j < n). inl p) (le-or-lt n j)
+last-or-before j n h = ⊎-elim (λ (p : j < n). inl p) (λ (p : n ≤ j). inr (omega arith)) (less-or-not j n)
 
 module _ (f : List ℕ) (k v t : ℕ) (h : History f k v t) where
   -- the step at k, said at its place among the vertices and triangles

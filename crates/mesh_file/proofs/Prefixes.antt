@@ -6,10 +6,10 @@ use mathlib.Core.Path.{_≡_, ap, _∙_}
 use mathlib.Core.Logic.{⊎-elim}
 use mathlib.Core.List.{List}
 use lib.ListN.{length, take, length-take}
+use Rattle.rules.proofs.Tests.{less-or-not}
 use Rattle.mesh_file.specs.Mesh.{Mesh}
 use Rattle.mesh_file.specs.Reading.{stepAt, seen, reading, whole, refused, after, readOf, readAnswer, readingIn, filledIn}
 use Rattle.mesh_record.specs.declared.Step.the-variants.{Vertex, Triangle}
-use Rattle.mesh_record.proofs.Numbers.{le-or-lt}
 use Rattle.mesh_record.proofs.Told.{vertex-told, triangle-told}
 use Rattle.mesh_file.proofs.History.{whole-records}
 use Rattle.mesh_file.proofs.Accepted.{whole-length}
@@ -35,11 +35,11 @@ module _ (f : List ℕ) (v t : ℕ) (e : readOf f ≡ whole v t) (n : ℕ) where
       let l = whole-length f v t e in
       let m : length (take n f) ≡ n = length-take n f ∙ omega arith in
       ⊎-elim
-      (λ (a : n / 32 ≤ v). reads-cut (take n f) (n / 32) (n / 32) 0 (in-vertices (n / 32) a (omega arith)) (omega arith) (omega arith))
       (λ (a : v < n / 32).
       let q : n / 32 ≡ v + (n / 32 - v) = omega arith in
       reads-cut (take n f) (n / 32) v (n / 32 - v) (ap (after (take n f)) q ∙ in-triangles (n / 32 - v) (omega arith) (omega arith)) (omega arith) (omega arith))
-      (le-or-lt (n / 32) v)
+      (λ (a : n / 32 ≤ v). reads-cut (take n f) (n / 32) (n / 32) 0 (in-vertices (n / 32) a (omega arith)) (omega arith) (omega arith))
+      (less-or-not v (n / 32))
 
   -- so reading it answers 21 with counts 0 and writes nothing, whatever room is lent
   pub shorter-answers : n < length f → (s : Mesh) → readingIn (readOf (take n f)) s ≡ readAnswer 21 0 0

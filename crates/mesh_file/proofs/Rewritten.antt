@@ -1,21 +1,24 @@
 -- The mesh of an accepted file is one that the writer accepts, so writing it gives the same file again. Assumes nothing.
-use Prim.Native.Nat.{ℕ, zero, suc, _+_, _*_, _/_, _%_, _^_, _≤_, _<_}
+use Prim.Native.Nat.{ℕ, _+_, _*_, _^_, _≤_, _<_}
+use native.Mathlib.Nat.{add-zero}
 use native.Mathlib.Omega.{arith}
 use mathlib.Core.Path.{_≡_, refl, sym, ap, _∙_, subst}
-use mathlib.Core.Bool.{false, not, _&&_}
+use mathlib.Core.Bool.{not, _&&_}
 use mathlib.Core.List.{List}
-use borrow.Author.Tests.{eq-eqb, lt-leb, ltb-true}
+use borrow.Author.Tests.{lt-leb, ltb-true}
 use lib.Dec.{T, ltb}
 use lib.ListN.{length, getD, take}
 use lib.Ieee.{Float, nan, binary32, fits}
 use lib.Ieee.Bits.{ofBits-fits, is-true}
 use Rattle.rules.specs.Lists.{some}
+use Rattle.rules.proofs.Lists.{by-threes}
 use Rattle.mesh_file.specs.Record.{wordAt, each}
-use Rattle.mesh_file.specs.Mesh.{mesh, vertexCount, finite, fileLength}
+use Rattle.mesh_file.specs.Mesh.{vertexCount, finite, fileLength}
 use Rattle.mesh_file.specs.Reading.{FiniteFloats, seen, whole, readOf, floatsAt, numbersAt, floatsOf, indicesOf, meshIn}
-use Rattle.mesh_file.specs.Writing.{badLengths, noVertex, notFinite, writeAnswer, written}
+use Rattle.mesh_file.specs.Writing.{noVertex, notFinite, writeAnswer, written}
 use Rattle.mesh_record.proofs.Laying.{each-length}
 use Rattle.mesh_record.proofs.Either.{or-none}
+use Rattle.mesh_file.proofs.Answering.{lengths-good}
 use Rattle.mesh_file.proofs.Searching.{none-some}
 use Rattle.mesh_record.proofs.Told.{both-left, both-right, triangle-told, closing-told}
 use Rattle.mesh_file.proofs.History.{whole-records}
@@ -29,24 +32,15 @@ use Rattle.mesh_file.proofs.Settled.{room-writes, bytes-written}
 
 module _ {A : Type 0} (z : A) (P : A → Type 0) (g : ℕ → List A) (e : (k : ℕ) → length (g k) ≡ 3) (n : ℕ) (each-good : (k : ℕ) → k < n → P (getD (g k) 0 z) × P (getD (g k) 1 z) × P (getD (g k) 2 z)) where
   pub all-good : (i : ℕ) → i < length (each g n) → P (getD (each g n) i z)
-  all-good i h = go (i % 3) refl
+  all-good i h = by-threes (λ (j : ℕ). P (getD (each g n) j z)) n at i (omega (arith, each-length g 3 e n))
     where
-      l : length (each g n) ≡ 3 * n
-      l = each-length g 3 e n
-
-      k : i / 3 < n
-      k = omega (arith, l)
-
-      at : (j : ℕ) → i % 3 ≡ j → j < 3 → P (getD (g (i / 3)) j z) → P (getD (each g n) i z)
-      at j q b p =
-          let r : i ≡ 3 * (i / 3) + j = omega arith in
-          subst (λ (x : ℕ). P (getD (each g n) x z)) (sym r) (subst P (sym (each-at z g 3 e n (i / 3) j k b)) p)
-
-      go : (j : ℕ) → i % 3 ≡ j → P (getD (each g n) i z)
-      go zero q = at 0 q (omega arith) (each-good (i / 3) k .0)
-      go (suc zero) q = at 1 q (omega arith) (each-good (i / 3) k .1)
-      go (suc (suc zero)) q = at 2 q (omega arith) (each-good (i / 3) k .2)
-      go (suc (suc (suc j))) q = absurd (omega arith)
+      at : (k : ℕ) → k < n → P (getD (each g n) (3 * k) z) × P (getD (each g n) (3 * k + 1) z) × P (getD (each g n) (3 * k + 2) z)
+      at k l =
+          let p = each-good k l in (
+            subst (λ (j : ℕ). P (getD (each g n) j z)) (add-zero (3 * k)) (subst P (sym (each-at z g 3 e n k 0 l (omega arith))) (p .0)),
+            subst P (sym (each-at z g 3 e n k 1 l (omega arith))) (p .1),
+            subst P (sym (each-at z g 3 e n k 2 l (omega arith))) (p .2),
+          )
 
 -- ---- what the writer asks
 
@@ -96,16 +90,6 @@ module _ (f : List ℕ) (bytes : Bytes f) (v t : ℕ) (e : readOf f ≡ whole v 
       let n = g .length in
       (subst (λ (x : ℕ). x < 2 ^ 32) (g .vertices) (word-below f bytes (at + 4) (omega arith)), subst (λ (x : ℕ). x < 2 ^ 32) (g .triangles) (word-below f bytes (at + 8) (omega arith)))
 
-good-lengths : (p n i v t : ℕ) → p ≡ 3 * v → n ≡ 3 * v → i ≡ 3 * t → v < 2 ^ 32 → t < 2 ^ 32 → badLengths p n i ≡ false
-good-lengths p n i v t ep en ei hv ht =
-    let a : p % 3 ≡ 0 = omega arith in
-    let b : n % 3 ≡ 0 = omega arith in
-    let c : i % 3 ≡ 0 = omega arith in
-    let d : n ≡ p = omega arith in
-    let x : p / 3 < 2 ^ 32 = omega arith in
-    let y : i / 3 < 2 ^ 32 = omega arith in
-    rw (eq-eqb _ _ a, eq-eqb _ _ b, eq-eqb _ _ c, eq-eqb _ _ d, lt-leb _ _ x, lt-leb _ _ y) refl
-
 module _ (f : List ℕ) (bytes : Bytes f) (v t : ℕ) (e : readOf f ≡ whole v t) where
   pub accepted-writable : Writable (meshIn f v t)
   unfolding meshIn
@@ -114,7 +98,7 @@ module _ (f : List ℕ) (bytes : Bytes f) (v t : ℕ) (e : readOf f ≡ whole v 
       let n = held f bytes v t e 16 (normals-finite f v t e) in
       let c = counts-below f bytes v t e in
       record {
-        lists = good-lengths _ _ _ v t (floats-length f bytes v t e 4) (floats-length f bytes v t e 16) (indices-length f bytes v t e) (c .0) (c .1);
+        lists = lengths-good (length (floatsOf f 4 v)) (length (floatsOf f 16 v)) (length (indicesOf f v t)) (omega (arith, c, floats-length f bytes v t e 4, floats-length f bytes v t e 16, indices-length f bytes v t e));
         indices = none-some (noVertex (vertexCount (meshIn f v t))) 0 (indicesOf f v t) (λ i l. lt-leb (vertexCount (meshIn f v t)) (getD (indicesOf f v t) i 0) (subst (λ (x : ℕ). getD (indicesOf f v t) i 0 < x) (sym (read-vertices f bytes v t e)) (index-held f bytes v t e i l)));
         floats =
             or-none (some notFinite (floatsOf f 4 v)) (some notFinite (floatsOf f 16 v)) (none-some notFinite nan (floatsOf f 4 v) (λ i l. ap not (is-true (finite (getD (floatsOf f 4 v) i nan)) (p i l .0))))

@@ -1,20 +1,15 @@
--- What the two public contracts settle: the bytes that the writer leaves, reading them back, the reader's answer where there is room, and that two
--- outcomes that fit a contract are equal. Assumes nothing.
-use Prim.Native.Nat.{ℕ, _≤_, _<_}
-use mathlib.Core.Path.{_≡_, refl, sym, ap, _∙_, subst}
+-- What the two public contracts settle: the bytes that the writer leaves, reading them back, and the reader's answer where there is room.
+-- Assumes nothing.
+use Prim.Native.Nat.{ℕ, _≤_}
+use mathlib.Core.Path.{_≡_, refl, ap, _∙_}
 use mathlib.Core.Bool.{false}
 use mathlib.Core.List.{List}
 use borrow.Author.Tests.{le-ltb, ne-eqb}
 use lib.ListN.{length, take, drop}
 use lib.Seq.{take-at, drop-at}
 use Rattle.mesh_file.specs.Mesh.{Mesh, vertexCount, triangleCount, fileOf, fileLength}
-use Rattle.mesh_file.specs.Reading.{whole, refused, readOf, readAnswer, shortRoom, readingIn, meshIn, overMesh, filledIn}
+use Rattle.mesh_file.specs.Reading.{whole, readOf, readAnswer, shortRoom, readingIn, meshIn, overMesh, filledIn}
 use Rattle.mesh_file.specs.Writing.{writeAnswer, wrote, writing, written}
-use Rattle.mesh_file.specs.declared.Read.{Read}
-use Rattle.mesh_file.specs.declared.Wrote.{Wrote}
-use Rattle.mesh_file.proofs.Answering as Write
-use Rattle.mesh_file.proofs.Accepted as Reads
-use Rattle.mesh_file.proofs.Prefixes.{shorter-answers}
 use Rattle.mesh_file.proofs.RoundTrip.{Writable, file-length, written-reads, written-same}
 
 -- ---- the writer
@@ -61,10 +56,6 @@ module _ (m : Mesh) (w : Writable m) (f : List ℕ) (room : fileLength m ≤ len
   pub same-after-write : meshIn file (vertexCount m) (triangleCount m) ≡ m
   same-after-write = ap (λ x. meshIn x (vertexCount m) (triangleCount m)) same ∙ written-same m w
 
-  -- a power cut: every shorter beginning is refused with 21, whatever room is lent
-  pub cut-after-write : (n : ℕ) → n < fileLength m → (s : Mesh) → readingIn (readOf (take n (fileOf m))) s ≡ readAnswer 21 0 0
-  cut-after-write n h s = shorter-answers (fileOf m) (vertexCount m) (triangleCount m) (written-reads m w) n (subst (λ (x : ℕ). n < x) (sym (file-length m)) h) s
-
 -- ---- the reader
 
 module _ (f : List ℕ) (v t : ℕ) (s : Mesh) (e : readOf f ≡ whole v t) (room : shortRoom v t s ≡ false) where
@@ -74,11 +65,3 @@ module _ (f : List ℕ) (v t : ℕ) (s : Mesh) (e : readOf f ≡ whole v t) (roo
 
   pub room-fills : filledIn f (readOf f) s ≡ overMesh (meshIn f v t) s
   room-fills = rw e (rw room refl)
-
--- ---- two outcomes that fit are equal
-
-pub write-settled : (m : Mesh) (f : List ℕ) (r₁ r₂ : Wrote) (g₁ g₂ : List ℕ) → Write.Answered m f r₁ g₁ → Write.Answered m f r₂ g₂ → (r₁ ≡ r₂) × (g₁ ≡ g₂)
-write-settled m f r₁ r₂ g₁ g₂ a b = (a .0 ∙ sym (b .0), a .1 ∙ sym (b .1))
-
-pub read-settled : (f : List ℕ) (s : Mesh) (r₁ r₂ : Read) (g₁ g₂ : Mesh) → Reads.Answered f s r₁ g₁ → Reads.Answered f s r₂ g₂ → (r₁ ≡ r₂) × (g₁ ≡ g₂)
-read-settled f s r₁ r₂ g₁ g₂ a b = (a .0 ∙ sym (b .0), a .1 ∙ sym (b .1))

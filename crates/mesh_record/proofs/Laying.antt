@@ -6,7 +6,7 @@ use native.Mathlib.Numerals.{add-one, add-two, add-three}
 use native.Mathlib.Omega.{arith}
 use mathlib.Core.Path.{_≡_, refl, sym, ap, _∙_}
 use mathlib.Core.List.{List, [], _∷_, _++_, append-assoc}
-use lib.ListN.{length, take, drop, set, length-append, length-take, length-drop, take-append-drop}
+use lib.ListN.{length, take, drop, set, length-append, length-take, take-append-drop}
 use lib.Seq.{sets, sets-eq, take-at, drop-append-add, drop-drop}
 use Rattle.rules.specs.Lists.{over}
 use Rattle.mesh_record.specs.Record.{each, laid}
@@ -21,9 +21,6 @@ module _ {A : Type 0} where
   pub four-stored : (x y z w : A) (old : List A) (at : ℕ) → at + 4 ≤ length old
       → set (set (set (set old at x) (at + 1) y) (at + 2) z) (at + 3) w ≡ laid (x ∷ y ∷ z ∷ w ∷ []) at old
   four-stored x y z w old at h = simp (add-one, add-two, add-three) (stored (x ∷ y ∷ z ∷ w ∷ []) old at h)
-
-  pub length-laid : (new : List A) (at : ℕ) (old : List A) → at + length new ≤ length old → length (laid new at old) ≡ length old
-  length-laid new at old h = simp (length-append, length-take, length-drop) (omega arith)
 
   pub laid-none : (at : ℕ) (old : List A) → laid [] at old ≡ old
   laid-none at old = rw add-zero (take-append-drop at old)

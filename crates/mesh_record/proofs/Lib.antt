@@ -1,6 +1,5 @@
 -- The laws that belong to no one function.
 pub mod Either
-pub mod Numbers
 pub mod OneWord
 pub mod Laying
 pub mod Recording

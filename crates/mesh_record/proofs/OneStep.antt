@@ -6,12 +6,12 @@ use mathlib.Core.List.{List}
 use borrow.Author.Tests.{lt-ltb, le-ltb}
 use lib.Dec.{ltb}
 use lib.ListN.{length}
+use Rattle.rules.proofs.Tests.{less-or-not}
 use Rattle.mesh_record.specs.Faults.{wordsAt, faultOf, stepOf, stepAt}
 use Rattle.mesh_record.specs.declared.Words.{Words}
 use Rattle.mesh_record.specs.declared.Seen.{Seen}
 use Rattle.mesh_record.specs.declared.Step.{Step}
 use Rattle.mesh_record.specs.declared.Step.the-variants.{Vertex, Triangle, Closed, Refused}
-use Rattle.mesh_record.proofs.Numbers.{le-or-lt}
 
 pub step-good : (f : List ℕ) (at : ℕ) (s : Seen) (w : Words) (n : ℕ) (r : Step) → at + 32 ≤ length f → w ≡ wordsAt f at
     → n ≡ faultOf w s (ltb (at + 32) (length f)) → r ≡ stepOf n (w .kind) → r ≡ stepAt f at s
@@ -30,4 +30,4 @@ Good (Refused n) = ⊥
 
 -- a record that is not refused is whole
 pub good-whole : (f : List ℕ) (at : ℕ) (s : Seen) → Good (stepAt f at s) → at + 32 ≤ length f
-good-whole f at s g = ⊎-elim (λ h. h) (λ h. absurd (subst Good (step-cut f at s h) g)) (le-or-lt (at + 32) (length f))
+good-whole f at s g = ⊎-elim (λ h. absurd (subst Good (step-cut f at s h) g)) (λ h. h) (less-or-not (length f) (at + 32))

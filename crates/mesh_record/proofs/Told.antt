@@ -5,7 +5,7 @@ use mathlib.Core.Path.{_≡_, refl, sym, _∙_, subst}
 use mathlib.Core.Bool.{Bool, true, false, not, _&&_, _||_, cond}
 use mathlib.Core.List.{List, [], _∷_}
 use borrow.Author.Tests.{eq-eqb, eqb-true, ltb-false, le-ltb, not-false}
-use lib.Dec.{T, ltb, eqb}
+use lib.Dec.{ltb, eqb}
 use lib.ListN.{length}
 use Rattle.mesh_record.specs.Record.{wordAt, sumOf}
 use Rattle.mesh_record.specs.Faults.{wordsAt, badSum, badKind, allZero, badZero, badCounts, badIndex, threeFinite, badFloat, badEnd, faultOf, goodStep, stepOf, stepAt}
@@ -30,9 +30,6 @@ pub both-right : (a b : Bool) → a && b ≡ true → b ≡ true
 both-right true b h = h
 both-right false true h = refl
 both-right false false h = h
-
-pub is-so : (b : Bool) → b ≡ true → T b
-is-so b e = subst T (sym e) tt
 
 -- ---- no fault
 

@@ -1,55 +1,33 @@
 -- Document 01, "Under the caps every number written is finite, .. and the rounded position lies within the cell on each axis": of what a call that is
 -- done has written, in the lists afterwards. From under-caps of each vertex. Assumes nothing.
-use Prim.Native.Nat.{ℕ, zero, suc, _+_, _*_, _/_, _%_, _<_}
-use native.Mathlib.Nat.{not-suc-le-zero, le-of-suc-le-suc}
+use Prim.Native.Nat.{ℕ, _+_, _*_, _<_}
 use native.Mathlib.Omega.{arith}
-use mathlib.Core.List.{List, [], _∷_, _++_, map}
-use mathlib.Core.Path.{_≡_, refl, sym, subst, _∙_}
+use mathlib.Core.Bool.{Bool, not}
+use mathlib.Core.List.{List, map}
+use mathlib.Core.Path.{sym, subst}
 use lib.Dec.{T}
 use lib.Ieee.{Float, nan, binary32, fits}
-use lib.ListN.{length, getD, length-map, drop, List·getD-append, List·getD-map}
-use Rattle.rules.specs.Grid.{GridPoint, Box, Field, index, inBox, isCell, value}
-use Rattle.rules.specs.Lists.{keep, over}
+use lib.ListN.{length, getD, length-map, drop, List·getD-map}
+use Rattle.rules.specs.Grid.{GridPoint, index, inBox, value}
+use Rattle.rules.specs.Lists.{over}
 use Rattle.rules.specs.Cell.{Vector}
-use Rattle.rules.specs.Vertices.{surfaceCell, vertices, cells, vertexPosition, vertexNormal}
-use Rattle.rules.specs.Call.{Call, Buffers, vertexCount, flatPoints, flatVectors, written}
+use Rattle.rules.specs.Vertices.{vertices, vertexPosition, vertexNormal}
+use Rattle.rules.specs.Call.{Call, Buffers, badLength, vertexCount, flatPoints, flatVectors, written}
+use Rattle.rules.proofs.Lists.{all-at, by-threes}
 use Rattle.rules.proofs.Indexes.{index-below}
-use Rattle.rules.proofs.Every.{Every, every-of, every-any, every-kept}
-use Rattle.rules.proofs.Counting.{vertices-are}
-use Rattle.rules.proofs.Inside.{vertex-cells}
+use Rattle.rules.proofs.Inside.{vertices-all}
 use Rattle.rules.proofs.Accepted.{Accepted}
-use Rattle.rules.proofs.Seen.{ThreeAt, three-at}
+use Rattle.rules.proofs.Seen.{ThreeAt, three-at, three-over, length-points, length-vectors}
 use Rattle.cube.proofs.Corners.{Finite}
 use Rattle.cube.proofs.ClosedCell.{InCell}
 use Rattle.cube.proofs.UnderCaps.{UnderCaps, under-caps}
-use Rattle.surface_nets.proofs.Lookups.{length-vectors, length-points}
+use Rattle.grid.specs.declared.Extent.{Extent}
+use Rattle.surface_nets.specs.Reading.{callMade}
 use Rattle.promises.specs.Served.{Served, Done}
-use Rattle.promises.proofs.Runs.{Run, served, gridOf, BedRun, bedServed, bedGrid}
+use Rattle.promises.proofs.Runs.{Run, gridOf, dimsOf, lowOf, highOf, planeOf, served, BedRun, bedGrid, bedDims, bedLow, bedHigh, bedPlane, bedServed}
 use Rattle.promises.proofs.Done.{done-accepts, done-counts, done-writes}
 
--- ---- each vertex is a surface cell of the box
-
-every-at : {A : Type 0} (P : A → Type 0) (l : List A) → Every P l → (n : ℕ) (d : A) → n < length l → P (getD l n d)
-every-at P [] h n d k = absurd (not-suc-le-zero k)
-every-at P (x ∷ xs) h zero d k = h .0
-every-at P (x ∷ xs) h (suc n) d k = every-at P xs (h .1) n d (le-of-suc-le-suc k)
-
-vertex-surface : (g : Field) (b : Box) → Every (λ (c : GridPoint). T (surfaceCell g c)) (vertices g b)
-vertex-surface g b =
-    rw (vertices-are g b)
-    (every-of (λ (c : GridPoint). Unit {0} × T (surfaceCell g c)) (λ (c : GridPoint). T (surfaceCell g c)) (λ c t. t .1) (keep (surfaceCell g) (cells b))
-    (every-kept (λ (c : GridPoint). Unit {0}) (surfaceCell g) (cells b) (every-any (λ (c : GridPoint). Unit {0}) (λ c. tt) (cells b))))
-
 -- ---- three numbers for each vertex
-
--- the first numbers of a longer list
-three-over : {A B : Type 0} (f h i : A → B) (l r : List B) (v : ℕ) (d : B) (a : A) → 3 * v + 2 < length l → ThreeAt f h i l v d a → ThreeAt f h i (l ++ r) v d a
-three-over f h i l r v d a k t =
-    record {
-      first = List·getD-append l r d (3 * v) (omega arith) ∙ t .first;
-      second = List·getD-append l r d (3 * v + 1) (omega arith) ∙ t .second;
-      third = List·getD-append l r d (3 * v + 2) k ∙ t .third;
-    }
 
 -- any cell, where a list is too short
 origin : GridPoint
@@ -69,19 +47,6 @@ vectors-at f vs old v k =
     (subst (ThreeAt (λ (w : Vector). w .x) (λ (w : Vector). w .y) (λ (w : Vector). w .z) (flatVectors (map f vs)) v nan) (List·getD-map f vs v origin)
     (three-at (λ (w : Vector). w .x) (λ (w : Vector). w .y) (λ (w : Vector). w .z) (map f vs) v nan (f origin) (rw (length-map vs f) k)))
 
--- what holds of three numbers for each vertex holds of each number
-by-threes : (P : ℕ → Type 0) (n : ℕ) → ((v : ℕ) → v < n → P (3 * v) × P (3 * v + 1) × P (3 * v + 2)) → (i : ℕ) → i < 3 * n → P i
-by-threes P n h i k = go (i % 3) (omega arith) refl
-  where
-    at : P (3 * (i / 3)) × P (3 * (i / 3) + 1) × P (3 * (i / 3) + 2)
-    at = h (i / 3) (omega arith)
-
-    go : (r : ℕ) → r < 3 → i % 3 ≡ r → P i
-    go zero l e = subst P (omega arith) (at .0)
-    go (suc zero) l e = subst P (omega arith) (at .1)
-    go (suc (suc zero)) l e = subst P (omega arith) (at .2)
-    go (suc (suc (suc r))) l e = absurd (omega arith)
-
 -- ---- what is written, vertex by vertex
 
 -- the numbers that stand at i in the lists: the position within its cell, position and normal finite
@@ -94,9 +59,8 @@ module _ (c : Call) (s : Buffers) (a : Accepted (c .grid) (c .size) (length (s .
     (values32 : (p : GridPoint) → T (inBox (c .box) p) → T (fits binary32 (value (c .grid) p))) where
   vertex-caps : (v : ℕ) → v < vertexCount c → UnderCaps (c .grid) (getD (vertices (c .grid) (c .box)) v origin)
   vertex-caps v k =
-      under-caps (c .grid) (c .box) (getD (vertices (c .grid) (c .box)) v origin) values32 (a .dims) (a .box) (a .distance)
-      (every-at (λ (p : GridPoint). T (isCell (c .box) p)) (vertices (c .grid) (c .box)) (vertex-cells (c .grid) (c .box)) v origin k)
-      (every-at (λ (p : GridPoint). T (surfaceCell (c .grid) p)) (vertices (c .grid) (c .box)) (vertex-surface (c .grid) (c .box)) v origin k)
+      let t = all-at (vertices-all (c .grid) (c .box)) v k origin in
+      under-caps (c .grid) (c .box) (getD (vertices (c .grid) (c .box)) v origin) values32 (a .dims) (a .box) (a .distance) (t .0) (t .1)
 
   written-sound : (i : ℕ) → i < 3 * vertexCount c → Sound (written c s) i
   unfolding written
@@ -135,16 +99,17 @@ closed-mesh u values32 done = record { inside = λ v a k l. sound (3 * v + a) (o
 abbrev pub Binary32 : List Float → Type 0
 Binary32 grid = (i : ℕ) → i < length grid → T (fits binary32 (getD grid i nan))
 
+-- so are the distances at the points of a box that condition 3 lets pass
+pub values-held : (grid : List Float) (dims low high : Extent) (plane : Bool) → let c : Call = callMade grid dims low high plane in Binary32 grid → T (not (badLength (c .grid .dims) (c .box) (length grid)))
+    → (p : GridPoint) → T (inBox (c .box) p) → T (fits binary32 (value (c .grid) p))
+values-held grid dims low high plane h ok p t =
+    let c : Call = callMade grid dims low high plane in
+    h (index (c .grid .dims) p) (index-below (c .grid .dims) (c .box) (length grid) p ok t)
+
 pub surface-nets-closed : (u : Run) → Binary32 (gridOf u) → Done (served u) → ClosedMesh (served u)
 surface-nets-closed u h done =
-    closed-mesh (served u)
-    (λ (p : GridPoint) (t : T (inBox (served u .call .box) p)). h (index (served u .call .grid .dims) p)
-    (index-below (served u .call .grid .dims) (served u .call .box) (length (gridOf u)) p (done-accepts (served u) done .length) t))
-    done
+    closed-mesh (served u) (values-held (gridOf u) (dimsOf u) (lowOf u) (highOf u) (planeOf u) h (done-accepts (served u) done .length)) done
 
 pub bed-surface-nets-closed : (u : BedRun) → Binary32 (bedGrid u) → Done (bedServed u) → ClosedMesh (bedServed u)
 bed-surface-nets-closed u h done =
-    closed-mesh (bedServed u)
-    (λ (p : GridPoint) (t : T (inBox (bedServed u .call .box) p)). h (index (bedServed u .call .grid .dims) p)
-    (index-below (bedServed u .call .grid .dims) (bedServed u .call .box) (length (bedGrid u)) p (done-accepts (bedServed u) done .length) t))
-    done
+    closed-mesh (bedServed u) (values-held (bedGrid u) (bedDims u) (bedLow u) (bedHigh u) (bedPlane u) h (done-accepts (bedServed u) done .length)) done

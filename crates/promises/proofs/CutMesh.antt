@@ -2,21 +2,18 @@
 -- calls once for each piece, with a map as long as the grid and room for the piece's own mesh, is answered 0 each time, and the faces read from
 -- the lists of all the pieces are those of the whole, each once. From the laws of cutting and of what is read back. Assumes nothing.
 use Prim.Native.Nat.{ℕ, _+_, _*_, _≤_}
-use mathlib.Core.Bool.{false, not, _||_}
+use mathlib.Core.Bool.{false}
 use mathlib.Core.List.{List, [], _∷_, _++_, map}
 use mathlib.Core.Path.{_≡_, refl, sym, ap, ap₂, _∙_}
-use lib.Dec.{T, ltb}
 use lib.Arith.{le→nltb}
 use lib.Ieee.{Float, nan}
 use lib.ListN.{length, getD}
 use Rattle.rules.specs.Lists.{one, many, joined}
 use Rattle.rules.specs.Grid.{GridPoint, Axis, axisX, axisY, axisZ, Box, Field, along}
 use Rattle.rules.specs.Faces.{Edge, Flags, allThree, flag, gives, edges, changingEdges}
-use Rattle.rules.specs.Call.{Call, Room, Answer, room, answer, roomAnswer, badVertexRoom, badIndexRoom, vertexCount, indexCount}
+use Rattle.rules.specs.Call.{Call, Room, Answer, room, answer, vertexCount, indexCount}
 use Rattle.rules.specs.Cutting.{Piece, Cuts, uncut, cut, pieces, Fits, cleared, lowerPiece, upperPiece, Face, faceOf}
-use Rattle.rules.proofs.Tests.{is-not, nor-both}
-use Rattle.rules.proofs.Lists.{many-map}
-use Rattle.rules.proofs.Every.{Every, every-append}
+use Rattle.rules.proofs.Lists.{All, none, more, all-append, many-map}
 use Rattle.rules.proofs.Permutation.{Perm, perm-many}
 use Rattle.rules.proofs.Accepted.{Accepted, accepted-answer, pieces-accepted}
 use Rattle.rules.proofs.Edges.{sameEdge, edges-once}
@@ -25,6 +22,7 @@ use Rattle.rules.proofs.Cutting.{cut-law, last-upper}
 use Rattle.grid.specs.declared.Extent.{Extent}
 use Rattle.grid.specs.Block.{point}
 use Rattle.surface_nets.specs.Reading.{callMade}
+use Rattle.judge.proofs.Judging.{room-enough}
 use Rattle.promises.specs.Served.{Served, Done, pieceOf, facesRead}
 use Rattle.promises.proofs.Runs.{Run, gridOf, dimsOf, lowOf, highOf, planeOf, served, BedRun, bedGrid, bedDims, bedLow, bedHigh, bedPlane, bedServed}
 use Rattle.promises.proofs.ReadBack.{faces-back}
@@ -54,16 +52,9 @@ pub record HasRoom (c : Call) (r : Room) : Type 0 where
 
 -- then an accepted call is done
 room-done : (c : Call) (r : Room) → Accepted (c .grid) (c .size) (r .map) (c .box) → HasRoom c r → answer c r .number ≡ 0
-unfolding roomAnswer
 room-done c r a h =
-    ap (λ (t : Answer). t .number) (accepted-answer c r a)
-    ∙ rw (is-not (badVertexRoom r (vertexCount c)) vertex, is-not (badIndexRoom r (indexCount c)) (le→nltb (r .indices) (indexCount c) (h .indices))) refl
-  where
-    vertex : T (not (badVertexRoom r (vertexCount c)))
-    vertex =
-        nor-both (ltb (r .positions) (3 * vertexCount c)) (ltb (r .normals) (3 * vertexCount c) || (ltb (r .cells) (3 * vertexCount c) || ltb (r .strides) (vertexCount c))) (le→nltb (r .positions) (3 * vertexCount c) (h .positions))
-        (nor-both (ltb (r .normals) (3 * vertexCount c)) (ltb (r .cells) (3 * vertexCount c) || ltb (r .strides) (vertexCount c)) (le→nltb (r .normals) (3 * vertexCount c) (h .normals))
-        (nor-both (ltb (r .cells) (3 * vertexCount c)) (ltb (r .strides) (vertexCount c)) (le→nltb (r .cells) (3 * vertexCount c) (h .cells)) (le→nltb (r .strides) (vertexCount c) (h .strides))))
+    ap (λ (t : Answer). t .number)
+    (accepted-answer c r a ∙ sym (room-enough r (vertexCount c) (indexCount c) (h .positions) (h .normals) (h .cells) (h .strides) (h .indices)))
 
 -- ---- pieces of a box with no max plane have none
 
@@ -72,20 +63,17 @@ no-flags axisX m e = ap (cleared axisX) e
 no-flags axisY m e = ap (cleared axisY) e
 no-flags axisZ m e = ap (cleared axisZ) e
 
-pieces-bare : (t : Cuts) (w : Piece) → w .flags ≡ allThree false → Every (λ (q : Piece). q .flags ≡ allThree false) (pieces t w)
+pieces-bare : (t : Cuts) (w : Piece) → w .flags ≡ allThree false → All (λ (q : Piece). q .flags ≡ allThree false) (pieces t w)
 unfolding pieces
-pieces-bare uncut w e = (e, tt)
-pieces-bare (cut a k lower upper) w e =
-    every-append (λ (q : Piece). q .flags ≡ allThree false) (pieces lower (lowerPiece a k w)) (pieces upper (upperPiece a k w))
-    (pieces-bare lower (lowerPiece a k w) (no-flags a (w .flags) e))
-    (pieces-bare upper (upperPiece a k w) e)
+pieces-bare uncut w e = more e none
+pieces-bare (cut a k lower upper) w e = all-append (pieces-bare lower (lowerPiece a k w) (no-flags a (w .flags) e)) (pieces-bare upper (upperPiece a k w) e)
 
 -- ---- what is concluded
 
 -- of a box of a grid, and what came of the calls on its pieces
 pub record CutMesh (g : Field) (b : Box) (us : List Served) : Type 0 where
   -- each call is answered 0
-  pub done : Every Done us
+  pub done : All Done us
   -- the faces read from the lists of all the pieces, each looked up in its own cells and positions, are the faces of the whole, each once:
   -- the same grid edges, and the same corners, by cell and position, in the same order round
   pub faces : Perm (joined facesRead us) (seen g (bare b))
@@ -117,9 +105,9 @@ module _ {U : Type 0} (made : U → Served) (grid : List Float) (dims : Extent) 
     pub roomy : HasRoom (boxCall grid dims (q .box)) (room (made run .before))
 
   -- what came of the calls, in the order of the pieces
-  abbrev pub outcomes : (ps : List Piece) → Every Meshed ps → List Served
-  outcomes [] ms = []
-  outcomes (q ∷ qs) ms = made (ms .0 .run) ∷ outcomes qs (ms .1)
+  abbrev pub outcomes : (ps : List Piece) → All Meshed ps → List Served
+  outcomes [] none = []
+  outcomes (q ∷ qs) (more m ms) = made (m .run) ∷ outcomes qs ms
 
   piece-done : (q : Piece) (m : Meshed q) → Accepted (fieldIn grid dims) (length grid) (length grid) (q .box) → Done (made (m .run))
   piece-done q m a =
@@ -136,20 +124,20 @@ module _ {U : Type 0} (made : U → Served) (grid : List Float) (dims : Extent) 
       ∙ ap (λ (c : Call). seen (c .grid) (pieceOf c)) (m .asked)
       ∙ ap (seen (fieldIn grid dims)) (λ i. record { box = q .box; flags = sym e i })
 
-  all-done : (ps : List Piece) (ms : Every Meshed ps) → Every (λ (q : Piece). Accepted (fieldIn grid dims) (length grid) (length grid) (q .box)) ps → Every Done (outcomes ps ms)
-  all-done [] ms hs = tt
-  all-done (q ∷ qs) ms hs = (piece-done q (ms .0) (hs .0), all-done qs (ms .1) (hs .1))
+  all-done : (ps : List Piece) (ms : All Meshed ps) → All (λ (q : Piece). Accepted (fieldIn grid dims) (length grid) (length grid) (q .box)) ps → All Done (outcomes ps ms)
+  all-done [] none none = none
+  all-done (q ∷ qs) (more m ms) (more h hs) = more (piece-done q m h) (all-done qs ms hs)
 
-  all-faces : (ps : List Piece) (ms : Every Meshed ps) → Every (λ (q : Piece). q .flags ≡ allThree false) ps → Every Done (outcomes ps ms)
+  all-faces : (ps : List Piece) (ms : All Meshed ps) → All (λ (q : Piece). q .flags ≡ allThree false) ps → All Done (outcomes ps ms)
       → joined facesRead (outcomes ps ms) ≡ joined (seen (fieldIn grid dims)) ps
   unfolding joined
-  all-faces [] ms es ds = refl
-  all-faces (q ∷ qs) ms es ds = ap₂ {A = List Face} _++_ (piece-faces q (ms .0) (es .0) (ds .0)) (all-faces qs (ms .1) (es .1) (ds .1))
+  all-faces [] none none none = refl
+  all-faces (q ∷ qs) (more m ms) (more e es) (more d ds) = ap₂ {A = List Face} _++_ (piece-faces q m e d) (all-faces qs ms es ds)
 
   -- ---- the law
 
   -- conditions 1 to 5 do not hold of the whole, with a map as long as the grid; "min ≤ k < max" at each cut, to any depth; and one call for each piece
-  pub cut-mesh : (t : Cuts) (b : Box) → Accepted (fieldIn grid dims) (length grid) (length grid) b → Fits t (bare b) → (ms : Every Meshed (pieces t (bare b)))
+  pub cut-mesh : (t : Cuts) (b : Box) → Accepted (fieldIn grid dims) (length grid) (length grid) b → Fits t (bare b) → (ms : All Meshed (pieces t (bare b)))
       → CutMesh (fieldIn grid dims) b (outcomes (pieces t (bare b)) ms)
   cut-mesh t b a f ms =
       let ps = pieces t (bare b) in
@@ -160,7 +148,7 @@ module _ {U : Type 0} (made : U → Served) (grid : List Float) (dims : Extent) 
       record { done = d; faces = p; once = λ (x : Edge). perm-many (λ (f : Face). sameEdge x (f .edge)) p ∙ seen-once (fieldIn grid dims) b x; number = ap length e ∙ l .1 }
 
   -- beside a call for the whole, with room: it is done too, and its lists show the same faces
-  pub cut-mesh-whole : (t : Cuts) (b : Box) → Accepted (fieldIn grid dims) (length grid) (length grid) b → Fits t (bare b) → (ms : Every Meshed (pieces t (bare b))) → (whole : Meshed (bare b))
+  pub cut-mesh-whole : (t : Cuts) (b : Box) → Accepted (fieldIn grid dims) (length grid) (length grid) b → Fits t (bare b) → (ms : All Meshed (pieces t (bare b))) → (whole : Meshed (bare b))
       → Done (made (whole .run)) × Perm (joined facesRead (outcomes (pieces t (bare b)) ms)) (facesRead (made (whole .run)))
   cut-mesh-whole t b a f ms whole =
       let d = piece-done (bare b) whole a in
@@ -187,19 +175,19 @@ pub bed-run-asks : (u : BedRun) (grid : List Float) (dims : Extent) (b : Box) �
 bed-run-asks u grid dims b g d l h p = λ i. callMade (g i) (d i) (l i) (h i) (p i)
 
 pub surface-nets-cut : (grid : List Float) (dims : Extent) (t : Cuts) (b : Box) → Accepted (fieldIn grid dims) (length grid) (length grid) b → Fits t (bare b)
-    → (ms : Every (Meshed {U = Run} served grid dims) (pieces t (bare b))) → CutMesh (fieldIn grid dims) b (outcomes served grid dims (pieces t (bare b)) ms)
+    → (ms : All (Meshed {U = Run} served grid dims) (pieces t (bare b))) → CutMesh (fieldIn grid dims) b (outcomes served grid dims (pieces t (bare b)) ms)
 surface-nets-cut grid dims = cut-mesh served grid dims
 
 pub surface-nets-cut-whole : (grid : List Float) (dims : Extent) (t : Cuts) (b : Box) → Accepted (fieldIn grid dims) (length grid) (length grid) b → Fits t (bare b)
-    → (ms : Every (Meshed {U = Run} served grid dims) (pieces t (bare b))) (whole : Meshed {U = Run} served grid dims (bare b))
+    → (ms : All (Meshed {U = Run} served grid dims) (pieces t (bare b))) (whole : Meshed {U = Run} served grid dims (bare b))
     → Done (served (whole .run)) × Perm (joined facesRead (outcomes served grid dims (pieces t (bare b)) ms)) (facesRead (served (whole .run)))
 surface-nets-cut-whole grid dims = cut-mesh-whole served grid dims
 
 pub bed-surface-nets-cut : (grid : List Float) (dims : Extent) (t : Cuts) (b : Box) → Accepted (fieldIn grid dims) (length grid) (length grid) b → Fits t (bare b)
-    → (ms : Every (Meshed {U = BedRun} bedServed grid dims) (pieces t (bare b))) → CutMesh (fieldIn grid dims) b (outcomes bedServed grid dims (pieces t (bare b)) ms)
+    → (ms : All (Meshed {U = BedRun} bedServed grid dims) (pieces t (bare b))) → CutMesh (fieldIn grid dims) b (outcomes bedServed grid dims (pieces t (bare b)) ms)
 bed-surface-nets-cut grid dims = cut-mesh bedServed grid dims
 
 pub bed-surface-nets-cut-whole : (grid : List Float) (dims : Extent) (t : Cuts) (b : Box) → Accepted (fieldIn grid dims) (length grid) (length grid) b → Fits t (bare b)
-    → (ms : Every (Meshed {U = BedRun} bedServed grid dims) (pieces t (bare b))) (whole : Meshed {U = BedRun} bedServed grid dims (bare b))
+    → (ms : All (Meshed {U = BedRun} bedServed grid dims) (pieces t (bare b))) (whole : Meshed {U = BedRun} bedServed grid dims (bare b))
     → Done (bedServed (whole .run)) × Perm (joined facesRead (outcomes bedServed grid dims (pieces t (bare b)) ms)) (facesRead (bedServed (whole .run)))
 bed-surface-nets-cut-whole grid dims = cut-mesh-whole bedServed grid dims

@@ -16,8 +16,7 @@ use Rattle.rules.specs.Cutting.{Face, looked, facesSeen}
 use Rattle.rules.proofs.Lists.{All, none, more, all-then, map-same}
 use Rattle.rules.proofs.Edges.{index-count}
 use Rattle.rules.proofs.Numbers.{every-index-below}
-use Rattle.rules.proofs.Seen.{seen, seen-number}
-use Rattle.surface_nets.proofs.Lookups.{length-vectors, length-points}
+use Rattle.rules.proofs.Seen.{length-points, length-vectors, seen, seen-number}
 use Rattle.promises.specs.Served.{Served, Done, pieceOf, facesRead}
 use Rattle.promises.proofs.Done.{done-counts, done-writes}
 

@@ -1,52 +1,27 @@
 -- Document 01, "Cutting a box": the pieces of an accepted box, with the one grid and its map, are accepted under conditions 1 to 5, to any depth of
 -- cuts; and what those conditions say of a call's answer. From the definitions of Call and Cutting. Assumes nothing.
-use Prim.Native.Nat.{ℕ, suc, _+_, _≤_, _<_}
+use Prim.Native.Nat.{ℕ, suc, _≤_, _<_}
 use mathlib.Core.Bool.{Bool, true, false, not, cond}
-use mathlib.Core.List.{List, map}
-use mathlib.Core.Path.{_≡_}
+use mathlib.Core.Path.{_≡_, refl}
 use native.Mathlib.Nat.{suc-ne-zero}
 use native.Mathlib.Omega.{arith}
-use lib.Dec.{T, nleb→lt}
+use lib.Dec.{T, nleb→lt, T-not, not-T}
 use lib.Arith.{lt→nleb}
-use Rattle.rules.specs.Lists.{upTo}
+use lib.Ieee.Bits.{is-false}
 use Rattle.rules.specs.Grid.{GridPoint, Axis, axisX, axisY, axisZ, Box, Field, along, index, inBox, value}
-use Rattle.rules.specs.Faces.{layerPoints, pointLayers}
-use Rattle.rules.specs.Call.{Call, Room, Answer, answers, badDimensions, badBox, badLength, badMap, beyond, badLayer, badDistance, vertexCount, indexCount, roomAnswer, answer}
+use Rattle.rules.specs.Call.{Call, Room, Answer, answers, badDimensions, badBox, badLength, badMap, beyond, badDistance, badVertexRoom, badIndexRoom, vertexCount, indexCount, roomAnswer, answer}
 use Rattle.rules.specs.Cutting.{Piece, Cuts, uncut, cut, lowerPiece, upperPiece, pieces, Fits}
-use Rattle.rules.proofs.Tests.{is-not}
+use Rattle.rules.proofs.Lists.{All, none, more, all-append}
 use Rattle.rules.proofs.Indexes.{within, in-box, BoxFits, box-fits, not-bad-box, index-monotone}
-use Rattle.rules.proofs.Every.{Every, every-of, every-append, every-upTo, every-upTo-back, every-joined-back, every-map-back, none-some, some-none}
-use Rattle.rules.proofs.Inside.{layer-points}
+use Rattle.rules.proofs.Inside.{none-in, in-none, distance-is}
 
 -- ---- condition 5, point by point
 
 pub distances-ok : (g : Field) (b : Box) → T (not (badDistance g b)) → (p : GridPoint) → T (inBox b p) → T (not (beyond (value g p)))
-unfolding badDistance badLayer layerPoints
-distances-ok g b ok p t =
-    let w = within b p t in
-    let layer : T (not (badLayer g b (p .z))) = every-upTo-back (λ (z : ℕ). T (not (badLayer g b z))) (b .low .z) (b .high .z + 1) (some-none (badLayer g b) (pointLayers b) ok) (p .z) (w .z .0) (omega arith) in
-    let rows : Every fine (layerPoints b (p .z)) = some-none (λ (q : GridPoint). beyond (value g q)) (layerPoints b (p .z)) layer in
-    let row : Every fine (line (p .y)) = every-upTo-back (λ (y : ℕ). Every fine (line y)) (b .low .y) (b .high .y + 1) (every-joined-back fine line (upTo (b .low .y) (b .high .y + 1)) rows) (p .y) (w .y .0) (omega arith) in
-    every-upTo-back (λ (x : ℕ). fine (at (p .y) x)) (b .low .x) (b .high .x + 1) (every-map-back fine (at (p .y)) (upTo (b .low .x) (b .high .x + 1)) row) (p .x) (w .x .0) (omega arith)
-  where
-    fine : GridPoint → Type 0
-    fine q = T (not (beyond (value g q)))
-
-    at : ℕ → ℕ → GridPoint
-    at y x = record { x = x; y = y; z = p .z }
-
-    line : ℕ → List GridPoint
-    line y = map (at y) (upTo (b .low .x) (b .high .x + 1))
+distances-ok g b ok p t = not-T (beyond (value g p)) (none-in b (λ (q : GridPoint). beyond (value g q)) (rw (distance-is g b) ok) p t)
 
 pub ok-distances : (g : Field) (b : Box) → ((p : GridPoint) → T (inBox b p) → T (not (beyond (value g p)))) → T (not (badDistance g b))
-unfolding badDistance badLayer
-ok-distances g b fine =
-    none-some (badLayer g b) (pointLayers b) (every-upTo (λ (z : ℕ). T (not (badLayer g b z))) (b .low .z) (b .high .z + 1) layer)
-  where
-    layer : (z : ℕ) → b .low .z ≤ z → z < b .high .z + 1 → T (not (badLayer g b z))
-    layer z l h =
-        none-some (λ (p : GridPoint). beyond (value g p)) (layerPoints b z)
-        (every-of (λ (p : GridPoint). T (inBox b p)) (λ (p : GridPoint). T (not (beyond (value g p)))) fine (layerPoints b z) (layer-points b z l (omega arith)))
+ok-distances g b fine = rw (← distance-is g b) (in-none b (λ (q : GridPoint). beyond (value g q)) (λ p t. T-not (beyond (value g p)) (fine p t)))
 
 -- ---- an accepted call
 
@@ -62,9 +37,9 @@ pub record Accepted (g : Field) (size entries : ℕ) (b : Box) : Type 0 where
 pub accepted-answer : (c : Call) (r : Room) → Accepted (c .grid) (c .size) (r .map) (c .box) → answer c r ≡ roomAnswer r (vertexCount c) (indexCount c)
 unfolding answer
 accepted-answer c r a =
-    rw (is-not (badDimensions (c .grid .dims)) (a .dims), is-not (badBox (c .grid .dims) (c .box)) (a .box))
-    (rw (is-not (badLength (c .grid .dims) (c .box) (c .size)) (a .length), is-not (badMap (c .size) (r .map)) (a .map))
-    (rw (is-not (badDistance (c .grid) (c .box)) (a .distance))))
+    rw (is-false (badDimensions (c .grid .dims)) (a .dims), is-false (badBox (c .grid .dims) (c .box)) (a .box))
+    (rw (is-false (badLength (c .grid .dims) (c .box) (c .size)) (a .length), is-false (badMap (c .size) (r .map)) (a .map))
+    (rw (is-false (badDistance (c .grid) (c .box)) (a .distance))))
 
 -- a call that is done was accepted
 pub done-accepted : (c : Call) (r : Room) → answer c r .number ≡ 0 → Accepted (c .grid) (c .size) (r .map) (c .box)
@@ -95,6 +70,19 @@ done-accepted c r e =
     passed : (n : ℕ) (a : Bool) (rest : Answer) → cond a (answers (suc n) 0 0) rest .number ≡ 0 → T (not a) × (rest .number ≡ 0)
     passed n true rest h = absurd (suc-ne-zero n h)
     passed n false rest h = (tt, h)
+
+-- 6, 7 and 0 all say V and I
+room-counts : (r : Room) (v i : ℕ) → (roomAnswer r v i .vertices ≡ v) × (roomAnswer r v i .indices ≡ i)
+unfolding roomAnswer
+room-counts r v i = go (badVertexRoom r v) (badIndexRoom r i)
+  where
+    go : (p q : Bool) → (cond p (answers 6 v i) (cond q (answers 7 v i) (answers 0 v i)) .vertices ≡ v) × (cond p (answers 6 v i) (cond q (answers 7 v i) (answers 0 v i)) .indices ≡ i)
+    go true q = (refl, refl)
+    go false true = (refl, refl)
+    go false false = (refl, refl)
+
+pub done-counted : (c : Call) (r : Room) → answer c r .number ≡ 0 → (answer c r .vertices ≡ vertexCount c) × (answer c r .indices ≡ indexCount c)
+done-counted c r e = rw (accepted-answer c r (done-accepted c r e)) (room-counts r (vertexCount c) (indexCount c))
 
 -- ---- a box inside an accepted one
 
@@ -127,11 +115,11 @@ upper-inner d axisX k w f l h = omega arith
 upper-inner d axisY k w f l h = omega arith
 upper-inner d axisZ k w f l h = omega arith
 
-pub pieces-accepted : (g : Field) (size entries : ℕ) (t : Cuts) (w : Piece) → Fits t w → Accepted g size entries (w .box) → Every (λ (q : Piece). Accepted g size entries (q .box)) (pieces t w)
+pub pieces-accepted : (g : Field) (size entries : ℕ) (t : Cuts) (w : Piece) → Fits t w → Accepted g size entries (w .box) → All (λ (q : Piece). Accepted g size entries (q .box)) (pieces t w)
 unfolding pieces
-pieces-accepted g size entries uncut w fits a = (a, tt)
+pieces-accepted g size entries uncut w fits a = more a none
 pieces-accepted g size entries (cut ax k lower upper) w fits a =
     let f : BoxFits (g .dims) (w .box) = box-fits (g .dims) (w .box) (a .box) in
-    every-append (λ (q : Piece). Accepted g size entries (q .box)) (pieces lower (lowerPiece ax k w)) (pieces upper (upperPiece ax k w))
+    all-append
     (pieces-accepted g size entries lower (lowerPiece ax k w) (fits .2) (inner-accepted g size entries (w .box) (lowerPiece ax k w .box) (lower-inner (g .dims) ax k w f (fits .0) (fits .1)) a))
     (pieces-accepted g size entries upper (upperPiece ax k w) (fits .3) (inner-accepted g size entries (w .box) (upperPiece ax k w .box) (upper-inner (g .dims) ax k w f (fits .0) (fits .1)) a))

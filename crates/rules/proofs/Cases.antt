@@ -11,6 +11,7 @@ use lib.IntN.{pos, negsuc}
 use lib.Count.{trailingZeros}
 use lib.ListN.{length, getD, replicate}
 use lib.Ieee.{Float, nan, inf, fin, binary32, add, sub, mul, div, lt, ofInt, round, size, units, odd, neg, sum, span, climb, toBits}
+use lib.Ieee.Fits.{and-l, and-r}
 use Rattle.rules.specs.Lists.{run, upTo, keep, many, some, joined, place, placed}
 use Rattle.rules.specs.Grid.{GridPoint, axisX, axisY, Field, index}
 use Rattle.rules.specs.Cell.{Vector, zero32, one32, fraction, pointBetween, crossingPoint, crossingPoints, summed, crossings, centroid, position, normal}
@@ -18,7 +19,6 @@ use Rattle.rules.specs.Vertices.{rowCells, layerCells, cells, layerVerti
 use Rattle.rules.specs.Faces.{allThree, owned, changes, cellEdges, layerEdges, edges, shorter, faceCells, layerIndices, indices, layerPoints, points, changingEdges}
 use Rattle.rules.specs.Call.{Call, Buffers, room, Answer, badDimensions, badBox, badLength, beyond, badLayer, badDistance, roomAnswer, answer, written, afterwards}
 use Rattle.rules.specs.Cutting.{Piece, Cuts, uncut, cut, pieces, Fits}
-use Rattle.rules.proofs.Tests.{and-left, and-right}
 
 -- ---- what a case asks for
 
@@ -254,7 +254,7 @@ unfolding same
 same-equal [] [] t = refl
 same-equal [] (y ∷ ys) t = absurd t
 same-equal (x ∷ xs) [] t = absurd t
-same-equal (x ∷ xs) (y ∷ ys) t = ap₂ {C = List ℕ} (λ u us. u ∷ us) (eqb→eq x y (and-left (eqb x y) (same xs ys) t)) (same-equal xs ys (and-right (eqb x y) (same xs ys) t))
+same-equal (x ∷ xs) (y ∷ ys) t = ap₂ {C = List ℕ} (λ u us. u ∷ us) (eqb→eq x y (and-l (eqb x y) (same xs ys) t)) (same-equal xs ys (and-r (eqb x y) (same xs ys) t))
 
 passes : Case → Bool
 passes k = same (got (k .asked) (k .call) (k .lent)) (k .wanted)
@@ -270,8 +270,8 @@ all-pass = tt
 entry-of : (other : Case) (ks : List Case) → T (every ks) → (k : ℕ) → k < length ks → Holds (getD ks k other)
 unfolding every passes
 entry-of other [] t k h = absurd (not-suc-le-zero h)
-entry-of other (c ∷ ks) t zero h = same-equal (got (c .asked) (c .call) (c .lent)) (c .wanted) (and-left (passes c) (every ks) t)
-entry-of other (c ∷ ks) t (suc k) h = entry-of other ks (and-right (passes c) (every ks) t) k (le-of-suc-le-suc h)
+entry-of other (c ∷ ks) t zero h = same-equal (got (c .asked) (c .call) (c .lent)) (c .wanted) (and-l (passes c) (every ks) t)
+entry-of other (c ∷ ks) t (suc k) h = entry-of other ks (and-r (passes c) (every ks) t) k (le-of-suc-le-suc h)
 
 -- each entry of the table holds
 pub case-holds : (other : Case) (k : ℕ) → k < length cases → Holds (getD cases k other)

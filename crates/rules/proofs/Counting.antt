@@ -2,47 +2,47 @@
 -- From the counts in a run of numbers, one axis after the other. Assumes nothing.
 use Prim.Native.Nat.{ℕ, _+_}
 use native.Mathlib.Omega.{arith}
-use mathlib.Core.Bool.{Bool, true, false, _&&_, and-comm}
+use mathlib.Core.Bool.{Bool, _&&_, and-comm}
 use mathlib.Core.List.{List, map}
-use mathlib.Core.Path.{_≡_, refl, sym, ap, ap₂, subst, _∙_}
+use mathlib.Core.Path.{_≡_, refl, sym, ap, ap₂, _∙_}
 use lib.Dec.{T, leb, ltb, eqb, eqb→eq, eqb-refl, leb→le, le→leb, ltb→lt, lt→ltb}
-use lib.Ieee.Fits.{and-i, and-l, and-r}
+use lib.Ieee.Fits.{and-i, and-l, and-r, eq→eqb}
 use lib.ListN.{length}
 use Rattle.rules.specs.Lists.{one, upTo, keep, many, joined}
 use Rattle.rules.specs.Grid.{below, GridPoint, Box, Field, samePoint, between, isCell, inBox}
 use Rattle.rules.specs.Vertices.{rowCells, layerCells, layers, cells, surfaceCell, layerVertices, vertices}
 use Rattle.rules.specs.Faces.{layerPoints, points}
-use Rattle.rules.proofs.Tests.{same-test}
+use Rattle.rules.proofs.Tests.{same-test, same-moves}
 use Rattle.rules.proofs.Lists.{All, all-each, all-then, all-map, all-joined, all-keep, length-keep, many-keep, many-same, many-and, many-with, many-map, many-joined-once, keep-joined}
 use Rattle.rules.proofs.Runs.{upTo-once, upTo-all}
+use Rattle.rules.proofs.Indexes.{Same, same-point}
 
 -- ---- points told apart
 
-pub samePoint-sound : (p q : GridPoint) → T (samePoint p q) → p ≡ q
-samePoint-sound p q t = λ i. record { x = ex i; y = ey i; z = ez i }
+pub same-says : (p q : GridPoint) → T (samePoint p q) → Same p q
+same-says p q t = (
+  eqb→eq (p .x) (q .x) (and-l (eqb (p .x) (q .x)) (eqb (p .y) (q .y) && eqb (p .z) (q .z)) t),
+  eqb→eq (p .y) (q .y) (and-l (eqb (p .y) (q .y)) (eqb (p .z) (q .z)) rest),
+  eqb→eq (p .z) (q .z) (and-r (eqb (p .y) (q .y)) (eqb (p .z) (q .z)) rest),
+)
   where
     rest : T (eqb (p .y) (q .y) && eqb (p .z) (q .z))
     rest = and-r (eqb (p .x) (q .x)) (eqb (p .y) (q .y) && eqb (p .z) (q .z)) t
 
-    ex : p .x ≡ q .x
-    ex = eqb→eq (p .x) (q .x) (and-l (eqb (p .x) (q .x)) (eqb (p .y) (q .y) && eqb (p .z) (q .z)) t)
+pub says-same : (p q : GridPoint) → Same p q → T (samePoint p q)
+says-same p q h =
+    and-i (eqb (p .x) (q .x)) (eqb (p .y) (q .y) && eqb (p .z) (q .z)) (eq→eqb (h .0))
+    (and-i (eqb (p .y) (q .y)) (eqb (p .z) (q .z)) (eq→eqb (h .1)) (eq→eqb (h .2)))
 
-    ey : p .y ≡ q .y
-    ey = eqb→eq (p .y) (q .y) (and-l (eqb (p .y) (q .y)) (eqb (p .z) (q .z)) rest)
-
-    ez : p .z ≡ q .z
-    ez = eqb→eq (p .z) (q .z) (and-r (eqb (p .y) (q .y)) (eqb (p .z) (q .z)) rest)
+pub samePoint-sound : (p q : GridPoint) → T (samePoint p q) → p ≡ q
+samePoint-sound p q t = same-point (same-says p q t)
 
 pub samePoint-itself : (p : GridPoint) → T (samePoint p p)
-samePoint-itself p = and-i (eqb (p .x) (p .x)) (eqb (p .y) (p .y) && eqb (p .z) (p .z)) (eqb-refl (p .x)) (and-i (eqb (p .y) (p .y)) (eqb (p .z) (p .z)) (eqb-refl (p .y)) (eqb-refl (p .z)))
+samePoint-itself p = says-same p p (refl, refl, refl)
 
 -- where a test goes with the same point, it may be asked of either
 pub samePoint-moves : (f : GridPoint → Bool) (p q : GridPoint) → (f q && samePoint p q) ≡ (f p && samePoint p q)
-samePoint-moves f p q = go (samePoint p q) refl
-  where
-    go : (c : Bool) → samePoint p q ≡ c → (f q && c) ≡ (f p && c)
-    go true e = ap (λ r. f r && true) (sym (samePoint-sound p q (subst T (sym e) tt)))
-    go false e = and-comm (f q) false ∙ and-comm false (f p)
+samePoint-moves = same-moves samePoint samePoint-sound
 
 -- ---- one axis after the other, in any three runs of numbers
 
@@ -141,10 +141,6 @@ kept-once f l p t e =
 pub layerVertices-once : (g : Field) (b : Box) (z : ℕ) (c : GridPoint) → many (samePoint c) (layerVertices g b z) ≡ one (isLayerCell b z c && surfaceCell g c)
 unfolding layerVertices
 layerVertices-once g b z c = kept-once (surfaceCell g) (layerCells b z) c (isLayerCell b z c) (layerCells-once b z c)
-
-pub layerVertices-are : (g : Field) (b : Box) (z : ℕ) → layerVertices g b z ≡ keep (surfaceCell g) (layerCells b z)
-unfolding layerVertices
-layerVertices-are g b z = refl
 
 pub vertices-are : (g : Field) (b : Box) → vertices g b ≡ keep (surfaceCell g) (cells b)
 unfolding vertices layerVertices cells

@@ -1,34 +1,17 @@
 -- A surface cell has 3 to 12 crossed edges, and as many points are averaged. From the definitions of Cell, by one computed test over the
 -- 256 rows of eight signs. Assumes nothing.
-use Prim.Native.Nat.{ℕ, zero, suc, _+_, _≤_}
-use mathlib.Core.Bool.{Bool, true, false, not, _&&_, _||_, cond}
+use Prim.Native.Nat.{ℕ, zero, suc, _≤_}
+use mathlib.Core.Bool.{Bool, true, false, not, _&&_, _||_}
 use mathlib.Core.List.{List, [], _∷_, map}
-use mathlib.Core.Path.{_≡_, refl, sym, ap, _∙_}
+use mathlib.Core.Path.{_≡_, sym, _∙_}
 use native.Mathlib.Nat.{suc-inj, suc-ne-zero}
-use native.Mathlib.Numerals.{one-add}
-use native.Mathlib.Nat.{zero-add}
 use lib.Dec.{T, leb, leb→le}
 use lib.ListN.{length, getD, length-map, List·getD-map}
 use lib.Ieee.{Float, nan, unlike, lt}
-use Rattle.rules.specs.Lists.{one, keep, many}
+use lib.Ieee.Fits.{and-l, and-r}
+use Rattle.rules.specs.Lists.{keep, many}
 use Rattle.rules.specs.Cell.{CubeEdge, cubeEdges, negative, negatives, surface, crosses, crossings, crossingPoint, crossingPoints}
-use Rattle.rules.proofs.Tests.{and-left, and-right}
-
--- ---- counting
-
-length-keep : {A : Type 0} (f : A → Bool) (xs : List A) → length (keep f xs) ≡ many f xs
-unfolding keep many
-length-keep f [] = refl
-length-keep {A} f (x ∷ xs) = kept (f x) ∙ ap (λ (n : ℕ). one (f x) + n) (length-keep f xs)
-  where
-    kept : (b : Bool) → length (cond b (x ∷ keep f xs) (keep f xs)) ≡ one b + length (keep f xs)
-    kept true = sym (one-add (length (keep f xs)))
-    kept false = sym (zero-add (length (keep f xs)))
-
-many-map : {A B : Type 0} (f : B → Bool) (g : A → B) (xs : List A) → many f (map g xs) ≡ many (λ (x : A). f (g x)) xs
-unfolding many
-many-map f g [] = refl
-many-map f g (x ∷ xs) = ap (λ (n : ℕ). one (f (g x)) + n) (many-map f g xs)
+use Rattle.rules.proofs.Lists.{length-keep, many-map}
 
 pub crossings-points : (d : List Float) → crossings d ≡ length (crossingPoints d)
 unfolding crossings crossingPoints
@@ -66,8 +49,8 @@ unfolding everyRow
 at-row zero f t [] e = t
 at-row zero f t (b ∷ s) e = absurd (suc-ne-zero (length s) e)
 at-row (suc n) f t [] e = absurd (suc-ne-zero n (sym e))
-at-row (suc n) f t (true ∷ s) e = at-row n (λ (r : List Bool). f (true ∷ r)) (and-left (everyRow n (λ (r : List Bool). f (true ∷ r))) (everyRow n (λ (r : List Bool). f (false ∷ r))) t) s (suc-inj e)
-at-row (suc n) f t (false ∷ s) e = at-row n (λ (r : List Bool). f (false ∷ r)) (and-right (everyRow n (λ (r : List Bool). f (true ∷ r))) (everyRow n (λ (r : List Bool). f (false ∷ r))) t) s (suc-inj e)
+at-row (suc n) f t (true ∷ s) e = at-row n (λ (r : List Bool). f (true ∷ r)) (and-l (everyRow n (λ (r : List Bool). f (true ∷ r))) (everyRow n (λ (r : List Bool). f (false ∷ r))) t) s (suc-inj e)
+at-row (suc n) f t (false ∷ s) e = at-row n (λ (r : List Bool). f (false ∷ r)) (and-r (everyRow n (λ (r : List Bool). f (true ∷ r))) (everyRow n (λ (r : List Bool). f (false ∷ r))) t) s (suc-inj e)
 
 -- a row with 1 to 7 signs set has 3 to 12 edges whose ends differ
 abbrev fewOrMany : List Bool → Bool
@@ -86,4 +69,4 @@ three-to-twelve d e t =
     let row : T (fewOrMany (map negative d)) = at-row 8 fewOrMany rows-pass (map negative d) (length-map d negative ∙ e) in
     let both : T (not (surface d) || (leb 3 (crossings d) && leb (crossings d) 12)) = rw (inside-is, turns-is) at row in
     let range : T (leb 3 (crossings d) && leb (crossings d) 12) = implied (surface d) (leb 3 (crossings d) && leb (crossings d) 12) both t in
-    (leb→le 3 (crossings d) (and-left (leb 3 (crossings d)) (leb (crossings d) 12) range), leb→le (crossings d) 12 (and-right (leb 3 (crossings d)) (leb (crossings d) 12) range))
+    (leb→le 3 (crossings d) (and-l (leb 3 (crossings d)) (leb (crossings d) 12) range), leb→le (crossings d) 12 (and-r (leb 3 (crossings d)) (leb (crossings d) 12) range))

@@ -3,7 +3,7 @@
 use Prim.Native.Nat.{ℕ, _+_, _*_}
 use native.Mathlib.Omega.{arith}
 use mathlib.Core.Bool.{Bool, true, false, _&&_, and-false}
-use mathlib.Core.List.{List, [], _∷_, map}
+use mathlib.Core.List.{List, map}
 use mathlib.Core.Path.{_≡_, refl, sym, ap, ap₂, _∙_}
 use lib.Dec.{T}
 use lib.Ieee.Fits.{and-i, and-l, and-r}
@@ -14,10 +14,11 @@ use Rattle.rules.specs.Cell.{negative}
 use Rattle.rules.specs.Vertices.{layers, surfaceCell, layerVertices, vertices, firstVertex, numberIn}
 use Rattle.rules.specs.Faces.{points, Edge, Flags, gives, edge, edgesAt, cellEdges, layerEdges, edges, cell1, cell2, cell3, cell4, six, shorter, faceCells, layerIndices, indices, changingEdges}
 use Rattle.rules.proofs.Tests.{same-test}
-use Rattle.rules.proofs.Lists.{All, all-each, all-then, all-joined, all-keep, joined-joined, total, total-same, total-plus, total-times, total-scaled, length-keep, many-keep, many-total, many-with, many-joined-once, length-joined, none, more}
+use Rattle.rules.proofs.Lists.{All, all-each, all-then, all-joined, all-keep, joined-joined, total, total-same, total-plus, total-scaled, length-keep, many-keep, many-total, many-with, many-joined-once, length-joined, joined-length, none, more}
 use Rattle.rules.proofs.Permutation.{Perm, perm-length, perm-counts}
 use Rattle.rules.proofs.Counting.{samePoint-sound, samePoint-itself, samePoint-moves, isLayerCell, layer-z, points-once, vertices-once, layerVertices-all}
-use Rattle.rules.proofs.FourCells.{cell-inBox, four-on, gives-cell}
+use Rattle.rules.proofs.Indexes.{cell-in-box}
+use Rattle.rules.proofs.FourCells.{four-on, gives-cell}
 
 -- ---- edges told apart
 
@@ -124,18 +125,19 @@ foundEdges g b m = joined (λ (p : GridPoint). keep (gives g b m) (edgesAt p)) (
 pub edges-found : (g : Field) (b : Box) (m : Flags) → Perm (edges g b m) (foundEdges g b m)
 edges-found g b m =
     perm-counts sameEdge sameEdge-sound sameEdge-itself (edges g b m) (foundEdges g b m)
-    (λ e. edges-once g b m e ∙ sym (joined-edges-once (gives g b m) (points b) e (inBox b (e .from)) (points-once b (e .from)) (λ t. cell-inBox b (e .from) (gives-cell g b m e t))))
+    (λ e. edges-once g b m e ∙ sym (joined-edges-once (gives g b m) (points b) e (inBox b (e .from)) (points-once b (e .from)) (λ t. cell-in-box b (e .from) (gives-cell g b m e t))))
 
-many-three : {A : Type 0} (f : A → Bool) (x y z : A) → many f (x ∷ y ∷ z ∷ []) ≡ one (f x) + one (f y) + one (f z)
-unfolding many
-many-three f x y z = omega arith
+pub cellEdges-length : (g : Field) (b : Box) (m : Flags) (c : GridPoint)
+    → length (cellEdges g b m c) ≡ one (gives g b m (edge axisX c)) + one (gives g b m (edge axisY c)) + one (gives g b m (edge axisZ c))
+unfolding cellEdges many
+cellEdges-length g b m c = length-keep (gives g b m) (edgesAt c) ∙ omega arith
 
 pub edge-count : (g : Field) (b : Box) (m : Flags) → length (edges g b m) ≡ changingEdges g b m
-unfolding changingEdges
+unfolding changingEdges cellEdges
 edge-count g b m =
     perm-length (edges-found g b m)
     ∙ length-joined (λ (p : GridPoint). keep (gives g b m) (edgesAt p)) (points b)
-    ∙ total-same (all-each three (points b))
+    ∙ total-same (all-each (cellEdges-length g b m) (points b))
     ∙ total-plus (λ p. at axisX p + at axisY p) (at axisZ) (points b)
     ∙ ap₂ _+_ (total-plus (at axisX) (at axisY) (points b) ∙ ap₂ _+_ (along-axis axisX) (along-axis axisY)) (along-axis axisZ)
   where
@@ -144,9 +146,6 @@ edge-count g b m =
 
     along-axis : (a : Axis) → total (at a) (points b) ≡ many (λ (p : GridPoint). gives g b m (edge a p)) (points b)
     along-axis a = sym (many-total (λ (p : GridPoint). gives g b m (edge a p)) (points b))
-
-    three : (p : GridPoint) → length (keep (gives g b m) (edgesAt p)) ≡ at axisX p + at axisY p + at axisZ p
-    three p = length-keep (gives g b m) (edgesAt p) ∙ many-three (gives g b m) (edge axisX p) (edge axisY p) (edge axisZ p)
 
 -- ---- a face has six corners
 
@@ -160,12 +159,16 @@ faceCells-length g e = go (shorter g e) (negative (value g (e .from)))
     go false true = refl
     go false false = refl
 
+pub map-six : {A B : Type 0} (f : A → B) (s t : Bool) (v1 v2 v3 v4 : A) → map f (six s t v1 v2 v3 v4) ≡ six s t (f v1) (f v2) (f v3) (f v4)
+map-six f true true v1 v2 v3 v4 = refl
+map-six f true false v1 v2 v3 v4 = refl
+map-six f false true v1 v2 v3 v4 = refl
+map-six f false false v1 v2 v3 v4 = refl
+
 pub layer-index-count : (g : Field) (b : Box) (m : Flags) (first z : ℕ) → length (layerIndices g b m first z) ≡ 6 * length (layerEdges g b m z)
 unfolding layerIndices
 layer-index-count g b m first z =
-    length-joined (λ (e : Edge). map (numberIn g b z first) (faceCells g e)) (layerEdges g b m z)
-    ∙ total-same (all-each (λ e. length-map (faceCells g e) (numberIn g b z first) ∙ faceCells-length g e) (layerEdges g b m z))
-    ∙ total-times 6 (layerEdges g b m z)
+    joined-length (λ (e : Edge). map (numberIn g b z first) (faceCells g e)) 6 (λ e. length-map (faceCells g e) (numberIn g b z first) ∙ faceCells-length g e) (layerEdges g b m z)
 
 layer-lengths : (g : Field) (b : Box) (m : Flags) → length (edges g b m) ≡ total (λ (z : ℕ). length (layerEdges g b m z)) (layers b)
 unfolding edges

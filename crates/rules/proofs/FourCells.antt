@@ -1,6 +1,6 @@
 -- The four cells round an edge that gives a face: they are cells of the box, and surface cells, since both ends of the edge are corners of
 -- each. From the bounds that ownership gives, and the counts of negative corners. Assumes nothing.
-use Prim.Native.Nat.{ℕ, zero, suc, _≤_, _<_}
+use Prim.Native.Nat.{ℕ, zero, suc, _<_}
 use native.Mathlib.Omega.{arith}
 use mathlib.Core.Bool.{Bool, true, false, _&&_}
 use mathlib.Core.List.{List}
@@ -9,75 +9,13 @@ use lib.Dec.{T, leb, le→leb, ltb→lt}
 use lib.Ieee.{Float, nan, unlike}
 use lib.Ieee.Fits.{and-i, and-l, and-r}
 use lib.ListN.{length}
-use Rattle.rules.specs.Grid.{below, GridPoint, Box, Field, between, isCell, inBox, Axis, axisX, axisY, axisZ, along, stepUp, stepDown, turned, value}
+use Rattle.rules.specs.Grid.{GridPoint, Box, Field, isCell, Axis, axisX, axisY, axisZ, along, stepUp, stepDown, turned, value}
 use Rattle.rules.specs.Cell.{negative, negatives, surface, values, corner, cornerOf}
 use Rattle.rules.specs.Vertices.{surfaceCell}
 use Rattle.rules.specs.Faces.{Edge, Flags, axisB, axisC, aboveLow, insideMax, owned, changes, gives, edge, cell1, cell2, cell3, cell4}
-use Rattle.rules.proofs.Tests.{is-test, below-low, below-high, below-in}
+use Rattle.rules.proofs.Tests.{is-test}
 use Rattle.rules.proofs.Lists.{many-some, many-less}
-
--- ---- a cell of the box, as six bounds
-
-pub record InCells (b : Box) (p : GridPoint) : Type 0 where
-  pub lx : b .low .x ≤ p .x
-  pub hx : p .x < b .high .x
-  pub ly : b .low .y ≤ p .y
-  pub hy : p .y < b .high .y
-  pub lz : b .low .z ≤ p .z
-  pub hz : p .z < b .high .z
-
-pub cell-bounds : (b : Box) (p : GridPoint) → T (isCell b p) → InCells b p
-cell-bounds b p t =
-    record {
-      lx = below-low (b .low .x) (b .high .x) (p .x) tx;
-      hx = below-high (b .low .x) (b .high .x) (p .x) tx;
-      ly = below-low (b .low .y) (b .high .y) (p .y) ty;
-      hy = below-high (b .low .y) (b .high .y) (p .y) ty;
-      lz = below-low (b .low .z) (b .high .z) (p .z) tz;
-      hz = below-high (b .low .z) (b .high .z) (p .z) tz;
-    }
-  where
-    tx : T (below (b .low .x) (b .high .x) (p .x))
-    tx = and-l (below (b .low .x) (b .high .x) (p .x)) (below (b .low .y) (b .high .y) (p .y) && below (b .low .z) (b .high .z) (p .z)) t
-
-    rest : T (below (b .low .y) (b .high .y) (p .y) && below (b .low .z) (b .high .z) (p .z))
-    rest = and-r (below (b .low .x) (b .high .x) (p .x)) (below (b .low .y) (b .high .y) (p .y) && below (b .low .z) (b .high .z) (p .z)) t
-
-    ty : T (below (b .low .y) (b .high .y) (p .y))
-    ty = and-l (below (b .low .y) (b .high .y) (p .y)) (below (b .low .z) (b .high .z) (p .z)) rest
-
-    tz : T (below (b .low .z) (b .high .z) (p .z))
-    tz = and-r (below (b .low .y) (b .high .y) (p .y)) (below (b .low .z) (b .high .z) (p .z)) rest
-
-pub bounds-cell : (b : Box) (p : GridPoint) → InCells b p → T (isCell b p)
-bounds-cell b p h =
-    and-i
-    (below (b .low .x) (b .high .x) (p .x))
-    (below (b .low .y) (b .high .y) (p .y) && below (b .low .z) (b .high .z) (p .z))
-    (below-in (b .low .x) (b .high .x) (p .x) (h .lx) (h .hx))
-    (and-i
-    (below (b .low .y) (b .high .y) (p .y))
-    (below (b .low .z) (b .high .z) (p .z))
-    (below-in (b .low .y) (b .high .y) (p .y) (h .ly) (h .hy))
-    (below-in (b .low .z) (b .high .z) (p .z) (h .lz) (h .hz)))
-
-pub cell-inBox : (b : Box) (p : GridPoint) → T (isCell b p) → T (inBox b p)
-cell-inBox b p t =
-    and-i
-    (between (b .low .x) (b .high .x) (p .x))
-    (between (b .low .y) (b .high .y) (p .y) && between (b .low .z) (b .high .z) (p .z))
-    (side (b .low .x) (b .high .x) (p .x) (h .lx) (h .hx))
-    (and-i
-    (between (b .low .y) (b .high .y) (p .y))
-    (between (b .low .z) (b .high .z) (p .z))
-    (side (b .low .y) (b .high .y) (p .y) (h .ly) (h .hy))
-    (side (b .low .z) (b .high .z) (p .z) (h .lz) (h .hz)))
-  where
-    h : InCells b p
-    h = cell-bounds b p t
-
-    side : (low high k : ℕ) → low ≤ k → k < high → T (between low high k)
-    side low high k l u = and-i (leb low k) (leb k high) (le→leb low k l) (le→leb k high (omega arith))
+use Rattle.rules.proofs.Indexes.{Same, same-point, CellWithin, cell-within, is-cell}
 
 -- ---- the four cells round an owned edge
 
@@ -89,19 +27,17 @@ pub record Four (P : GridPoint → Type 0) (e : Edge) : Type 0 where
 
 -- what an owned edge says of its lowest corner
 pub record Owned (b : Box) (m : Flags) (e : Edge) : Type 0 where
-  pub cell : InCells b (e .from)
+  pub cell : CellWithin b (e .from)
   pub aboveB : along (axisB (e .axis)) (b .low) < along (axisB (e .axis)) (e .from)
   pub aboveC : along (axisC (e .axis)) (b .low) < along (axisC (e .axis)) (e .from)
-  pub inside : T (insideMax (e .axis) b m (e .from))
 
 pub owned-says : (b : Box) (m : Flags) (e : Edge) → T (owned b m e) → Owned b m e
 unfolding owned
 owned-says b m e t =
     record {
-      cell = cell-bounds b (e .from) (and-l (isCell b (e .from)) (up B && (up C && last)) t);
+      cell = cell-within b (e .from) (and-l (isCell b (e .from)) (up B && (up C && last)) t);
       aboveB = ltb→lt (along B (b .low)) (along B (e .from)) (and-l (up B) (up C && last) above);
       aboveC = ltb→lt (along C (b .low)) (along C (e .from)) (and-l (up C) last (and-r (up B) (up C && last) above));
-      inside = and-r (up C) last (and-r (up B) (up C && last) above);
     }
   where
     B : Axis
@@ -120,13 +56,13 @@ owned-says b m e t =
     above = and-r (isCell b (e .from)) (up B && (up C && last)) t
 
 -- down by one on an axis where the point is above the box's low corner, it is still a cell
-pub down-in : (a : Axis) (b : Box) (p : GridPoint) → InCells b p → along a (b .low) < along a p → InCells b (stepDown a p)
+pub down-in : (a : Axis) (b : Box) (p : GridPoint) → CellWithin b p → along a (b .low) < along a p → CellWithin b (stepDown a p)
 down-in axisX b p h k = omega arith
 down-in axisY b p h k = omega arith
 down-in axisZ b p h k = omega arith
 
 -- a step on one axis leaves the next as it was
-along-down : (a : Axis) (p : GridPoint) → along (turned a) (stepDown a p) ≡ along (turned a) p
+pub along-down : (a : Axis) (p : GridPoint) → along (turned a) (stepDown a p) ≡ along (turned a) p
 along-down axisX p = refl
 along-down axisY p = refl
 along-down axisZ p = refl
@@ -134,16 +70,16 @@ along-down axisZ p = refl
 pub four-in : (b : Box) (m : Flags) (e : Edge) → T (owned b m e) → Four (λ c. T (isCell b c)) e
 four-in b m e t =
     record {
-      one = bounds-cell b (cell1 e) (o .cell);
-      two = bounds-cell b (cell2 e) second;
-      three = bounds-cell b (cell3 e) (down-in (axisC (e .axis)) b (e .from) (o .cell) (o .aboveC));
-      four = bounds-cell b (cell4 e) (down-in (axisC (e .axis)) b (cell2 e) second (rw (along-down (axisB (e .axis)) (e .from)) (o .aboveC)));
+      one = is-cell b (cell1 e) (o .cell);
+      two = is-cell b (cell2 e) second;
+      three = is-cell b (cell3 e) (down-in (axisC (e .axis)) b (e .from) (o .cell) (o .aboveC));
+      four = is-cell b (cell4 e) (down-in (axisC (e .axis)) b (cell2 e) second (rw (along-down (axisB (e .axis)) (e .from)) (o .aboveC)));
     }
   where
     o : Owned b m e
     o = owned-says b m e t
 
-    second : InCells b (cell2 e)
+    second : CellWithin b (cell2 e)
     second = down-in (axisB (e .axis)) b (e .from) (o .cell) (o .aboveB)
 
 -- ---- the four cells round an edge with one negative end are surface cells
@@ -194,20 +130,16 @@ touching-surface g e c h t = on-surface (values g c) (h .near) (h .far) refl (h 
     far : corner (values g c) (h .far) ≡ value g (stepUp (e .axis) (e .from))
     far = corner-value g c (h .far) (h .farIn) ∙ ap (value g) (h .farIs)
 
--- where two points are equal, coordinate by coordinate
-abbrev Equal : GridPoint → GridPoint → Type 0
-Equal p q = (p .x ≡ q .x) × (p .y ≡ q .y) × (p .z ≡ q .z)
-
 touch : (e : Edge) (c : GridPoint) (near far : ℕ)
-    → (near < 8) × (far < 8) × Equal (cornerOf c near) (e .from) × Equal (cornerOf c far) (stepUp (e .axis) (e .from)) → Touches e c
+    → (near < 8) × (far < 8) × Same (cornerOf c near) (e .from) × Same (cornerOf c far) (stepUp (e .axis) (e .from)) → Touches e c
 touch e c near far h =
     record {
       near = near;
       far = far;
       nearIn = h .0;
       farIn = h .1;
-      nearIs = λ i. record { x = h .2 .0 i; y = h .2 .1 i; z = h .2 .2 i };
-      farIs = λ i. record { x = h .3 .0 i; y = h .3 .1 i; z = h .3 .2 i };
+      nearIs = same-point (h .2);
+      farIs = same-point (h .3);
     }
 
 pub four-touch : (a : Axis) (p : GridPoint) → 0 < along (axisB a) p → 0 < along (axisC a) p → Four (Touches (edge a p)) (edge a p)

@@ -1,21 +1,25 @@
 -- The index x + X·y + X·Y·z: below the grid's length at each point of an accepted box, back to its point, and moved by an axis's stride
--- at each step. From the definitions of Grid and conditions 2 and 3 of Call. Assumes nothing.
+-- at each step. From the definitions of Grid and conditions 1 to 3 of Call. Assumes nothing.
 use Prim.Native.Nat.{ℕ, _+_, _*_, _/_, _%_, _≤_, _<_}
 use mathlib.Core.Bool.{Bool, not, _&&_, _||_}
-use mathlib.Core.Path.{_≡_, refl, sym, ap, _∙_}
+use mathlib.Core.Path.{_≡_, sym, ap, _∙_}
 use native.Mathlib.Nat.{mul-add, mul-assoc, mul-one, mul-le-mul-left, add-assoc, mod-eq-of-lt, div-eq-of-lt, add-mul-mod-self-left, add-mul-div-left, mod-add-div, div-div-eq-div-mul, mul-suc}
 use native.Mathlib.Omega.{arith}
-use lib.Dec.{T, leb, ltb, leb→le, ltb→lt, nltb→le, nleb→lt, le→leb, lt→ltb}
+use lib.Dec.{T, leb, ltb, eqb, leb→le, nltb→le, nleb→lt, le→leb}
 use lib.Arith.{le→nltb, lt→nleb}
+use lib.Ieee.Fits.{and-i, and-l, and-r}
 use Rattle.rules.specs.Grid.{GridPoint, Axis, axisX, axisY, axisZ, Box, along, stepUp, stepDown, index, pointAt, between, inBox, below, isCell}
 use Rattle.rules.specs.Cell.{cornerOf}
-use Rattle.rules.specs.Call.{badSide, badBox, badLength}
-use Rattle.rules.proofs.Tests.{and-left, and-right, and-both, nor-left, nor-right, nor-both}
+use Rattle.rules.specs.Call.{badDimension, badDimensions, badSide, badBox, badLength}
+use Rattle.rules.proofs.Tests.{below-low, below-high, below-in, nor-left, nor-right, nor-both}
 
 -- ---- points by their coordinates
 
-pub same-point : {p q : GridPoint} → p .x ≡ q .x → p .y ≡ q .y → p .z ≡ q .z → p ≡ q
-same-point e f g = λ i. record { x = e i; y = f i; z = g i }
+abbrev pub Same : GridPoint → GridPoint → Type 0
+Same p q = (p .x ≡ q .x) × (p .y ≡ q .y) × (p .z ≡ q .z)
+
+pub same-point : {p q : GridPoint} → Same p q → p ≡ q
+same-point h = λ i. record { x = h .0 i; y = h .1 i; z = h .2 i }
 
 -- something of three numbers, on each axis
 pub record Axes (P : ℕ → ℕ → ℕ → Type 0) (a b c : GridPoint) : Type 0 where
@@ -23,23 +27,23 @@ pub record Axes (P : ℕ → ℕ → ℕ → Type 0) (a b c : GridPoint) : Type 
   pub y : P (a .y) (b .y) (c .y)
   pub z : P (a .z) (b .z) (c .z)
 
-abbrev everyAxis : (ℕ → ℕ → ℕ → Bool) → GridPoint → GridPoint → GridPoint → Bool
+abbrev pub everyAxis : (ℕ → ℕ → ℕ → Bool) → GridPoint → GridPoint → GridPoint → Bool
 everyAxis f a b c = f (a .x) (b .x) (c .x) && (f (a .y) (b .y) (c .y) && f (a .z) (b .z) (c .z))
 
 module _ (f : ℕ → ℕ → ℕ → Bool) (P : ℕ → ℕ → ℕ → Type 0) (a b c : GridPoint) where
-  axes : ((k m n : ℕ) → T (f k m n) → P k m n) → T (everyAxis f a b c) → Axes P a b c
+  pub axes : ((k m n : ℕ) → T (f k m n) → P k m n) → T (everyAxis f a b c) → Axes P a b c
   axes says t =
-      let yz : T (f (a .y) (b .y) (c .y) && f (a .z) (b .z) (c .z)) = and-right (f (a .x) (b .x) (c .x)) (f (a .y) (b .y) (c .y) && f (a .z) (b .z) (c .z)) t in
+      let yz : T (f (a .y) (b .y) (c .y) && f (a .z) (b .z) (c .z)) = and-r (f (a .x) (b .x) (c .x)) (f (a .y) (b .y) (c .y) && f (a .z) (b .z) (c .z)) t in
       record {
-        x = says (a .x) (b .x) (c .x) (and-left (f (a .x) (b .x) (c .x)) (f (a .y) (b .y) (c .y) && f (a .z) (b .z) (c .z)) t);
-        y = says (a .y) (b .y) (c .y) (and-left (f (a .y) (b .y) (c .y)) (f (a .z) (b .z) (c .z)) yz);
-        z = says (a .z) (b .z) (c .z) (and-right (f (a .y) (b .y) (c .y)) (f (a .z) (b .z) (c .z)) yz);
+        x = says (a .x) (b .x) (c .x) (and-l (f (a .x) (b .x) (c .x)) (f (a .y) (b .y) (c .y) && f (a .z) (b .z) (c .z)) t);
+        y = says (a .y) (b .y) (c .y) (and-l (f (a .y) (b .y) (c .y)) (f (a .z) (b .z) (c .z)) yz);
+        z = says (a .z) (b .z) (c .z) (and-r (f (a .y) (b .y) (c .y)) (f (a .z) (b .z) (c .z)) yz);
       }
 
-  of-axes : ((k m n : ℕ) → P k m n → T (f k m n)) → Axes P a b c → T (everyAxis f a b c)
+  pub of-axes : ((k m n : ℕ) → P k m n → T (f k m n)) → Axes P a b c → T (everyAxis f a b c)
   of-axes shows h =
-      and-both (f (a .x) (b .x) (c .x)) (f (a .y) (b .y) (c .y) && f (a .z) (b .z) (c .z)) (shows (a .x) (b .x) (c .x) (h .x))
-      (and-both (f (a .y) (b .y) (c .y)) (f (a .z) (b .z) (c .z)) (shows (a .y) (b .y) (c .y) (h .y)) (shows (a .z) (b .z) (c .z) (h .z)))
+      and-i (f (a .x) (b .x) (c .x)) (f (a .y) (b .y) (c .y) && f (a .z) (b .z) (c .z)) (shows (a .x) (b .x) (c .x) (h .x))
+      (and-i (f (a .y) (b .y) (c .y)) (f (a .z) (b .z) (c .z)) (shows (a .y) (b .y) (c .y) (h .y)) (shows (a .z) (b .z) (c .z) (h .z)))
 
 -- a point of the box, and a cell of the box
 abbrev pub Within : Box → GridPoint → Type 0
@@ -51,22 +55,22 @@ CellWithin b p = Axes (λ (low high n : ℕ). (low ≤ n) × (n < high)) (b .low
 pub within : (b : Box) (p : GridPoint) → T (inBox b p) → Within b p
 within b p t =
     axes between (λ (low high n : ℕ). (low ≤ n) × (n ≤ high)) (b .low) (b .high) p
-    (λ low high n h. (leb→le low n (and-left (leb low n) (leb n high) h), leb→le n high (and-right (leb low n) (leb n high) h))) t
+    (λ low high n h. (leb→le low n (and-l (leb low n) (leb n high) h), leb→le n high (and-r (leb low n) (leb n high) h))) t
 
 pub in-box : (b : Box) (p : GridPoint) → Within b p → T (inBox b p)
 in-box b p w =
     of-axes between (λ (low high n : ℕ). (low ≤ n) × (n ≤ high)) (b .low) (b .high) p
-    (λ low high n h. and-both (leb low n) (leb n high) (le→leb low n (h .0)) (le→leb n high (h .1))) w
+    (λ low high n h. and-i (leb low n) (leb n high) (le→leb low n (h .0)) (le→leb n high (h .1))) w
 
 pub cell-within : (b : Box) (p : GridPoint) → T (isCell b p) → CellWithin b p
 cell-within b p t =
     axes below (λ (low high n : ℕ). (low ≤ n) × (n < high)) (b .low) (b .high) p
-    (λ low high n h. (leb→le low n (and-left (leb low n) (ltb n high) h), ltb→lt n high (and-right (leb low n) (ltb n high) h))) t
+    (λ low high n h. (below-low low high n h, below-high low high n h)) t
 
 pub is-cell : (b : Box) (p : GridPoint) → CellWithin b p → T (isCell b p)
 is-cell b p w =
     of-axes below (λ (low high n : ℕ). (low ≤ n) × (n < high)) (b .low) (b .high) p
-    (λ low high n h. and-both (leb low n) (ltb n high) (le→leb low n (h .0)) (lt→ltb n high (h .1))) w
+    (λ low high n h. below-in low high n (h .0) (h .1)) w
 
 -- ---- cells and their corners are points of the box
 
@@ -75,6 +79,27 @@ cell-in-box b p t = let w = cell-within b p t in in-box b p (omega arith)
 
 pub corner-in-box : (b : Box) (c : GridPoint) (i : ℕ) → T (isCell b c) → i < 8 → T (inBox b (cornerOf c i))
 corner-in-box b c i t h = let w = cell-within b c t in in-box b (cornerOf c i) (omega arith)
+
+-- ---- condition 1: each dimension of an accepted grid is at most 2^24 + 1
+
+pub record Small (d : GridPoint) : Type 0 where
+  pub x : d .x ≤ 16777217
+  pub y : d .y ≤ 16777217
+  pub z : d .z ≤ 16777217
+
+one-small : (n : ℕ) → T (not (badDimension n)) → n ≤ 16777217
+one-small n t = nltb→le 16777217 n (nor-right (eqb n 0) (ltb 16777217 n) t)
+
+pub small : (d : GridPoint) → T (not (badDimensions d)) → Small d
+unfolding badDimensions
+small d t =
+    let all = nor-left (badDimension (d .x) || (badDimension (d .y) || badDimension (d .z))) (ltb 1073741824 (d .x * d .y * d .z)) t in
+    let rest = nor-right (badDimension (d .x)) (badDimension (d .y) || badDimension (d .z)) all in
+    record {
+      x = one-small (d .x) (nor-left (badDimension (d .x)) (badDimension (d .y) || badDimension (d .z)) all);
+      y = one-small (d .y) (nor-left (badDimension (d .y)) (badDimension (d .z)) rest);
+      z = one-small (d .z) (nor-right (badDimension (d .y)) (badDimension (d .z)) rest);
+    }
 
 -- ---- condition 2: an accepted box is ordered, and within the dimensions
 
@@ -142,10 +167,11 @@ point-back d p hx hy =
     let px : 0 < d .x = omega arith in
     let py : 0 < d .y = omega arith in
     let rest : index d p / d .x ≡ p .y + d .y * p .z = rw (digits, add-mul-div-left, div-eq-of-lt) (omega arith) in
-    same-point
-    (rw (digits, add-mul-mod-self-left) (mod-eq-of-lt hx))
-    (rw (rest, add-mul-mod-self-left) (mod-eq-of-lt hy))
-    (rw (← div-div-eq-div-mul, rest, add-mul-div-left, div-eq-of-lt) (omega arith))
+    same-point (
+      rw (digits, add-mul-mod-self-left) (mod-eq-of-lt hx),
+      rw (rest, add-mul-mod-self-left) (mod-eq-of-lt hy),
+      rw (← div-div-eq-div-mul, rest, add-mul-div-left, div-eq-of-lt) (omega arith),
+    )
 
 pub index-distinct : (d p q : GridPoint) → p .x < d .x → p .y < d .y → q .x < d .x → q .y < d .y → index d p ≡ index d q → p ≡ q
 index-distinct d p q px py qx qy e = sym (point-back d p px py) ∙ ap (pointAt d) e ∙ point-back d q qx qy
@@ -169,9 +195,9 @@ index-up d axisZ p = omega (arith, mul-add (d .x * d .y) (p .z) 1, mul-one (d .x
 
 -- a step down is undone by one up
 pub up-down : (a : Axis) (p : GridPoint) → 0 < along a p → stepUp a (stepDown a p) ≡ p
-up-down axisX p h = same-point (omega arith) refl refl
-up-down axisY p h = same-point refl (omega arith) refl
-up-down axisZ p h = same-point refl refl (omega arith)
+up-down axisX p h = same-point (omega arith)
+up-down axisY p h = same-point (omega arith)
+up-down axisZ p h = same-point (omega arith)
 
 pub index-down : (d : GridPoint) (a : Axis) (p : GridPoint) → 0 < along a p → index d (stepDown a p) + stride d a ≡ index d p
 index-down d a p h = sym (index-up d a (stepDown a p)) ∙ ap (index d) (up-down a p h)

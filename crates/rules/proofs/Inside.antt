@@ -1,118 +1,81 @@
--- The lists of cells and points of a box hold cells and points of that box, and an owned edge has its four cells in it. From the definitions of
--- Vertices and Faces. Assumes nothing.
+-- The lists of cells, points and vertices of a box hold cells, points and surface cells of that box, so a test that fails at every point of the
+-- list fails at every point of the box; and an edge that gives a face has its four cells in it. From what a layer holds. Assumes nothing.
 use Prim.Native.Nat.{ℕ, _+_, _≤_, _<_}
-use mathlib.Core.Bool.{_&&_}
-use mathlib.Core.List.{List, map}
 use native.Mathlib.Omega.{arith}
-use lib.Dec.{T, ltb→lt}
-use Rattle.rules.specs.Lists.{upTo}
-use Rattle.rules.specs.Grid.{GridPoint, Axis, axisX, axisY, axisZ, Box, Field, along, stepUp, stepDown, inBox, isCell}
-use Rattle.rules.specs.Vertices.{rowCells, layerCells, layers, surfaceCell, layerVertices, vertices}
-use Rattle.rules.specs.Faces.{Edge, Flags, axisB, axisC, aboveLow, insideMax, owned, changes, gives, edgesAt, cellEdges, layerEdges, cell1, cell2, cell3, cell4, layerPoints}
-use Rattle.rules.proofs.Tests.{and-left, and-right}
-use Rattle.rules.proofs.Indexes.{CellWithin, in-box, cell-within, is-cell}
-use Rattle.rules.proofs.Every.{Every, every-of, every-any, every-map, every-joined, every-kept, every-upTo}
+use mathlib.Core.Bool.{Bool, not, _&&_}
+use mathlib.Core.Path.{_≡_}
+use lib.Dec.{T, eqb, T-not, not-T}
+use lib.Ieee.Fits.{and-i, and-l, and-r}
+use Rattle.rules.specs.Lists.{many, some}
+use Rattle.rules.specs.Grid.{below, GridPoint, Axis, axisX, axisY, axisZ, Box, Field, samePoint, stepUp, inBox, isCell, value}
+use Rattle.rules.specs.Vertices.{layerCells, cells, surfaceCell, vertices}
+use Rattle.rules.specs.Faces.{Flags, layerEdges, layerPoints, points, pointLayers}
+use Rattle.rules.specs.Call.{beyond, badLayer, badDistance}
+use Rattle.rules.proofs.Tests.{one-of, one-positive, below-in}
+use Rattle.rules.proofs.Lists.{All, all-then, all-map, all-joined, all-keep}
+use Rattle.rules.proofs.Some.{some-has, some-member, some-joined}
+use Rattle.rules.proofs.Runs.{upTo-each}
+use Rattle.rules.proofs.Indexes.{in-box, cell-within}
+use Rattle.rules.proofs.Counting.{samePoint-sound, samePoint-itself, isLayerCell, layer-z, points-once, layerCells-all, vertices-are}
+use Rattle.rules.proofs.FourCells.{Four, four-in, gives-owned}
+use Rattle.rules.proofs.Edges.{layerEdges-all}
 
 -- ---- the lists of cells and points hold cells and points of the box
 
-pub layer-cells : (b : Box) (z : ℕ) → b .low .z ≤ z → z < b .high .z → Every (λ (c : GridPoint). T (isCell b c)) (layerCells b z)
-unfolding layerCells rowCells
-layer-cells b z lz hz =
-    every-joined (λ (c : GridPoint). T (isCell b c)) (rowCells b z) (upTo (b .low .y) (b .high .y))
-    (every-upTo (λ (y : ℕ). Every (λ (c : GridPoint). T (isCell b c)) (rowCells b z y)) (b .low .y) (b .high .y) row)
+pub layer-cells : (b : Box) (z : ℕ) → b .low .z ≤ z → z < b .high .z → All (λ (c : GridPoint). T (isCell b c)) (layerCells b z)
+layer-cells b z l h = all-then at (layerCells-all b z)
   where
-    row : (y : ℕ) → b .low .y ≤ y → y < b .high .y → Every (λ (c : GridPoint). T (isCell b c)) (rowCells b z y)
-    row y ly hy =
-        every-map (λ (c : GridPoint). T (isCell b c)) (λ (x : ℕ). record { x = x; y = y; z = z }) (upTo (b .low .x) (b .high .x))
-        (every-upTo (λ (x : ℕ). T (isCell b (record { x = x; y = y; z = z }))) (b .low .x) (b .high .x)
-        (λ x lx hx. is-cell b (record { x = x; y = y; z = z }) (record { x = (lx, hx); y = (ly, hy); z = (lz, hz) })))
+    at : (c : GridPoint) → T (isLayerCell b z c) → T (isCell b c)
+    at c t =
+        and-i inX (inY && inZ) (and-l inX (inY && eqb (c .z) z) t)
+        (and-i inY inZ (and-l inY (eqb (c .z) z) (and-r inX (inY && eqb (c .z) z) t)) (rw (layer-z b z c t) (below-in (b .low .z) (b .high .z) z l h)))
+      where
+        inX : Bool
+        inX = below (b .low .x) (b .high .x) (c .x)
 
-pub layer-points : (b : Box) (z : ℕ) → b .low .z ≤ z → z ≤ b .high .z → Every (λ (p : GridPoint). T (inBox b p)) (layerPoints b z)
-unfolding layerPoints
-layer-points b z lz hz =
-    every-joined (λ (p : GridPoint). T (inBox b p)) line (upTo (b .low .y) (b .high .y + 1))
-    (every-upTo (λ (y : ℕ). Every (λ (p : GridPoint). T (inBox b p)) (line y)) (b .low .y) (b .high .y + 1) row)
-  where
-    line : ℕ → List GridPoint
-    line y = map (λ (x : ℕ). record { x = x; y = y; z = z }) (upTo (b .low .x) (b .high .x + 1))
+        inY : Bool
+        inY = below (b .low .y) (b .high .y) (c .y)
 
-    row : (y : ℕ) → b .low .y ≤ y → y < b .high .y + 1 → Every (λ (p : GridPoint). T (inBox b p)) (line y)
-    row y ly hy =
-        every-map (λ (p : GridPoint). T (inBox b p)) (λ (x : ℕ). record { x = x; y = y; z = z }) (upTo (b .low .x) (b .high .x + 1))
-        (every-upTo (λ (x : ℕ). T (inBox b (record { x = x; y = y; z = z }))) (b .low .x) (b .high .x + 1)
-        (λ x lx hx. in-box b (record { x = x; y = y; z = z }) (record { x = (lx, omega arith); y = (ly, omega arith); z = (lz, hz) })))
+        inZ : Bool
+        inZ = below (b .low .z) (b .high .z) (c .z)
 
-pub vertex-cells : (g : Field) (b : Box) → Every (λ (c : GridPoint). T (isCell b c)) (vertices g b)
-unfolding vertices layerVertices
-vertex-cells g b =
-    every-joined (λ (c : GridPoint). T (isCell b c)) (layerVertices g b) (layers b)
-    (every-upTo (λ (z : ℕ). Every (λ (c : GridPoint). T (isCell b c)) (layerVertices g b z)) (b .low .z) (b .high .z) kept)
-  where
-    kept : (z : ℕ) → b .low .z ≤ z → z < b .high .z → Every (λ (c : GridPoint). T (isCell b c)) (layerVertices g b z)
-    kept z l h =
-        every-of (λ (c : GridPoint). T (isCell b c) × T (surfaceCell g c)) (λ (c : GridPoint). T (isCell b c)) (λ c t. t .0) (layerVertices g b z)
-        (every-kept (λ (c : GridPoint). T (isCell b c)) (surfaceCell g) (layerCells b z) (layer-cells b z l h))
+pub cells-all : (b : Box) → All (λ (c : GridPoint). T (isCell b c)) (cells b)
+unfolding cells
+cells-all b = all-joined (upTo-each (b .low .z) (b .high .z) (layer-cells b))
 
--- ---- an owned edge's four cells are cells of the box
+pub vertices-all : (g : Field) (b : Box) → All (λ (c : GridPoint). T (isCell b c) × T (surfaceCell g c)) (vertices g b)
+vertices-all g b = rw (vertices-are g b) (all-keep (surfaceCell g) (all-then (λ c t s. (t, s)) (cells-all b)))
 
-pub record FourCells (b : Box) (e : Edge) : Type 0 where
-  pub first : T (isCell b (cell1 e))
-  pub second : T (isCell b (cell2 e))
-  pub third : T (isCell b (cell3 e))
-  pub fourth : T (isCell b (cell4 e))
+pub points-all : (b : Box) → All (λ (p : GridPoint). T (inBox b p)) (points b)
+unfolding points layerPoints
+points-all b =
+    all-joined (upTo-each (b .low .z) (b .high .z + 1)
+    (λ z lz hz. all-joined (upTo-each (b .low .y) (b .high .y + 1)
+    (λ y ly hy. all-map (λ (x : ℕ). record { x = x; y = y; z = z }) (upTo-each (b .low .x) (b .high .x + 1)
+    (λ x lx hx. in-box b (record { x = x; y = y; z = z }) (omega arith)))))))
 
-pub four-cells : (b : Box) (m : Flags) (e : Edge) → T (owned b m e) → FourCells b e
-unfolding owned
-four-cells b m e t = four (e .axis) (e .from) is above-b above-c
-  where
-    rest : T (aboveLow (axisB (e .axis)) b (e .from) && (aboveLow (axisC (e .axis)) b (e .from) && insideMax (e .axis) b m (e .from)))
-    rest = and-right (isCell b (e .from)) (aboveLow (axisB (e .axis)) b (e .from) && (aboveLow (axisC (e .axis)) b (e .from) && insideMax (e .axis) b m (e .from))) t
+-- ---- some point of the box
 
-    is : CellWithin b (e .from)
-    is = cell-within b (e .from) (and-left (isCell b (e .from)) (aboveLow (axisB (e .axis)) b (e .from) && (aboveLow (axisC (e .axis)) b (e .from) && insideMax (e .axis) b m (e .from))) t)
+module _ (b : Box) (f : GridPoint → Bool) where
+  pub none-in : T (not (some f (points b))) → (p : GridPoint) → T (inBox b p) → T (f p) → ⊥
+  none-in h p i t = T-not (some f (points b)) h (some-has samePoint samePoint-sound samePoint-itself f p t (points b) (omega (arith, points-once b p, one-of (inBox b p) i)))
 
-    above-b : along (axisB (e .axis)) (b .low) < along (axisB (e .axis)) (e .from)
-    above-b = ltb→lt (along (axisB (e .axis)) (b .low)) (along (axisB (e .axis)) (e .from)) (and-left (aboveLow (axisB (e .axis)) b (e .from)) (aboveLow (axisC (e .axis)) b (e .from) && insideMax (e .axis) b m (e .from)) rest)
+  pub in-none : ((p : GridPoint) → T (inBox b p) → T (f p) → ⊥) → T (not (some f (points b)))
+  in-none h = not-T (some f (points b)) (λ t. go (some-member samePoint samePoint-sound samePoint-itself f (points b) t))
+    where
+      go : (p : GridPoint) × (0 < many (samePoint p) (points b)) × T (f p) → ⊥
+      go w = h (w .0) (one-positive (inBox b (w .0)) (omega (arith, w .1, points-once b (w .0)))) (w .2)
 
-    above-c : along (axisC (e .axis)) (b .low) < along (axisC (e .axis)) (e .from)
-    above-c =
-        ltb→lt (along (axisC (e .axis)) (b .low)) (along (axisC (e .axis)) (e .from))
-        (and-left (aboveLow (axisC (e .axis)) b (e .from)) (insideMax (e .axis) b m (e .from)) (and-right (aboveLow (axisB (e .axis)) b (e .from)) (aboveLow (axisC (e .axis)) b (e .from) && insideMax (e .axis) b m (e .from)) rest))
+-- condition 5 looks at each of them
+pub distance-is : (g : Field) (b : Box) → some (λ (p : GridPoint). beyond (value g p)) (points b) ≡ badDistance g b
+unfolding badDistance badLayer points
+distance-is g b = some-joined (λ (p : GridPoint). beyond (value g p)) (layerPoints b) (pointLayers b)
 
-    four : (a : Axis) (p : GridPoint) → CellWithin b p → along (axisB a) (b .low) < along (axisB a) p → along (axisC a) (b .low) < along (axisC a) p → FourCells b (record { axis = a; from = p })
-    four axisX p w h k =
-        record {
-          first = is-cell b p w;
-          second = is-cell b (stepDown axisY p) (omega arith);
-          third = is-cell b (stepDown axisZ p) (omega arith);
-          fourth = is-cell b (stepDown axisZ (stepDown axisY p)) (omega arith);
-        }
-    four axisY p w h k =
-        record {
-          first = is-cell b p w;
-          second = is-cell b (stepDown axisZ p) (omega arith);
-          third = is-cell b (stepDown axisX p) (omega arith);
-          fourth = is-cell b (stepDown axisX (stepDown axisZ p)) (omega arith);
-        }
-    four axisZ p w h k =
-        record {
-          first = is-cell b p w;
-          second = is-cell b (stepDown axisX p) (omega arith);
-          third = is-cell b (stepDown axisY p) (omega arith);
-          fourth = is-cell b (stepDown axisY (stepDown axisX p)) (omega arith);
-        }
+-- ---- edges
 
--- so do the edges that give faces
-pub edge-cells : (g : Field) (b : Box) (m : Flags) (z : ℕ) → Every (FourCells b) (layerEdges g b m z)
-unfolding layerEdges cellEdges
-edge-cells g b m z =
-    every-joined (FourCells b) (cellEdges g b m) (layerVertices g b z) (every-any (λ (c : GridPoint). Every (FourCells b) (cellEdges g b m c)) kept (layerVertices g b z))
-  where
-    kept : (c : GridPoint) → Every (FourCells b) (cellEdges g b m c)
-    kept c =
-        every-of (λ (e : Edge). Unit {0} × T (gives g b m e)) (FourCells b)
-        (λ e t. four-cells b m e (and-left (owned b m e) (changes g e) (t .1)))
-        (cellEdges g b m c) (every-kept (λ (e : Edge). Unit {0}) (gives g b m) (edgesAt c) (every-any (λ (e : Edge). Unit {0}) (λ e. tt) (edgesAt c)))
+-- the four cells round an edge that gives a face are cells of the box
+pub edge-cells : (g : Field) (b : Box) (m : Flags) (z : ℕ) → All (Four (λ (c : GridPoint). T (isCell b c))) (layerEdges g b m z)
+edge-cells g b m z = all-then (λ e h. four-in b m e (gives-owned g b m e (h .0))) (layerEdges-all g b m z)
 
 -- the upper end of an edge from a cell's lowest corner is a point of the box
 pub up-in-box : (b : Box) (a : Axis) (c : GridPoint) → T (isCell b c) → T (inBox b (stepUp a c))

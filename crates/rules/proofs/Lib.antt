@@ -2,6 +2,7 @@
 -- of document 01, crossings, locality, and pieces that are accepted.
 pub mod Tests
 pub mod Lists
+pub mod Some
 pub mod Runs
 pub mod Permutation
 pub mod Counting
@@ -14,7 +15,6 @@ pub mod Cutting
 pub mod Indexes
 pub mod Cases
 pub mod Crossings
-pub mod Every
 pub mod Inside
 pub mod Locality
 pub mod Accepted

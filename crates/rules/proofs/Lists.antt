@@ -1,14 +1,14 @@
--- Laws of the functions on lists that the rules are written with: over ++ and over joined lists, lengths, counts, places. From their
--- definitions alone, each by induction on the list. Assumes nothing.
-use Prim.Native.Nat.{ℕ, zero, suc, _+_, _*_, _≤_, _<_}
-use native.Mathlib.Nat.{mul-zero, mul-suc, mul-add, add-comm}
+-- Laws of the functions on lists that the rules are written with: what holds of every element, over ++ and over joined lists, lengths, counts,
+-- places. From their definitions alone, each by induction on the list. Assumes nothing.
+use Prim.Native.Nat.{ℕ, zero, suc, _+_, _*_, _/_, _%_, _≤_, _<_}
+use native.Mathlib.Nat.{mul-zero, mul-suc, mul-add, add-comm, add-zero}
 use native.Mathlib.Omega.{arith}
 use mathlib.Core.Bool.{Bool, true, false, _&&_, cond, and-true, and-false, and-comm}
-use mathlib.Core.List.{List, [], _∷_, _++_, map, append-assoc, append-nil}
-use mathlib.Core.Path.{_≡_, refl, sym, ap, ap₂, _∙_}
+use mathlib.Core.List.{List, [], _∷_, _++_, map, map-append, append-assoc, append-nil, List·Memᴰ, List·Memᴰ·head, List·Memᴰ·tail}
+use mathlib.Core.Path.{_≡_, refl, sym, ap, ap₂, subst, _∙_}
 use lib.Dec.{T}
 use lib.ListN.{length, getD, length-append}
-use Rattle.rules.specs.Lists.{one, keep, many, joined, place}
+use Rattle.rules.specs.Lists.{one, keep, many, joined, place, placed}
 use Rattle.rules.proofs.Tests.{is-test, one-of, one-not, one-most}
 
 -- ---- every element
@@ -27,6 +27,10 @@ module _ {A : Type 0} {P : A → Type 0} where
   all-at (more p q) zero h d = p
   all-at (more p q) (suc k) h d = all-at q k (omega arith) d
 
+  pub all-in : {a : A} {l : List A} → List·Memᴰ a l → All P l → P a
+  all-in (List·Memᴰ·head e) (more p q) = subst P (sym e) p
+  all-in (List·Memᴰ·tail m) (more p q) = all-in m q
+
   pub all-each : ((x : A) → P x) → (l : List A) → All P l
   all-each f [] = none
   all-each f (x ∷ xs) = more (f x) (all-each f xs)
@@ -34,6 +38,11 @@ module _ {A : Type 0} {P : A → Type 0} where
   pub all-then : {Q : A → Type 0} {l : List A} → ((x : A) → P x → Q x) → All P l → All Q l
   all-then f none = none
   all-then f (more p q) = more (f _ p) (all-then f q)
+
+  -- two facts of each element, joined to one
+  pub all-both : {Q R : A → Type 0} {l : List A} → ((x : A) → P x → Q x → R x) → All P l → All Q l → All R l
+  all-both f none none = none
+  all-both f (more p q) (more r s) = more (f _ p r) (all-both f q s)
 
   pub all-map : {B : Type 0} (f : B → A) {l : List B} → All (λ x. P (f x)) l → All P (map f l)
   all-map f none = none
@@ -58,14 +67,6 @@ pub map-same : {A B : Type 0} {f g : A → B} {l : List A} → All (λ x. f x �
 map-same none = refl
 map-same (more p q) = ap₂ _∷_ p (map-same q)
 
-pub map-map : {A B C : Type 0} (f : B → C) (g : A → B) (l : List A) → map f (map g l) ≡ map (λ x. f (g x)) l
-map-map f g [] = refl
-map-map f g (x ∷ xs) = ap (λ r. f (g x) ∷ r) (map-map f g xs)
-
-pub map-append : {A B : Type 0} (f : A → B) (s t : List A) → map f (s ++ t) ≡ map f s ++ map f t
-map-append f [] t = refl
-map-append f (x ∷ s) t = ap (λ r. f x ∷ r) (map-append f s t)
-
 -- ---- joined lists
 
 module _ {A B : Type 0} (f : A → List B) where
@@ -74,19 +75,15 @@ module _ {A B : Type 0} (f : A → List B) where
   joined-append [] t = refl
   joined-append (x ∷ s) t = ap (λ r. f x ++ r) (joined-append s t) ∙ sym (append-assoc (f x) (joined f s) (joined f t))
 
-  pub joined-one : (x : A) → joined f (x ∷ []) ≡ f x
+  -- one element more at the end
+  pub joined-snoc : (s : List A) (x : A) → joined f (s ++ (x ∷ [])) ≡ joined f s ++ f x
   unfolding joined
-  joined-one x = append-nil (f x)
+  joined-snoc s x = joined-append s (x ∷ []) ∙ ap (λ r. joined f s ++ r) (append-nil (f x))
 
   pub map-joined : {C : Type 0} (h : B → C) (l : List A) → map h (joined f l) ≡ joined (λ x. map h (f x)) l
   unfolding joined
   map-joined h [] = refl
   map-joined h (x ∷ xs) = map-append h (f x) (joined f xs) ∙ ap (λ r. map h (f x) ++ r) (map-joined h xs)
-
-  pub joined-map : {C : Type 0} (h : C → A) (l : List C) → joined f (map h l) ≡ joined (λ x. f (h x)) l
-  unfolding joined
-  joined-map h [] = refl
-  joined-map h (x ∷ xs) = ap (λ r. f (h x) ++ r) (joined-map h xs)
 
 pub joined-same : {A B : Type 0} {f g : A → List B} {l : List A} → All (λ x. f x ≡ g x) l → joined f l ≡ joined g l
 unfolding joined
@@ -164,6 +161,11 @@ module _ {A : Type 0} where
   many-same none = refl
   many-same (more p q) = ap₂ _+_ (ap one p) (many-same q)
 
+  pub keep-same : {f g : A → Bool} {l : List A} → All (λ x. f x ≡ g x) l → keep f l ≡ keep g l
+  unfolding keep
+  keep-same none = refl
+  keep-same (more {x = x} p q) = ap₂ (λ (b : Bool) (ys : List A). cond b (x ∷ ys) ys) p (keep-same q)
+
   pub many-total : (f : A → Bool) (l : List A) → many f l ≡ total (λ x. one (f x)) l
   unfolding many total
   many-total f [] = refl
@@ -230,6 +232,10 @@ module _ {A B : Type 0} where
   length-joined h [] = refl
   length-joined h (x ∷ xs) = length-append (h x) (joined h xs) ∙ ap (λ r. length (h x) + r) (length-joined h xs)
 
+  -- lists of one length
+  pub joined-length : (h : A → List B) (k : ℕ) → ((x : A) → length (h x) ≡ k) → (l : List A) → length (joined h l) ≡ k * length l
+  joined-length h k e l = length-joined h l ∙ total-same (all-each e l) ∙ total-times k l
+
 -- ---- a place
 
 module _ {A : Type 0} (f : A → Bool) where
@@ -269,3 +275,30 @@ module _ {A : Type 0} (f : A → Bool) where
       go : (c : Bool) → f x ≡ c → 0 < one c + many f xs → (0 < many f xs → T (f (getD xs (place f xs) d))) → T (f (getD (x ∷ xs) (cond c 0 (suc (place f xs))) d))
       go true e h r = is-test (f x) e
       go false e h r = r (omega arith)
+
+-- ---- each element by its place
+
+module _ {A : Type 0} (f : ℕ → A → A) where
+  pub length-placed : (n : ℕ) (l : List A) → length (placed f n l) ≡ length l
+  unfolding placed
+  length-placed n [] = refl
+  length-placed n (x ∷ xs) = ap suc (length-placed (suc n) xs)
+
+  pub getD-placed : (n : ℕ) (l : List A) (j : ℕ) (d : A) → j < length l → getD (placed f n l) j d ≡ f (n + j) (getD l j d)
+  unfolding placed
+  getD-placed n [] j d h = absurd (omega arith)
+  getD-placed n (x ∷ xs) zero d h = ap (λ k. f k x) (sym (add-zero n))
+  getD-placed n (x ∷ xs) (suc j) d h = getD-placed (suc n) xs j d (omega arith) ∙ ap (λ k. f k (getD xs j d)) (omega arith)
+
+-- what holds of three numbers for each k below n holds of each number below 3·n
+pub by-threes : (P : ℕ → Type 0) (n : ℕ) → ((k : ℕ) → k < n → P (3 * k) × P (3 * k + 1) × P (3 * k + 2)) → (i : ℕ) → i < 3 * n → P i
+by-threes P n h i k = go (i % 3) (omega arith) refl
+  where
+    at : P (3 * (i / 3)) × P (3 * (i / 3) + 1) × P (3 * (i / 3) + 2)
+    at = h (i / 3) (omega arith)
+
+    go : (r : ℕ) → r < 3 → i % 3 ≡ r → P i
+    go zero l e = subst P (omega arith) (at .0)
+    go (suc zero) l e = subst P (omega arith) (at .1)
+    go (suc (suc zero)) l e = subst P (omega arith) (at .2)
+    go (suc (suc (suc r))) l e = absurd (omega arith)

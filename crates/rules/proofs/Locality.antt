@@ -3,22 +3,27 @@
 use Prim.Native.Nat.{ℕ, zero, suc, _+_, _-_, _*_, _≤_, _<_}
 use mathlib.Core.Bool.{Bool, true, false, _&&_, cond}
 use mathlib.Core.List.{List, [], _∷_, map}
-use mathlib.Core.Path.{_≡_, refl, sym, ap, ap₂, _∙_, fun-ext, subst}
-use native.Mathlib.Nat.{le-refl, add-zero, zero-add, not-suc-le-zero, le-of-suc-le-suc}
+use mathlib.Core.Path.{_≡_, refl, sym, ap, ap₂, _∙_, fun-ext}
+use native.Mathlib.Nat.{le-refl, zero-add, not-suc-le-zero}
 use native.Mathlib.Omega.{arith}
 use lib.Dec.{T, eqb, eqb·suc-zero, lit<}
-use lib.ListN.{length, getD, take, drop, length-append, length-map}
+use lib.ListN.{length, getD, take, drop, length-map}
 use lib.Seq.{take-at}
 use lib.Ieee.{Float, unlike}
 use Rattle.rules.specs.Lists.{upTo, keep, joined, place, placed, over}
 use Rattle.rules.specs.Grid.{GridPoint, Box, Field, stepUp, samePoint, index, pointAt, inBox, isCell, value}
-use Rattle.rules.specs.Cell.{Vector, cornerOf, eight, values, surface, centroid, position, normal, negative}
-use Rattle.rules.specs.Vertices.{layerCells, layers, surfaceCell, layerVertices, vertices, firstVertex, vertexNumber, numberIn, vertexPosition, vertexNormal, nullVertex, cellEntry, edgeEntry, mapEntry}
-use Rattle.rules.specs.Faces.{Edge, Flags, owned, changes, gives, edgesAt, cellEdges, layerEdges, edges, cell1, cell2, cell3, cell4, six, shorter, faceCells, layerIndices, indices, layerPoints, pointLayers}
-use Rattle.rules.specs.Call.{Call, Buffers, Room, room, beyond, badLayer, badDistance, Answer, vertexCount, indexCount, answer, flatVectors, flatPoints, written, afterwards}
+use Rattle.rules.specs.Cell.{cornerOf, values, surface, centroid, position, normal, negative}
+use Rattle.rules.specs.Vertices.{layerVertices, surfaceCell, vertices, firstVertex, vertexNumber, numberIn, vertexPosition, vertexNormal, nullVertex, cellEntry, edgeEntry, mapEntry}
+use Rattle.rules.specs.Faces.{Edge, Flags, owned, changes, gives, edgesAt, cellEdges, layerEdges, cell1, cell2, cell3, cell4, six, shorter, faceCells, layerIndices, indices}
+use Rattle.rules.specs.Call.{Call, Buffers, Room, room, beyond, badDistance, Answer, vertexCount, indexCount, answer, flatVectors, flatPoints, written, afterwards}
+use Rattle.rules.proofs.Lists.{all-then, map-same, joined-same, keep-same, length-placed, getD-placed}
+use Rattle.rules.proofs.Some.{some-same}
+use Rattle.rules.proofs.Runs.{upTo-each}
 use Rattle.rules.proofs.Indexes.{cell-within, cell-in-box, corner-in-box}
-use Rattle.rules.proofs.Every.{Every, every-of, every-any, every-map, every-upTo, map-same, joined-same, keep-same, some-same}
-use Rattle.rules.proofs.Inside.{layer-cells, vertex-cells, edge-cells, layer-points, FourCells, four-cells, up-in-box}
+use Rattle.rules.proofs.FourCells.{Four, four-in}
+use Rattle.rules.proofs.Numbers.{face-all}
+use Rattle.rules.proofs.Inside.{layer-cells, vertices-all, points-all, distance-is, edge-cells, up-in-box}
+use Rattle.rules.proofs.Seen.{length-points, length-vectors}
 
 -- ---- a test in front hides what it refuses
 
@@ -34,39 +39,12 @@ cond-true : {A : Type 0} (a : Bool) (x y : A) → T a → cond a x y ≡ x
 cond-true true x y t = refl
 cond-true false x y t = absurd t
 
--- one of four, by a number
-pick : {A : Type 0} → A → A → A → A → ℕ → A
-pick v1 v2 v3 v4 zero = v1
-pick v1 v2 v3 v4 (suc zero) = v2
-pick v1 v2 v3 v4 (suc (suc zero)) = v3
-pick v1 v2 v3 v4 (suc (suc (suc n))) = v4
-
-picked : {A : Type 0} (s n : Bool) (v1 v2 v3 v4 : A) → map (pick v1 v2 v3 v4) (six s n 0 1 2 3) ≡ six s n v1 v2 v3 v4
-unfolding pick
-picked true true v1 v2 v3 v4 = refl
-picked true false v1 v2 v3 v4 = refl
-picked false true v1 v2 v3 v4 = refl
-picked false false v1 v2 v3 v4 = refl
-
--- what the four cells have, each of a face's six corners has
-every-six : {A : Type 0} (P : A → Type 0) (s n : Bool) (v1 v2 v3 v4 : A) → P v1 → P v2 → P v3 → P v4 → Every P (six s n v1 v2 v3 v4)
-unfolding pick
-every-six {A} P s n v1 v2 v3 v4 h1 h2 h3 h4 =
-    subst (λ (vs : List A). Every P vs) (picked s n v1 v2 v3 v4) (every-map P (pick v1 v2 v3 v4) (six s n 0 1 2 3) (every-any (λ (k : ℕ). P (pick v1 v2 v3 v4 k)) each (six s n 0 1 2 3)))
-  where
-    each : (k : ℕ) → P (pick v1 v2 v3 v4 k)
-    each zero = h1
-    each (suc zero) = h2
-    each (suc (suc zero)) = h3
-    each (suc (suc (suc k))) = h4
-
 -- ---- two grids that agree on the box
 
 module _ (g g' : Field) (b : Box) (agree : (p : GridPoint) → T (inBox b p) → value g p ≡ value g' p) where
   pub values-same : (c : GridPoint) → T (isCell b c) → values g c ≡ values g' c
   values-same c t =
-      map-same (λ (i : ℕ). value g (cornerOf c i)) (λ (i : ℕ). value g' (cornerOf c i)) eight
-      (at 0 (lit< tt), (at 1 (lit< tt), (at 2 (lit< tt), (at 3 (lit< tt), (at 4 (lit< tt), (at 5 (lit< tt), (at 6 (lit< tt), (at 7 (lit< tt), tt))))))))
+      λ i. at 0 (lit< tt) i ∷ at 1 (lit< tt) i ∷ at 2 (lit< tt) i ∷ at 3 (lit< tt) i ∷ at 4 (lit< tt) i ∷ at 5 (lit< tt) i ∷ at 6 (lit< tt) i ∷ at 7 (lit< tt) i ∷ []
     where
       at : (i : ℕ) → i < 8 → value g (cornerOf c i) ≡ value g' (cornerOf c i)
       at i h = agree (cornerOf c i) (corner-in-box b c i t h)
@@ -82,15 +60,11 @@ module _ (g g' : Field) (b : Box) (agree : (p : GridPoint) → T (inBox b p) →
 
   layer-same : (z : ℕ) → b .low .z ≤ z → z < b .high .z → layerVertices g b z ≡ layerVertices g' b z
   unfolding layerVertices
-  layer-same z l h =
-      keep-same (surfaceCell g) (surfaceCell g') (layerCells b z)
-      (every-of (λ (c : GridPoint). T (isCell b c)) (λ (c : GridPoint). surfaceCell g c ≡ surfaceCell g' c) surface-same (layerCells b z) (layer-cells b z l h))
+  layer-same z l h = keep-same (all-then surface-same (layer-cells b z l h))
 
   -- the layers from min to a z that is not above max
   layers-same : (z : ℕ) → z ≤ b .high .z → joined (layerVertices g b) (upTo (b .low .z) z) ≡ joined (layerVertices g' b) (upTo (b .low .z) z)
-  layers-same z h =
-      joined-same (layerVertices g b) (layerVertices g' b) (upTo (b .low .z) z)
-      (every-upTo (λ (y : ℕ). layerVertices g b y ≡ layerVertices g' b y) (b .low .z) z (λ y l k. layer-same y l (omega arith)))
+  layers-same z h = joined-same (upTo-each (b .low .z) z (λ y l k. layer-same y l (omega arith)))
 
   pub vertices-same : vertices g b ≡ vertices g' b
   unfolding vertices
@@ -115,7 +89,7 @@ module _ (g g' : Field) (b : Box) (agree : (p : GridPoint) → T (inBox b p) →
   changes-same e t = ap₂ (λ (x y : Float). unlike (negative x) (negative y)) (agree (e .from) (cell-in-box b (e .from) t)) (agree (stepUp (e .axis) (e .from)) (up-in-box b (e .axis) (e .from) t))
 
   gives-same : (m : Flags) (e : Edge) → gives g b m e ≡ gives g' b m e
-  gives-same m e = and-same (owned b m e) (changes g e) (changes g' e) (λ (t : T (owned b m e)). changes-same e (four-cells b m e t .first))
+  gives-same m e = and-same (owned b m e) (changes g e) (changes g' e) (λ (t : T (owned b m e)). changes-same e (four-in b m e t .one))
 
   cell-edges-same : (m : Flags) (c : GridPoint) → cellEdges g b m c ≡ cellEdges g' b m c
   unfolding cellEdges
@@ -125,48 +99,30 @@ module _ (g g' : Field) (b : Box) (agree : (p : GridPoint) → T (inBox b p) →
   unfolding layerEdges
   layer-edges-same m z l h = ap₂ (λ (f : GridPoint → List Edge) (vs : List GridPoint). joined f vs) (fun-ext (cell-edges-same m)) (layer-same z l h)
 
-  pub edges-same : (m : Flags) → edges g b m ≡ edges g' b m
-  unfolding edges
-  edges-same m =
-      joined-same (layerEdges g b m) (layerEdges g' b m) (layers b)
-      (every-upTo (λ (z : ℕ). layerEdges g b m z ≡ layerEdges g' b m z) (b .low .z) (b .high .z) (layer-edges-same m))
-
   -- ---- the index list
 
-  shorter-same : (e : Edge) → FourCells b e → shorter g e ≡ shorter g' e
+  shorter-same : (e : Edge) → Four (λ (c : GridPoint). T (isCell b c)) e → shorter g e ≡ shorter g' e
   unfolding shorter
-  shorter-same e f = cc (position-same (cell1 e) (f .first), position-same (cell2 e) (f .second), position-same (cell3 e) (f .third), position-same (cell4 e) (f .fourth))
+  shorter-same e f = cc (position-same (cell1 e) (f .one), position-same (cell2 e) (f .two), position-same (cell3 e) (f .three), position-same (cell4 e) (f .four))
 
-  face-same : (e : Edge) → FourCells b e → faceCells g e ≡ faceCells g' e
+  face-same : (e : Edge) → Four (λ (c : GridPoint). T (isCell b c)) e → faceCells g e ≡ faceCells g' e
   unfolding faceCells
   face-same e f =
       ap₂ (λ (s n : Bool). six s n (cell1 e) (cell2 e) (cell3 e) (cell4 e)) (shorter-same e f)
-      (ap negative (agree (e .from) (cell-in-box b (e .from) (f .first))))
+      (ap negative (agree (e .from) (cell-in-box b (e .from) (f .one))))
 
-  face-cells : (e : Edge) → FourCells b e → Every (λ (c : GridPoint). T (isCell b c)) (faceCells g e)
-  unfolding faceCells
-  face-cells e f =
-      every-six (λ (c : GridPoint). T (isCell b c)) (shorter g e) (negative (value g (e .from))) (cell1 e) (cell2 e) (cell3 e) (cell4 e)
-      (f .first) (f .second) (f .third) (f .fourth)
-
-  numbers-same : (z first : ℕ) (e : Edge) → FourCells b e → map (numberIn g b z first) (faceCells g e) ≡ map (numberIn g' b z first) (faceCells g' e)
-  numbers-same z first e f =
-      map-same (numberIn g b z first) (numberIn g' b z first) (faceCells g e)
-      (every-of (λ (c : GridPoint). T (isCell b c)) (λ (c : GridPoint). numberIn g b z first c ≡ numberIn g' b z first c) (in-same z first) (faceCells g e) (face-cells e f))
-      ∙ ap (map (numberIn g' b z first)) (face-same e f)
+  numbers-same : (z first : ℕ) (e : Edge) → Four (λ (c : GridPoint). T (isCell b c)) e → map (numberIn g b z first) (faceCells g e) ≡ map (numberIn g' b z first) (faceCells g' e)
+  numbers-same z first e f = map-same (all-then (in-same z first) (face-all g e f)) ∙ ap (map (numberIn g' b z first)) (face-same e f)
 
   layer-indices-same : (m : Flags) (first z : ℕ) → b .low .z ≤ z → z < b .high .z → layerIndices g b m first z ≡ layerIndices g' b m first z
   unfolding layerIndices
   layer-indices-same m first z l h =
-      joined-same (λ (e : Edge). map (numberIn g b z first) (faceCells g e)) (λ (e : Edge). map (numberIn g' b z first) (faceCells g' e)) (layerEdges g b m z)
-      (every-of (FourCells b) (λ (e : Edge). map (numberIn g b z first) (faceCells g e) ≡ map (numberIn g' b z first) (faceCells g' e)) (numbers-same z first) (layerEdges g b m z) (edge-cells g b m z))
+      joined-same (all-then (numbers-same z first) (edge-cells g b m z))
       ∙ ap (joined (λ (e : Edge). map (numberIn g' b z first) (faceCells g' e))) (layer-edges-same m z l h)
 
   pub indices-same : (m : Flags) → indices g b m ≡ indices g' b m
   unfolding indices
-  indices-same m =
-      joined-same (λ (z : ℕ). layerIndices g b m (firstVertex g b z) z) (λ (z : ℕ). layerIndices g' b m (firstVertex g' b z) z) (layers b)
-      (every-upTo (λ (z : ℕ). layerIndices g b m (firstVertex g b z) z ≡ layerIndices g' b m (firstVertex g' b z) z) (b .low .z) (b .high .z) one-layer)
+  indices-same m = joined-same (upTo-each (b .low .z) (b .high .z) one-layer)
     where
       one-layer : (z : ℕ) → b .low .z ≤ z → z < b .high .z → layerIndices g b m (firstVertex g b z) z ≡ layerIndices g' b m (firstVertex g' b z) z
       one-layer z l h = layer-indices-same m (firstVertex g b z) z l h ∙ ap (λ (n : ℕ). layerIndices g' b m n z) (first-same z (omega arith))
@@ -175,9 +131,7 @@ module _ (g g' : Field) (b : Box) (agree : (p : GridPoint) → T (inBox b p) →
 
   -- what is the same at each cell of the box is the same in vertex order
   from-cells : {B : Type 0} (f f' : GridPoint → B) → ((c : GridPoint) → T (isCell b c) → f c ≡ f' c) → map f (vertices g b) ≡ map f' (vertices g' b)
-  from-cells f f' h =
-      map-same f f' (vertices g b) (every-of (λ (c : GridPoint). T (isCell b c)) (λ (c : GridPoint). f c ≡ f' c) h (vertices g b) (vertex-cells g b))
-      ∙ ap (map f') vertices-same
+  from-cells f f' h = map-same (all-then (λ c t. h c (t .0)) (vertices-all g b)) ∙ ap (map f') vertices-same
 
   pub positions-same : map (vertexPosition g) (vertices g b) ≡ map (vertexPosition g') (vertices g' b)
   positions-same = from-cells (vertexPosition g) (vertexPosition g') position-same
@@ -195,37 +149,7 @@ module _ (g g' : Field) (b : Box) (agree : (p : GridPoint) → T (inBox b p) →
   -- ---- condition 5
 
   pub distance-same : badDistance g b ≡ badDistance g' b
-  unfolding badDistance badLayer
-  distance-same =
-      some-same (badLayer g b) (badLayer g' b) (pointLayers b)
-      (every-upTo (λ (z : ℕ). badLayer g b z ≡ badLayer g' b z) (b .low .z) (b .high .z + 1) one-layer)
-    where
-      one-layer : (z : ℕ) → b .low .z ≤ z → z < b .high .z + 1 → badLayer g b z ≡ badLayer g' b z
-      one-layer z l h =
-          some-same (λ (p : GridPoint). beyond (value g p)) (λ (p : GridPoint). beyond (value g' p)) (layerPoints b z)
-          (every-of (λ (p : GridPoint). T (inBox b p)) (λ (p : GridPoint). beyond (value g p) ≡ beyond (value g' p)) (λ p t. ap beyond (agree p t)) (layerPoints b z) (layer-points b z l (omega arith)))
-
--- ---- the written part of a list
-
-length-threes : {A B : Type 0} (f : A → List B) → ((x : A) → length (f x) ≡ 3) → (xs : List A) → length (joined f xs) ≡ 3 * length xs
-unfolding joined
-length-threes f h [] = refl
-length-threes f h (x ∷ xs) = length-append (f x) (joined f xs) ∙ omega (arith, h x, length-threes f h xs)
-
--- flat vectors, and flat points, of a list that is made from the vertices
-length-flat : {A : Type 0} (f : A → Vector) (xs : List A) → length (flatVectors (map f xs)) ≡ 3 * length xs
-length-flat f xs = length-threes (λ (v : Vector). v .x ∷ v .y ∷ v .z ∷ []) (λ v. refl) (map f xs) ∙ ap (λ (n : ℕ). 3 * n) (length-map xs f)
-
-getD-placed : {A : Type 0} (f : ℕ → A → A) (n : ℕ) (xs : List A) (j : ℕ) (d : A) → j < length xs → getD (placed f n xs) j d ≡ f (n + j) (getD xs j d)
-unfolding placed
-getD-placed f n [] j d h = absurd (not-suc-le-zero h)
-getD-placed f n (x ∷ xs) zero d h = ap (λ (k : ℕ). f k x) (sym (add-zero n))
-getD-placed f n (x ∷ xs) (suc j) d h = getD-placed f (suc n) xs j d (le-of-suc-le-suc h) ∙ ap (λ (k : ℕ). f k (getD xs j d)) (omega arith)
-
-length-placed : {A : Type 0} (f : ℕ → A → A) (n : ℕ) (xs : List A) → length (placed f n xs) ≡ length xs
-unfolding placed
-length-placed f n [] = refl
-length-placed f n (x ∷ xs) = ap suc (length-placed f (suc n) xs)
+  distance-same = sym (distance-is g b) ∙ some-same (all-then (λ p t. ap beyond (agree p t)) (points-all b)) ∙ distance-is g' b
 
 -- ---- two calls that differ only outside the box
 
@@ -308,9 +232,9 @@ pub old-numbers : (c : Call) (s s' : Buffers) → length (s .map) ≡ length (s'
 unfolding written
 old-numbers c s s' long =
     record {
-      positions = start (flatVectors (map (vertexPosition (c .grid)) vs)) (length-flat (vertexPosition (c .grid)) vs) (s .positions) (s' .positions);
-      normals = start (flatVectors (map (vertexNormal (c .grid)) vs)) (length-flat (vertexNormal (c .grid)) vs) (s .normals) (s' .normals);
-      cells = start (flatPoints vs) (length-threes (λ (p : GridPoint). p .x ∷ p .y ∷ p .z ∷ []) (λ p. refl) vs) (s .cells) (s' .cells);
+      positions = start (flatVectors (map (vertexPosition (c .grid)) vs)) (length-vectors (vertexPosition (c .grid)) vs) (s .positions) (s' .positions);
+      normals = start (flatVectors (map (vertexNormal (c .grid)) vs)) (length-vectors (vertexNormal (c .grid)) vs) (s .normals) (s' .normals);
+      cells = start (flatPoints vs) (length-points vs) (s .cells) (s' .cells);
       strides = start (map (index (c .grid .dims)) vs) (length-map vs (index (c .grid .dims))) (s .strides) (s' .strides);
       map = entries;
       indices = start (indices (c .grid) (c .box) (c .flags)) refl (s .indices) (s' .indices);

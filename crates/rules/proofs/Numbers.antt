@@ -3,7 +3,7 @@
 use Prim.Native.Nat.{ℕ, suc, _+_, _-_, _≤_, _<_}
 use native.Mathlib.Omega.{arith}
 use mathlib.Core.Bool.{Bool, true, false, _&&_, cond}
-use mathlib.Core.List.{List, [], _∷_, _++_, map}
+use mathlib.Core.List.{List, _++_, map}
 use mathlib.Core.Logic.{_⊎_, inl, inr}
 use mathlib.Core.Path.{_≡_, refl, sym, ap, subst, _∙_}
 use borrow.Author.Tests.{eq-eqb, ne-eqb}
@@ -16,13 +16,14 @@ use Rattle.rules.specs.Cell.{negative}
 use Rattle.rules.specs.Vertices.{layers, surfaceCell, layerVertices, vertices, firstVertex, numberIn, vertexNumber}
 use Rattle.rules.specs.Faces.{Edge, Flags, axisB, axisC, gives, edge, layerEdges, edges, cell1, cell2, cell3, cell4, six, shorter, faceCells, layerIndices, indices}
 use Rattle.rules.proofs.Tests.{one-of, below-high}
-use Rattle.rules.proofs.Lists.{All, all-at, all-each, all-then, all-map, all-joined, map-same, joined-append, joined-one, joined-same, joined-joined, many-none, place-here, place-past, place-below, place-passes, none, more}
-use Rattle.rules.proofs.Runs.{upTo-none, upTo-last, upTo-split, upTo-first, upTo-all}
+use Rattle.rules.proofs.Lists.{All, all-at, all-each, all-then, all-map, all-joined, map-same, joined-same, joined-joined, many-none, place-here, place-past, place-below, place-passes, none, more}
+use Rattle.rules.proofs.Runs.{upTo-none, upTo-all, joined-last, joined-cut}
 use Rattle.rules.proofs.Counting.{samePoint-sound, isLayerCell, layer-z, cell-layer, layerVertices-once, vertices-once, layerVertices-all}
-use Rattle.rules.proofs.FourCells.{InCells, cell-bounds, Four, Owned, owned-says, four-in, four-on, gives-owned}
+use Rattle.rules.proofs.Indexes.{CellWithin, cell-within}
+use Rattle.rules.proofs.FourCells.{Four, Owned, owned-says, four-in, four-on, gives-owned}
 use Rattle.rules.proofs.Edges.{layerEdges-all, edges-all}
 
--- ---- the list of vertices, cut at a layer
+-- ---- the first number of the next layer
 
 pub firstVertex-low : (g : Field) (b : Box) → firstVertex g b (b .low .z) ≡ 0
 unfolding firstVertex joined
@@ -34,18 +35,7 @@ firstVertex-high g b = refl
 
 pub firstVertex-next : (g : Field) (b : Box) (z : ℕ) → b .low .z ≤ z → firstVertex g b (suc z) ≡ firstVertex g b z + length (layerVertices g b z)
 unfolding firstVertex
-firstVertex-next g b z h =
-    ap (λ l. length (joined (layerVertices g b) l)) (upTo-last (b .low .z) z h)
-    ∙ ap length (joined-append (layerVertices g b) (upTo (b .low .z) z) (z ∷ []))
-    ∙ length-append (joined (layerVertices g b) (upTo (b .low .z) z)) (joined (layerVertices g b) (z ∷ []))
-    ∙ ap (λ l. length (joined (layerVertices g b) (upTo (b .low .z) z)) + length l) (joined-one (layerVertices g b) z)
-
-pub vertices-cut : (g : Field) (b : Box) (z : ℕ) → b .low .z ≤ z → z < b .high .z
-    → vertices g b ≡ joined (layerVertices g b) (upTo (b .low .z) z) ++ (layerVertices g b z ++ joined (layerVertices g b) (upTo (suc z) (b .high .z)))
-unfolding vertices joined
-vertices-cut g b z h k =
-    ap (joined (layerVertices g b)) (upTo-split (b .low .z) z (b .high .z) h (omega arith) ∙ ap (λ l. upTo (b .low .z) z ++ l) (upTo-first z (b .high .z) k))
-    ∙ joined-append (layerVertices g b) (upTo (b .low .z) z) (z ∷ upTo (suc z) (b .high .z))
+firstVertex-next g b z h = ap length (joined-last (layerVertices g b) (b .low .z) z h) ∙ length-append (joined (layerVertices g b) (upTo (b .low .z) z)) (layerVertices g b z)
 
 -- ---- a vertex's number is its place
 
@@ -67,15 +57,15 @@ lower-none g b c = many-none (samePoint c) (all-joined (all-then in-layer (upTo-
 
 pub number-place : (g : Field) (b : Box) (c : GridPoint) → T (isCell b c) → T (surfaceCell g c)
     → vertexNumber g b (firstVertex g b (c .z)) c ≡ place (samePoint c) (vertices g b)
-unfolding firstVertex
+unfolding firstVertex vertices
 number-place g b c t s =
     sym
-    (ap (place (samePoint c)) (vertices-cut g b (c .z) (i .lz) (i .hz))
+    (ap (place (samePoint c)) (joined-cut (layerVertices g b) (b .low .z) (c .z) (b .high .z) (i .z .0) (i .z .1))
     ∙ place-past (samePoint c) lower (layerVertices g b (c .z) ++ upper) (lower-none g b c)
     ∙ ap (λ n. length lower + n) (place-here (samePoint c) (layerVertices g b (c .z)) upper (layer-has g b c t s)))
   where
-    i : InCells b c
-    i = cell-bounds b c t
+    i : CellWithin b c
+    i = cell-within b c t
 
     lower : List GridPoint
     lower = joined (layerVertices g b) (upTo (b .low .z) (c .z))
@@ -105,7 +95,7 @@ numberIn-is g b z c t s (inr h) =
     ∙ number-place g b c t s
   where
     low : b .low .z ≤ c .z
-    low = cell-bounds b c t .lz
+    low = cell-within b c t .z .0
 
     back : firstVertex g b z - length (layerVertices g b (c .z)) ≡ firstVertex g b (c .z)
     back = omega (arith, firstVertex-next g b (c .z) low, ap (firstVertex g b) h)

@@ -6,12 +6,12 @@ use mathlib.Core.Bool.{Bool, true, false, _&&_, and-true, and-false, and-comm, a
 use mathlib.Core.Logic.{_⊎_, inl, inr}
 use mathlib.Core.Path.{_≡_, refl, sym, ap, _∙_}
 use lib.Dec.{T, ltb, eqb, eqb→eq, ltb→lt, lt→ltb, T-not, not-T}
-use lib.Ieee.Fits.{and-i, and-l, and-r}
+use lib.Ieee.Fits.{and-i, and-l, and-r, eq→eqb}
 use Rattle.rules.specs.Lists.{one}
 use Rattle.rules.specs.Grid.{below, GridPoint, Box, isCell, Axis, axisX, axisY, axisZ, along}
 use Rattle.rules.specs.Faces.{Edge, aboveLow, insideMax, owned, edge, flag}
 use Rattle.rules.specs.Cutting.{Piece, lowerPiece, upperPiece}
-use Rattle.rules.proofs.Tests.{split2, less-or-not, eq-test, or-second, below-low, below-high, below-in}
+use Rattle.rules.proofs.Tests.{split2, less-or-not, or-second, below-low, below-high, below-in}
 use Rattle.rules.proofs.Edges.{sameAxis}
 
 -- ---- ownership, one test for each axis
@@ -89,7 +89,7 @@ parted-along f low high k p h i = split2 lower upper whole apart from-lower from
     in-lower t = and-l (below low (k + 1) p) (not (eqb p (k + 1 - 1))) t
 
     not-k : T lower → p ≡ k → ⊥
-    not-k t q = T-not (eqb p (k + 1 - 1)) (and-r (below low (k + 1) p) (not (eqb p (k + 1 - 1))) t) (eq-test p (k + 1 - 1) (omega arith))
+    not-k t q = T-not (eqb p (k + 1 - 1)) (and-r (below low (k + 1) p) (not (eqb p (k + 1 - 1))) t) (eq→eqb {a = p} {b = k + 1 - 1} (omega arith))
 
     under : T lower → p < k
     under t = omega (arith, below-high low (k + 1) p (in-lower t), not-k t)

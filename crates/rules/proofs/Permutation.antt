@@ -21,12 +21,6 @@ pub perm-same : {A : Type 0} (l : List A) → Perm l l
 perm-same [] = nil
 perm-same (x ∷ xs) = skip (perm-same xs)
 
-pub perm-back : {A : Type 0} {s t : List A} → Perm s t → Perm t s
-perm-back nil = nil
-perm-back (skip p) = skip (perm-back p)
-perm-back swap = swap
-perm-back (trans p q) = trans (perm-back q) (perm-back p)
-
 pub perm-length : {A : Type 0} {s t : List A} → Perm s t → length s ≡ length t
 perm-length nil = refl
 perm-length (skip p) = ap suc (perm-length p)

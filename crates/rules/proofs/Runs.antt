@@ -1,16 +1,16 @@
--- Runs of numbers: each number from low up to high stands in `upTo low high` once, and a run ends, begins and is cut as it should be.
--- From the definition, by induction on the length. Assumes nothing.
+-- Runs of numbers: each number from low up to high stands in `upTo low high` once, and a run ends, begins and is cut as it should be, and so do
+-- lists joined over it. From the definition, by induction on the length. Assumes nothing.
 use Prim.Native.Nat.{ℕ, zero, suc, _+_, _-_, _≤_, _<_}
 use native.Mathlib.Nat.{add-zero}
 use native.Mathlib.Omega.{arith}
-use mathlib.Core.List.{List, [], _∷_, _++_, map, append-assoc, append-nil}
+use mathlib.Core.List.{List, [], _∷_, _++_, map, map-append, append-assoc, append-nil}
 use mathlib.Core.Logic.{_⊎_, inl, inr}
 use mathlib.Core.Path.{_≡_, sym, ap, _∙_}
 use lib.Dec.{T, eqb, eqb→eq, eqb-refl}
-use Rattle.rules.specs.Lists.{one, run, upTo, many}
+use Rattle.rules.specs.Lists.{one, run, upTo, many, joined}
 use Rattle.rules.specs.Grid.{below}
 use Rattle.rules.proofs.Tests.{same-test, one-not, split2, less-or-not, below-low, below-high, below-in}
-use Rattle.rules.proofs.Lists.{All, all-append, all-then, all-map, map-append, many-append, many-map, none, more}
+use Rattle.rules.proofs.Lists.{All, all-append, all-then, all-map, joined-append, joined-snoc, many-append, many-map, none, more}
 
 run-once : (low k n : ℕ) → many (λ (j : ℕ). eqb k (low + j)) (run n) ≡ one (below low (low + n) k)
 unfolding run many
@@ -108,3 +108,18 @@ upTo-all low high = all-map (λ (k : ℕ). low + k) (all-then (λ k h. below-in 
     run-all : (n : ℕ) → All (λ k. k < n) (run n)
     run-all zero = none
     run-all (suc n) = all-append (grown n (run-all n)) (more (omega arith) none)
+
+pub upTo-each : {P : ℕ → Type 0} (low high : ℕ) → ((k : ℕ) → low ≤ k → k < high → P k) → All P (upTo low high)
+upTo-each low high h = all-then (λ k t. h k (below-low low high k t) (below-high low high k t)) (upTo-all low high)
+
+-- ---- lists joined over a run
+
+module _ {A : Type 0} (f : ℕ → List A) where
+  pub joined-last : (low high : ℕ) → low ≤ high → joined f (upTo low (suc high)) ≡ joined f (upTo low high) ++ f high
+  joined-last low high h = ap (joined f) (upTo-last low high h) ∙ joined-snoc f (upTo low high) high
+
+  pub joined-cut : (low k high : ℕ) → low ≤ k → k < high → joined f (upTo low high) ≡ joined f (upTo low k) ++ (f k ++ joined f (upTo (suc k) high))
+  unfolding joined
+  joined-cut low k high h i =
+      ap (joined f) (upTo-split low k high h (omega arith) ∙ ap (λ (l : List ℕ). upTo low k ++ l) (upTo-first k high i))
+      ∙ joined-append f (upTo low k) (k ∷ upTo (suc k) high)

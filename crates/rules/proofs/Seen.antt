@@ -2,11 +2,11 @@
 -- each vertex. Assumes nothing.
 use Prim.Native.Nat.{ℕ, zero, suc, _+_, _*_, _<_}
 use native.Mathlib.Omega.{arith}
-use mathlib.Core.List.{List, [], _∷_, _++_, map}
+use mathlib.Core.List.{List, [], _∷_, _++_, map, map-map}
 use mathlib.Core.Path.{_≡_, refl, ap, ap₂, subst, _∙_}
 use lib.Dec.{T}
 use lib.Ieee.{Float, nan}
-use lib.ListN.{length, getD, length-map, take, List·getD-map}
+use lib.ListN.{length, getD, length-map, take, List·getD-map, List·getD-append}
 use lib.Seq.{take-at, drop-at}
 use Rattle.rules.specs.Lists.{joined, place}
 use Rattle.rules.specs.Grid.{GridPoint, Box, Field, samePoint, isCell}
@@ -15,7 +15,7 @@ use Rattle.rules.specs.Vertices.{surfaceCell, vertices, vertexPosition}
 use Rattle.rules.specs.Faces.{Edge, edge, edges, faceCells, indices, changingEdges}
 use Rattle.rules.specs.Call.{flatPoints, flatVectors}
 use Rattle.rules.specs.Cutting.{Piece, Face, cornerAt, faceOf, looked, facesSeen}
-use Rattle.rules.proofs.Lists.{All, all-then, map-same, map-map, none, more}
+use Rattle.rules.proofs.Lists.{All, all-then, map-same, joined-length, none, more}
 use Rattle.rules.proofs.Edges.{edges-all, edge-count, faceCells-length}
 use Rattle.rules.proofs.Numbers.{number-below, vertex-at, four-each, face-all, faceNumbers, indices-are}
 
@@ -52,6 +52,21 @@ module _ {A B : Type 0} (f h i : A → B) where
       let e1 : 3 * suc v + 1 ≡ suc (suc (suc (3 * v + 1))) = omega arith in
       let e2 : 3 * suc v + 2 ≡ suc (suc (suc (3 * v + 2))) = omega arith in
       record { first = rw e0 (r .first); second = rw e1 (r .second); third = rw e2 (r .third) }
+
+  -- the first numbers of a longer list
+  pub three-over : (l r : List B) (v : ℕ) (d : B) (a : A) → 3 * v + 2 < length l → ThreeAt l v d a → ThreeAt (l ++ r) v d a
+  three-over l r v d a k t =
+      record {
+        first = List·getD-append l r d (3 * v) (omega arith) ∙ t .first;
+        second = List·getD-append l r d (3 * v + 1) (omega arith) ∙ t .second;
+        third = List·getD-append l r d (3 * v + 2) k ∙ t .third;
+      }
+
+pub length-points : (vs : List GridPoint) → length (flatPoints vs) ≡ 3 * length vs
+length-points vs = joined-length (λ (p : GridPoint). p .x ∷ p .y ∷ p .z ∷ []) 3 (λ p. refl) vs
+
+pub length-vectors : {A : Type 0} (f : A → Vector) (vs : List A) → length (flatVectors (map f vs)) ≡ 3 * length vs
+length-vectors f vs = joined-length (λ (v : Vector). v .x ∷ v .y ∷ v .z ∷ []) 3 (λ v. refl) (map f vs) ∙ ap (λ n. 3 * n) (length-map vs f)
 
 pub flatPoints-at : (l : List GridPoint) (v : ℕ) (c : GridPoint) → v < length l → getD l v c ≡ c
     → ThreeAt (λ (q : GridPoint). q .x) (λ (q : GridPoint). q .y) (λ (q : GridPoint). q .z) (flatPoints l) v 0 c

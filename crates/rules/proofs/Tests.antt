@@ -3,19 +3,16 @@
 use Prim.Native.Nat.{ℕ, _+_, _≤_, _<_}
 use native.Mathlib.Decide.{decLt}
 use native.Mathlib.Omega.{arith}
-use mathlib.Core.Bool.{Bool, true, false, not, _&&_, _||_}
+use mathlib.Core.Bool.{Bool, true, false, not, _&&_, _||_, and-comm}
 use mathlib.Core.Logic.{_⊎_, inl, inr}
-use mathlib.Core.Path.{_≡_, refl, sym, ap, subst}
-use lib.Dec.{T, leb, ltb, eqb, eqb-refl, leb→le, le→leb, ltb→lt, lt→ltb}
+use mathlib.Core.Path.{_≡_, refl, sym, ap, subst, _∙_}
+use lib.Dec.{T, leb, ltb, leb→le, le→leb, ltb→lt, lt→ltb}
+use lib.Ieee.Bits.{is-true}
 use lib.Ieee.Fits.{and-i, and-l, and-r}
 use Rattle.rules.specs.Lists.{one}
 use Rattle.rules.specs.Grid.{below}
 
--- a test's value from the fact that it passes, and from the fact that it does not
-pub is-true : (t : Bool) → T t → t ≡ true
-is-true true h = refl
-is-true false h = absurd h
-
+-- a test's value from the fact that it does not pass, and what a value says of the test
 pub is-false : (t : Bool) → (T t → ⊥) → t ≡ false
 is-false true h = absurd (h tt)
 is-false false h = refl
@@ -23,6 +20,10 @@ is-false false h = refl
 pub is-test : (t : Bool) → t ≡ true → T t
 is-test true e = tt
 is-test false e = subst T (sym e) tt
+
+-- a test that the code found to fail
+pub failed : {a r : Bool} → r ≡ a → r ≡ false → T (not a)
+failed e h = rw (← e, h) tt
 
 -- two tests that pass in the same cases are equal
 pub same-test : (a b : Bool) → (T a → T b) → (T b → T a) → a ≡ b
@@ -55,8 +56,17 @@ split2 false false false n f g h = refl
 pub less-or-not : (a b : ℕ) → (a < b) ⊎ (b ≤ a)
 less-or-not a b = elim (decLt a b) [ yes h ↦ inl h | no h ↦ inr (omega arith) ]
 
-pub eq-test : (m n : ℕ) → m ≡ n → T (eqb m n)
-eq-test m n e = subst (λ (r : ℕ). T (eqb m r)) e (eqb-refl m)
+-- where a test goes with a test for the same thing, it may be asked of either
+pub same-moves : {A : Type 0} (same : A → A → Bool) → ((a b : A) → T (same a b) → a ≡ b) → (f : A → Bool) (p q : A) → (f q && same p q) ≡ (f p && same p q)
+same-moves same sound f p q = go (same p q) refl
+  where
+    go : (c : Bool) → same p q ≡ c → (f q && c) ≡ (f p && c)
+    go true e = ap (λ r. f r && true) (sym (sound p q (is-test (same p q) e)))
+    go false e = and-comm (f q) false ∙ and-comm false (f p)
+
+pub or-first : (a b : Bool) → T a → T (a || b)
+or-first true b t = tt
+or-first false b t = absurd t
 
 pub or-second : (a b : Bool) → T b → T (a || b)
 or-second true b t = tt
@@ -72,19 +82,7 @@ below-high low high k t = ltb→lt k high (and-r (leb low k) (ltb k high) t)
 pub below-in : (low high k : ℕ) → low ≤ k → k < high → T (below low high k)
 below-in low high k h i = and-i (leb low k) (ltb k high) (le→leb low k h) (lt→ltb k high i)
 
--- ---- what a passed or failed test says of its parts, and its parts of it
-
-pub and-left : (a b : Bool) → T (a && b) → T a
-and-left true b t = tt
-and-left false b t = t
-
-pub and-right : (a b : Bool) → T (a && b) → T b
-and-right true b t = t
-and-right false b t = absurd t
-
-pub and-both : (a b : Bool) → T a → T b → T (a && b)
-and-both true b s t = t
-and-both false b s t = s
+-- ---- what a failed test says of its parts, and its parts of it
 
 pub nor-left : (a b : Bool) → T (not (a || b)) → T (not a)
 nor-left true b t = t
@@ -97,7 +95,3 @@ nor-right false b t = t
 pub nor-both : (a b : Bool) → T (not a) → T (not b) → T (not (a || b))
 nor-both true b s t = s
 nor-both false b s t = t
-
-pub is-not : (a : Bool) → T (not a) → a ≡ false
-is-not true t = absurd t
-is-not false t = refl

@@ -6,14 +6,14 @@ use mathlib.Core.Bool.{Bool, true, false, not}
 use mathlib.Core.List.{List}
 use mathlib.Core.Path.{_≡_, refl, sym, subst, _∙_}
 use lib.Dec.{T, eqb, eqb→eq, eqb-refl, T-not, not-T}
-use lib.Ieee.Fits.{and-i, and-l, and-r}
+use lib.Ieee.Fits.{and-i, and-l, and-r, eq→eqb}
 use Rattle.rules.specs.Lists.{some, many}
 use Rattle.rules.specs.Grid.{Box, Field}
 use Rattle.rules.specs.Faces.{Flags, indices}
-use Rattle.rules.proofs.Tests.{is-test, eq-test}
+use Rattle.rules.proofs.Tests.{is-test}
+use Rattle.rules.proofs.Some.{some-has, some-member}
 use Rattle.skin.specs.Links.{Link, link, reverse, sameLink, links, closed}
 use Rattle.skin.specs.Enclosed.{Enclosed}
-use Rattle.skin.proofs.Some.{some-has, some-member}
 use Rattle.skin.proofs.Skin.{skin-law}
 
 sameLink-sound : (s t : Link) → T (sameLink s t) → s ≡ t
@@ -61,7 +61,7 @@ module _ (is : List ℕ) where
   closed-if h = not-T (some uneven (links is)) (λ t. go (some-member sameLink sameLink-sound sameLink-itself uneven (links is) t))
     where
       go : (s : Link) × (0 < many (sameLink s) (links is)) × T (uneven s) → ⊥
-      go w = T-not (eqb (often (w .0)) (often (reverse (w .0)))) (w .2) (eq-test (often (w .0)) (often (reverse (w .0))) (h (w .0 .tail) (w .0 .head)))
+      go w = T-not (eqb (often (w .0)) (often (reverse (w .0)))) (w .2) (eq→eqb (h (w .0 .tail) (w .0 .head)))
 
 -- the whole law as one test of the index list
 pub skin-test : (g : Field) (b : Box) (m : Flags) → Enclosed g b → T (closed (indices g b m))

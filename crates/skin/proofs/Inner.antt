@@ -1,17 +1,18 @@
 -- Under the premise of request 8 every edge of the box that changes sign is owned, whatever the flags: its negative end lies from min + 1 to
 -- max - 2, so its lowest corner is above min on the other axes and no last one along its own. Assumes nothing.
-use Prim.Native.Nat.{ℕ, _+_, _≤_, _<_, _-_}
+use Prim.Native.Nat.{_+_, _≤_, _<_, _-_}
 use native.Mathlib.Omega.{arith}
 use mathlib.Core.Bool.{Bool, true, false, _&&_, not}
 use mathlib.Core.Logic.{_⊎_, inl, inr}
-use lib.Dec.{T, leb, eqb, eqb→eq, le→leb, lt→ltb, not-T}
+use lib.Dec.{T, eqb, eqb→eq, lt→ltb, not-T}
 use lib.Ieee.{unlike}
 use lib.Ieee.Fits.{and-i}
-use Rattle.rules.specs.Grid.{GridPoint, Axis, axisX, axisY, axisZ, Box, Field, along, stepUp, turned, between, inBox, isCell, value}
+use Rattle.rules.specs.Grid.{GridPoint, Axis, axisX, axisY, axisZ, Box, Field, along, stepUp, turned, inBox, isCell, value}
 use Rattle.rules.specs.Cell.{negative}
 use Rattle.rules.specs.Faces.{Edge, Flags, edge, flag, axisB, axisC, aboveLow, insideMax, owned, changes}
 use Rattle.rules.proofs.Tests.{or-second}
-use Rattle.rules.proofs.FourCells.{InCells, cell-bounds, bounds-cell}
+use Rattle.rules.proofs.Indexes.{CellWithin, is-cell, in-box, cell-in-box}
+use Rattle.rules.proofs.Inside.{up-in-box}
 use Rattle.skin.specs.Links.{Square}
 use Rattle.skin.specs.Enclosed.{Inner, Enclosed}
 
@@ -29,7 +30,7 @@ negative-end g e t = go (negative (value g (e .from))) (negative (value g (stepU
 
 -- room round the edge's lowest corner
 record Bounds (b : Box) (x : Axis) (p : GridPoint) : Type 0 where
-  cell : InCells b p
+  cell : CellWithin b p
   aboveB : along (axisB x) (b .low) < along (axisB x) p
   aboveC : along (axisC x) (b .low) < along (axisC x) p
   ahead : along x p + 2 ≤ along x (b .high)
@@ -37,7 +38,7 @@ record Bounds (b : Box) (x : Axis) (p : GridPoint) : Type 0 where
 owned-by : (b : Box) (m : Flags) (x : Axis) (p : GridPoint) → Bounds b x p → T (owned b m (edge x p))
 unfolding owned
 owned-by b m x p h =
-    and-i (isCell b p) (up (axisB x) && (up (axisC x) && insideMax x b m p)) (bounds-cell b p (h .cell))
+    and-i (isCell b p) (up (axisB x) && (up (axisC x) && insideMax x b m p)) (is-cell b p (h .cell))
     (and-i (up (axisB x)) (up (axisC x) && insideMax x b m p) (lt→ltb (along (axisB x) (b .low)) (along (axisB x) p) (h .aboveB))
     (and-i (up (axisC x)) (insideMax x b m p) (lt→ltb (along (axisC x) (b .low)) (along (axisC x) p) (h .aboveC))
     (or-second (flag x m) (not (eqb (along x p) (along x (b .high) - 1)))
@@ -72,30 +73,14 @@ changing-owned g b m h e i t = owned-by b m (e .axis) (e .from) (inner-bounds b 
 abbrev Near : GridPoint → GridPoint → Type 0
 Near q p = (q .x ≤ p .x) × (p .x ≤ q .x + 1) × (q .y ≤ p .y) × (p .y ≤ q .y + 1) × (q .z ≤ p .z) × (p .z ≤ q .z + 1)
 
-near-in : (b : Box) (q p : GridPoint) → InCells b q → Near q p → T (inBox b p)
-near-in b q p c h =
-    and-i (between (b .low .x) (b .high .x) (p .x)) (between (b .low .y) (b .high .y) (p .y) && between (b .low .z) (b .high .z) (p .z))
-    (on (b .low .x) (b .high .x) (p .x) (omega arith) (omega arith))
-    (and-i (between (b .low .y) (b .high .y) (p .y)) (between (b .low .z) (b .high .z) (p .z))
-    (on (b .low .y) (b .high .y) (p .y) (omega arith) (omega arith))
-    (on (b .low .z) (b .high .z) (p .z) (omega arith) (omega arith)))
-  where
-    on : (low high k : ℕ) → low ≤ k → k ≤ high → T (between low high k)
-    on low high k l u = and-i (leb low k) (leb k high) (le→leb low k l) (le→leb k high u)
+near-in : (b : Box) (q p : GridPoint) → CellWithin b q → Near q p → T (inBox b p)
+near-in b q p c h = in-box b p (omega arith)
 
 -- an edge from the lowest corner of a cell
 pub edge-in : (b : Box) (e : Edge) → T (isCell b (e .from)) → EndsIn b e
-edge-in b e t = (near-in b (e .from) (e .from) i (omega arith), near-in b (e .from) (stepUp (e .axis) (e .from)) i (go (e .axis)))
-  where
-    i : InCells b (e .from)
-    i = cell-bounds b (e .from) t
+edge-in b e t = (cell-in-box b (e .from) t, up-in-box b (e .axis) (e .from) t)
 
-    go : (a : Axis) → Near (e .from) (stepUp a (e .from))
-    go axisX = omega arith
-    go axisY = omega arith
-    go axisZ = omega arith
-
-pub square-in : (b : Box) (a : Axis) (c : GridPoint) → InCells b (stepUp a c) → Square (EndsIn b) a c
+pub square-in : (b : Box) (a : Axis) (c : GridPoint) → CellWithin b (stepUp a c) → Square (EndsIn b) a c
 square-in b axisX c i =
     record {
       near = (near-in b q q i (omega arith), near-in b q (stepUp axisY q) i (omega arith));
@@ -127,7 +112,7 @@ square-in b axisZ c i =
     q : GridPoint
     q = stepUp axisZ c
 
-pub square-owned : (g : Field) (b : Box) (m : Flags) → Enclosed g b → (a : Axis) (c : GridPoint) → InCells b (stepUp a c) → Square (λ (e : Edge). T (changes g e) → T (owned b m e)) a c
+pub square-owned : (g : Field) (b : Box) (m : Flags) → Enclosed g b → (a : Axis) (c : GridPoint) → CellWithin b (stepUp a c) → Square (λ (e : Edge). T (changes g e) → T (owned b m e)) a c
 square-owned g b m h a c i =
     record {
       near = changing-owned g b m h (edge (turned a) (stepUp a c)) (s .near);

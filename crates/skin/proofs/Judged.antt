@@ -5,30 +5,24 @@ use mathlib.Core.Bool.{Bool, true, false, not, cond}
 use mathlib.Core.List.{List}
 use mathlib.Core.Path.{_≡_, ap}
 use borrow.Author.Tests.{le-leb, lt-leb}
-use lib.Dec.{T}
 use lib.Ieee.{Float}
 use lib.ListN.{length}
 use Rattle.rules.specs.Lists.{many}
 use Rattle.rules.specs.Grid.{Box, Field, index}
 use Rattle.rules.specs.Faces.{Flags, indices}
 use Rattle.rules.specs.Call.{badDimensions, badBox, badLength}
-use Rattle.rules.proofs.Tests.{is-test}
-use Rattle.rules.proofs.Indexes.{box-fits}
+use Rattle.rules.proofs.Tests.{is-test, failed}
 use Rattle.grid.specs.declared.Extent.{Extent}
 use Rattle.grid.specs.declared.Block.{Block}
 use Rattle.grid.specs.Block.{point, boxOf}
 use Rattle.grid.specs.Inside.{PointInside, Inside}
-use Rattle.grid.proofs.Bounds.{few}
+use Rattle.grid.proofs.Bounds.{corner-inside}
 use Rattle.skin.specs.declared.Enclosed.{Enclosed}
 use Rattle.skin.specs.Links.{link, sameLink, links}
 use Rattle.skin.specs.Enclosed.{enclosed}
 use Rattle.skin.specs.Scan.{strayBox, answers, judged}
 use Rattle.skin.proofs.Premise.{skin-closed}
 use Rattle.skin.proofs.Scans.{box-is}
-
--- a test that the code found to fail
-failed : {a r : Bool} → r ≡ a → r ≡ false → T (not a)
-failed e h = rw (← e, h) tt
 
 -- the box with no max plane, as the code has it
 abbrev pub blockOf : Extent → Extent → Extent → Block
@@ -38,9 +32,7 @@ blockOf dims low high = record { dims = dims; low = low; high = high; «max_plan
 
 module _ (k : Block) {r s : Bool} (e : r ≡ badDimensions (point (k .dims))) (h : r ≡ false) (f : s ≡ badBox (point (k .dims)) (boxOf k)) (i : s ≡ false) where
   pub high-inside : PointInside (point (k .dims)) (point (k .high))
-  high-inside =
-      let b = box-fits (point (k .dims)) (boxOf k) (failed f i) in
-      record { x = omega arith; y = omega arith; z = omega arith; few = few (point (k .dims)) (failed e h) }
+  high-inside = corner-inside (point (k .dims)) (boxOf k) (failed e h) (failed f i)
 
   pub all-inside : (sdf : List Float) {at : ℕ} → at ≡ index (point (k .dims)) (point (k .high)) → at < length sdf → Inside sdf k
   unfolding badLength

@@ -1,5 +1,4 @@
 -- Laws of document 02, request 8, for every grid, box and flags, and the proofs of the code in src/. Assumes nothing.
-pub mod Some
 pub mod Rings
 pub mod Neighbours
 pub mod Squares

@@ -3,29 +3,17 @@
 use Prim.Native.Nat.{_<_}
 use native.Mathlib.Omega.{arith}
 use mathlib.Core.Bool.{false, _&&_, and-comm}
-use mathlib.Core.Path.{_≡_, refl, ap, _∙_}
-use lib.Dec.{T, eqb}
+use mathlib.Core.Path.{_≡_, refl, sym, ap, _∙_}
 use lib.Ieee.Fits.{and-i, and-l, and-r}
-use Rattle.rules.specs.Grid.{GridPoint, Axis, axisX, axisY, axisZ, along, stepUp, turned, samePoint}
+use Rattle.rules.specs.Grid.{GridPoint, Axis, axisX, axisY, axisZ, along, stepUp, stepDown, turned, samePoint}
 use Rattle.rules.specs.Faces.{Edge, edge, axisB, axisC, cell1, cell2, cell3, cell4}
-use Rattle.rules.proofs.Tests.{same-test, is-false, eq-test}
-use Rattle.rules.proofs.Counting.{samePoint-sound}
+use Rattle.rules.proofs.Tests.{same-test, is-false}
+use Rattle.rules.proofs.Indexes.{Same, up-down as back-up}
+use Rattle.rules.proofs.FourCells.{along-down}
+use Rattle.rules.proofs.Counting.{same-says, says-same}
 use Rattle.rules.proofs.Edges.{sameAxis, sameEdge}
 
 -- ---- tests on points, by their coordinates
-
-abbrev pub Same : GridPoint → GridPoint → Type 0
-Same p q = (p .x ≡ q .x) × (p .y ≡ q .y) × (p .z ≡ q .z)
-
-pub same-says : (p q : GridPoint) → T (samePoint p q) → Same p q
-same-says p q t =
-    let e : p ≡ q = samePoint-sound p q t in
-    (ap (λ (r : GridPoint). r .x) e, ap (λ (r : GridPoint). r .y) e, ap (λ (r : GridPoint). r .z) e)
-
-says-same : (p q : GridPoint) → Same p q → T (samePoint p q)
-says-same p q h =
-    and-i (eqb (p .x) (q .x)) (eqb (p .y) (q .y) && eqb (p .z) (q .z)) (eq-test (p .x) (q .x) (h .0))
-    (and-i (eqb (p .y) (q .y)) (eqb (p .z) (q .z)) (eq-test (p .y) (q .y) (h .1)) (eq-test (p .z) (q .z) (h .2)))
 
 point-test : (p q r s : GridPoint) → (Same p q → Same r s) → (Same r s → Same p q) → samePoint p q ≡ samePoint r s
 point-test p q r s f g = same-test (samePoint p q) (samePoint r s) (λ t. says-same r s (f (same-says p q t))) (λ t. says-same p q (g (same-says r s t)))
@@ -78,30 +66,19 @@ pub record Steps (x : Axis) (p : GridPoint) : Type 0 where
   pub s42 : cell2 (edge x p) ≡ stepUp (axisC x) (cell4 (edge x p))
   pub s43 : cell3 (edge x p) ≡ stepUp (axisB x) (cell4 (edge x p))
 
-same-is : (p q : GridPoint) → Same p q → p ≡ q
-same-is p q h = λ i. record { x = h .0 i; y = h .1 i; z = h .2 i }
+-- a step up and one down, in either order
+swapped : (x : Axis) (q : GridPoint) → stepUp (axisB x) (stepDown (axisC x) q) ≡ stepDown (axisC x) (stepUp (axisB x) q)
+swapped axisX q = refl
+swapped axisY q = refl
+swapped axisZ q = refl
 
 pub steps : (x : Axis) (p : GridPoint) → 0 < along (axisB x) p → 0 < along (axisC x) p → Steps x p
-steps axisX p h k =
+steps x p h k =
     record {
-      s21 = same-is p (stepUp axisY (cell2 (edge axisX p))) (omega arith);
-      s31 = same-is p (stepUp axisZ (cell3 (edge axisX p))) (omega arith);
-      s42 = same-is (cell2 (edge axisX p)) (stepUp axisZ (cell4 (edge axisX p))) (omega arith);
-      s43 = same-is (cell3 (edge axisX p)) (stepUp axisY (cell4 (edge axisX p))) (omega arith);
-    }
-steps axisY p h k =
-    record {
-      s21 = same-is p (stepUp axisZ (cell2 (edge axisY p))) (omega arith);
-      s31 = same-is p (stepUp axisX (cell3 (edge axisY p))) (omega arith);
-      s42 = same-is (cell2 (edge axisY p)) (stepUp axisX (cell4 (edge axisY p))) (omega arith);
-      s43 = same-is (cell3 (edge axisY p)) (stepUp axisZ (cell4 (edge axisY p))) (omega arith);
-    }
-steps axisZ p h k =
-    record {
-      s21 = same-is p (stepUp axisX (cell2 (edge axisZ p))) (omega arith);
-      s31 = same-is p (stepUp axisY (cell3 (edge axisZ p))) (omega arith);
-      s42 = same-is (cell2 (edge axisZ p)) (stepUp axisY (cell4 (edge axisZ p))) (omega arith);
-      s43 = same-is (cell3 (edge axisZ p)) (stepUp axisX (cell4 (edge axisZ p))) (omega arith);
+      s21 = sym (back-up (axisB x) p h);
+      s31 = sym (back-up (axisC x) p k);
+      s42 = sym (back-up (axisC x) (stepDown (axisB x) p) (rw (along-down (axisB x) p) k));
+      s43 = sym (swapped x (stepDown (axisB x) p) ∙ ap (stepDown (axisC x)) (back-up (axisB x) p h));
     }
 
 -- the four cells are four

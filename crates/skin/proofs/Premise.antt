@@ -1,40 +1,27 @@
 -- The premise of request 8 as a test: it passes exactly if every negative point of the box lies inside, and then the skin has no hole. A box
 -- without a negative point passes it and has no face. From the count of each point in the box's list of points. Assumes nothing.
-use Prim.Native.Nat.{ℕ, _+_, _≤_, _<_}
-use native.Mathlib.Omega.{arith}
-use mathlib.Core.Bool.{Bool, true, false, _&&_, not}
+use Prim.Native.Nat.{ℕ, _+_, _≤_}
+use mathlib.Core.Bool.{Bool, true, false, not}
 use mathlib.Core.List.{List, []}
 use mathlib.Core.Logic.{_↔_, _⊎_, inl, inr}
 use mathlib.Core.Path.{_≡_, refl, sym, ap, subst, _∙_}
-use lib.Dec.{T, leb, leb→le, le→leb, T-not, not-T}
+use lib.Dec.{T, leb, leb→le, le→leb, T-not}
 use lib.Ieee.Fits.{and-i, and-l, and-r}
-use Rattle.rules.specs.Lists.{some, many, joined}
-use Rattle.rules.specs.Grid.{GridPoint, axisX, axisY, axisZ, Box, Field, samePoint, stepUp, inBox, value}
+use Rattle.rules.specs.Lists.{many, joined}
+use Rattle.rules.specs.Grid.{GridPoint, axisX, axisY, axisZ, Box, Field, stepUp, inBox, value}
 use Rattle.rules.specs.Cell.{negative}
-use Rattle.rules.specs.Faces.{Edge, Flags, owned, changes, gives, indices, points}
-use Rattle.rules.proofs.Tests.{is-test, one-of, one-positive}
+use Rattle.rules.specs.Faces.{Edge, Flags, owned, changes, gives, indices}
+use Rattle.rules.proofs.Tests.{is-test}
 use Rattle.rules.proofs.Lists.{All, none, more, all-then}
-use Rattle.rules.proofs.Counting.{samePoint-sound, samePoint-itself, points-once}
+use Rattle.rules.proofs.Indexes.{Axes, axes, of-axes}
+use Rattle.rules.proofs.Inside.{none-in, in-none}
 use Rattle.rules.proofs.FourCells.{gives-cell}
 use Rattle.rules.proofs.Edges.{edges-all}
 use Rattle.rules.proofs.Numbers.{faceNumbers, indices-are}
 use Rattle.skin.specs.Links.{link, sameLink, links}
 use Rattle.skin.specs.Enclosed.{Inner, Enclosed, innerSide, inner, stray, enclosed, allOutside}
-use Rattle.skin.proofs.Some.{some-has, some-member}
 use Rattle.skin.proofs.Inner.{EndsIn, edge-in, negative-end}
 use Rattle.skin.proofs.Skin.{skin-law}
-
--- ---- some point of the box
-
-module _ (b : Box) (f : GridPoint → Bool) where
-  none-in : T (not (some f (points b))) → (p : GridPoint) → T (inBox b p) → T (f p) → ⊥
-  none-in h p i t = T-not (some f (points b)) h (some-has samePoint samePoint-sound samePoint-itself f p t (points b) (omega (arith, points-once b p, one-of (inBox b p) i)))
-
-  in-none : ((p : GridPoint) → T (inBox b p) → T (f p) → ⊥) → T (not (some f (points b)))
-  in-none h = not-T (some f (points b)) (λ t. go (some-member samePoint samePoint-sound samePoint-itself f (points b) t))
-    where
-      go : (p : GridPoint) × (0 < many (samePoint p) (points b)) × T (f p) → ⊥
-      go w = h (w .0) (one-positive (inBox b (w .0)) (omega (arith, w .1, points-once b (w .0)))) (w .2)
 
 -- ---- a point inside
 
@@ -44,27 +31,23 @@ side-says low high n t = (leb→le (low + 1) n (and-l (leb (low + 1) n) (leb (n 
 pub says-side : (low high n : ℕ) → (low + 1 ≤ n) × (n + 2 ≤ high) → T (innerSide low high n)
 says-side low high n h = and-i (leb (low + 1) n) (leb (n + 2) high) (le→leb (low + 1) n (h .0)) (le→leb (n + 2) high (h .1))
 
+-- from min + 1 to max - 2
+abbrev Side : ℕ → ℕ → ℕ → Type 0
+Side low high n = (low + 1 ≤ n) × (n + 2 ≤ high)
+
 module _ (b : Box) (p : GridPoint) where
-  inX : Bool
-  inX = innerSide (b .low .x) (b .high .x) (p .x)
-
-  inY : Bool
-  inY = innerSide (b .low .y) (b .high .y) (p .y)
-
-  inZ : Bool
-  inZ = innerSide (b .low .z) (b .high .z) (p .z)
-
   pub inner-says : T (inner b p) → Inner b p
-  unfolding inner inX inY inZ
-  inner-says t axisX = side-says (b .low .x) (b .high .x) (p .x) (and-l inX (inY && inZ) t)
-  inner-says t axisY = side-says (b .low .y) (b .high .y) (p .y) (and-l inY inZ (and-r inX (inY && inZ) t))
-  inner-says t axisZ = side-says (b .low .z) (b .high .z) (p .z) (and-r inY inZ (and-r inX (inY && inZ) t))
+  unfolding inner
+  inner-says t = go (axes innerSide Side (b .low) (b .high) p side-says t)
+    where
+      go : Axes Side (b .low) (b .high) p → Inner b p
+      go s axisX = s .x
+      go s axisY = s .y
+      go s axisZ = s .z
 
   pub says-inner : Inner b p → T (inner b p)
-  unfolding inner inX inY inZ
-  says-inner h =
-      and-i inX (inY && inZ) (says-side (b .low .x) (b .high .x) (p .x) (h axisX))
-      (and-i inY inZ (says-side (b .low .y) (b .high .y) (p .y) (h axisY)) (says-side (b .low .z) (b .high .z) (p .z) (h axisZ)))
+  unfolding inner
+  says-inner h = of-axes innerSide Side (b .low) (b .high) p says-side (record { x = h axisX; y = h axisY; z = h axisZ })
 
 -- ---- the premise
 

@@ -3,15 +3,16 @@
 use Prim.Native.Nat.{ℕ, _+_}
 use native.Mathlib.Omega.{arith}
 use mathlib.Core.Bool.{Bool, true, false, and-comm}
-use mathlib.Core.List.{List, [], _∷_, _++_, map}
+use mathlib.Core.List.{List, [], _∷_, _++_}
 use mathlib.Core.Path.{_≡_, refl, ap, _∙_}
-use lib.Dec.{eqb, eqb-refl}
+use borrow.Author.Tests.{eq-eqb}
+use lib.Dec.{eqb}
 use Rattle.rules.specs.Lists.{one, keep, some, many, joined}
 use Rattle.rules.specs.Grid.{Box, Field, value}
 use Rattle.rules.specs.Cell.{negative}
 use Rattle.rules.specs.Faces.{Edge, Flags, six, shorter, faceCells, cell1, cell2, cell3, cell4, edges, indices}
-use Rattle.rules.proofs.Tests.{is-true}
 use Rattle.rules.proofs.Lists.{all-each, joined-same, total, many-joined}
+use Rattle.rules.proofs.Edges.{map-six}
 use Rattle.rules.proofs.Numbers.{faceNumbers, indices-are}
 use Rattle.skin.specs.Links.{Link, link, reverse, sameLink, links, withoutDiagonal, faceLinks, numberOf}
 
@@ -74,7 +75,7 @@ unfolding many keep some links
 six-outline f s t v1 v2 v3 v4 h = go s t
   where
     r : (n : ℕ) → eqb n n ≡ true
-    r n = is-true (eqb n n) (eqb-refl n)
+    r n = eq-eqb n n refl
 
     go : (s t : Bool) → many f (withoutDiagonal (links (six s t v1 v2 v3 v4))) ≡ many f (ring t v1 v2 v3 v4)
     go true true =
@@ -87,12 +88,6 @@ six-outline f s t v1 v2 v3 v4 h = go s t
         simp (h .d12, h .d13, h .d14, h .d21, h .d23, h .d24, h .d31, h .d32, h .d34, h .d41, h .d42, h .d43, r v1, r v2, r v3, r v4) (omega arith)
 
 -- ---- the index list, face by face
-
-pub map-six : {A B : Type 0} (f : A → B) (s t : Bool) (v1 v2 v3 v4 : A) → map f (six s t v1 v2 v3 v4) ≡ six s t (f v1) (f v2) (f v3) (f v4)
-map-six f true true v1 v2 v3 v4 = refl
-map-six f true false v1 v2 v3 v4 = refl
-map-six f false true v1 v2 v3 v4 = refl
-map-six f false false v1 v2 v3 v4 = refl
 
 -- the six numbers of an edge's face
 abbrev pub sixOf : Field → Box → Edge → List ℕ

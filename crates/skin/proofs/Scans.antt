@@ -11,9 +11,10 @@ use Rattle.rules.specs.Lists.{some, upTo}
 use Rattle.rules.specs.Grid.{Box, Field}
 use Rattle.rules.specs.Faces.{layerPoints, points, pointLayers}
 use Rattle.rules.proofs.Tests.{same-test, is-false}
+use Rattle.rules.proofs.Lists.{all-each}
+use Rattle.rules.proofs.Some.{some-joined, some-map, some-same}
 use Rattle.skin.specs.Enclosed.{innerSide, stray, enclosed}
 use Rattle.skin.specs.Scan.{strayRow, strayLayer, strayBox}
-use Rattle.skin.proofs.Some.{some-joined, some-map, some-same}
 use Rattle.skin.proofs.Premise.{side-says, says-side}
 
 -- ---- one axis of a point
@@ -56,8 +57,8 @@ module _ (g : Field) (b : Box) where
   unfolding layerPoints strayLayer strayRow
   layer-is z =
       some-joined (stray g b) (λ (y : ℕ). map (λ (x : ℕ). record { x = x; y = y; z = z }) (upTo (b .low .x) (b .high .x + 1))) (upTo (b .low .y) (b .high .y + 1))
-      ∙ some-same (λ y. some-map (stray g b) (λ (x : ℕ). record { x = x; y = y; z = z }) (upTo (b .low .x) (b .high .x + 1))) (upTo (b .low .y) (b .high .y + 1))
+      ∙ some-same (all-each (λ y. some-map (stray g b) (λ (x : ℕ). record { x = x; y = y; z = z }) (upTo (b .low .x) (b .high .x + 1))) (upTo (b .low .y) (b .high .y + 1)))
 
   pub box-is : not (strayBox g b) ≡ enclosed g b
   unfolding enclosed points strayBox
-  box-is = ap not (sym (some-joined (stray g b) (layerPoints b) (pointLayers b) ∙ some-same layer-is (pointLayers b)))
+  box-is = ap not (sym (some-joined (stray g b) (layerPoints b) (pointLayers b) ∙ some-same (all-each layer-is (pointLayers b))))

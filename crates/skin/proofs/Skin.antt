@@ -14,12 +14,14 @@ use Rattle.rules.specs.Grid.{GridPoint, Axis, Box, Field, samePoint, isCell, st
 use Rattle.rules.specs.Faces.{Edge, Flags, axisB, axisC, owned, gives, edges, indices, changingEdges, shorter, cell1, cell2, cell3, cell4}
 use Rattle.rules.proofs.Tests.{is-false, one-positive}
 use Rattle.rules.proofs.Lists.{All, none, more, all-each, all-then, total, total-same, total-plus, total-times}
-use Rattle.rules.proofs.FourCells.{InCells, cell-bounds, Four, Owned, owned-says, gives-owned}
+use Rattle.rules.proofs.Indexes.{Same, CellWithin, cell-within}
+use Rattle.rules.proofs.Counting.{same-says}
+use Rattle.rules.proofs.FourCells.{Four, Owned, owned-says, gives-owned}
 use Rattle.rules.proofs.Edges.{edges-all, edge-count}
 use Rattle.skin.specs.Links.{Link, link, reverse, sameLink, links, withoutDiagonal, faceLinks, numberOf, Square}
 use Rattle.skin.specs.Enclosed.{Enclosed}
 use Rattle.skin.proofs.Rings.{ring, ring-four, diagonal, six-six, six-links, diagonal-even, Different, six-outline, sixOf, links-total, faceLinks-total}
-use Rattle.skin.proofs.Neighbours.{Same, same-says, Steps, steps, Apart, apart}
+use Rattle.skin.proofs.Neighbours.{Steps, steps, Apart, apart}
 use Rattle.skin.proofs.Squares.{IsVertex, number-same, four-vertices, way, between, sign, ringOf, square-even}
 use Rattle.skin.proofs.Inner.{square-owned}
 
@@ -149,7 +151,7 @@ module _ (g : Field) (b : Box) (m : Flags) where
     axis : Axis
     cell : GridPoint
     up : Bool
-    inside : InCells b (stepUp axis cell)
+    inside : CellWithin b (stepUp axis cell)
     tail : i ≡ between g b axis cell up .tail
     head : j ≡ between g b axis cell up .head
 
@@ -159,7 +161,7 @@ module _ (g : Field) (b : Box) (m : Flags) where
         axis = x;
         cell = l;
         up = d;
-        inside = cell-bounds b (stepUp x l) (subst (λ (y : GridPoint). T (isCell b y)) e (h .0));
+        inside = cell-within b (stepUp x l) (subst (λ (y : GridPoint). T (isCell b y)) e (h .0));
         tail = eqb→eq i (w .tail) (and-l (eqb i (w .tail)) (eqb j (w .head)) t) ∙ ap (λ (y : GridPoint). way d (numberOf g b l) (numberOf g b y) .tail) e;
         head = eqb→eq j (w .head) (and-r (eqb i (w .tail)) (eqb j (w .head)) t) ∙ ap (λ (y : GridPoint). way d (numberOf g b l) (numberOf g b y) .head) e;
       }

@@ -3,19 +3,19 @@
 -- face once. Assumes nothing.
 use Prim.Native.Nat.{ℕ, zero, suc, _+_, _<_}
 use native.Mathlib.Omega.{arith}
-use mathlib.Core.Bool.{Bool, true, false, _&&_, and-comm, Bool·beq}
+use mathlib.Core.Bool.{Bool, true, false, _&&_, Bool·beq}
 use mathlib.Core.List.{List, [], append-nil}
 use mathlib.Core.Path.{_≡_, refl, sym, ap, ap₂, subst, _∙_}
 use lib.Dec.{T, eqb, eqb→eq}
 use lib.Ieee.{unlike}
-use lib.Ieee.Fits.{and-i, and-r}
+use lib.Ieee.Fits.{and-i, and-r, eq→eqb}
 use lib.ListN.{length, getD}
 use Rattle.rules.specs.Lists.{one, many, place}
 use Rattle.rules.specs.Grid.{GridPoint, Axis, axisX, axisY, axisZ, Box, Field, samePoint, stepUp, turned, isCell, value}
 use Rattle.rules.specs.Cell.{negative}
 use Rattle.rules.specs.Vertices.{surfaceCell, vertices}
 use Rattle.rules.specs.Faces.{Edge, Flags, axisB, axisC, owned, changes, gives, edges, cell1, cell2, cell3, cell4}
-use Rattle.rules.proofs.Tests.{same-test, eq-test}
+use Rattle.rules.proofs.Tests.{same-test, same-moves}
 use Rattle.rules.proofs.Lists.{all-each, all-then, total, total-same, total-plus, many-same, many-total, many-with, place-past, place-passes}
 use Rattle.rules.proofs.Counting.{samePoint-sound}
 use Rattle.rules.proofs.FourCells.{Four, Owned, owned-says, gives-owned}
@@ -55,7 +55,7 @@ module _ (g : Field) (b : Box) where
           subst (λ (y : GridPoint). T (samePoint c y)) k (place-found (samePoint c) (vertices g b) x i)
 
       from : T (samePoint c x) → T (eqb (numberOf g b c) (numberOf g b x))
-      from t = eq-test (numberOf g b c) (numberOf g b x) (ap (numberOf g b) (samePoint-sound c x t))
+      from t = eq→eqb (ap (numberOf g b) (samePoint-sound c x t))
 
   pub four-vertices : (m : Flags) (e : Edge) → T (gives g b m e) → Four IsVertex e
   four-vertices m e t = four-each g b m e t (λ c i s l. (i, s))
@@ -138,11 +138,7 @@ module _ (g : Field) (b : Box) (m : Flags) (a : Axis) (c : GridPoint) where
 -- ---- all faces together
 
 sameEdge-moves : (f : Edge → Bool) (d e : Edge) → (f e && sameEdge d e) ≡ (f d && sameEdge d e)
-sameEdge-moves f d e = go (sameEdge d e) refl
-  where
-    go : (t : Bool) → sameEdge d e ≡ t → (f e && t) ≡ (f d && t)
-    go true h = ap (λ r. f r && true) (sym (sameEdge-sound d e (subst T (sym h) tt)))
-    go false h = and-comm (f e) false ∙ and-comm false (f d)
+sameEdge-moves = same-moves sameEdge sameEdge-sound
 
 module _ (g : Field) (b : Box) (m : Flags) where
   -- one edge, counted where the test passes

@@ -7,11 +7,12 @@ use mathlib.Core.List.{List, [], _∷_, _++_, map}
 use mathlib.Core.Path.{_≡_, refl, subst}
 use mathlib.Core.Bool.{Bool, _&&_}
 use lib.Dec.{T, eqb}
+use lib.Ieee.Fits.{and-l, and-r}
 use Rattle.rules.specs.Lists.{upTo, joined}
 use Rattle.rules.specs.Grid.{below, GridPoint, Box, index}
 use Rattle.rules.specs.Vertices.{rowCells, layerCells, cells}
-use Rattle.rules.proofs.Tests.{below-low, below-high, and-left, and-right}
-use Rattle.rules.proofs.Lists.{All, none, more, all-append, all-then, all-map, all-each}
+use Rattle.rules.proofs.Tests.{below-low, below-high}
+use Rattle.rules.proofs.Lists.{All, none, more, all-append, all-then, all-both, all-map, all-each}
 use Rattle.rules.proofs.Runs.{upTo-none, upTo-first, upTo-all}
 use Rattle.rules.proofs.Counting.{isLayerCell, layerCells-all, layer-z}
 use Rattle.rules.proofs.Indexes.{BoxFits, volume}
@@ -44,18 +45,10 @@ ascending-joined k f h P each apart (more {x = x} px ps) (after a p) =
   where
     step : {ys : List _} → All (λ y. All (λ p. All (λ q. f p < f q) (h y)) (h x)) ys → All (λ p. All (λ q. f p < f q) (joined h ys)) (h x)
     step none = all-each (λ p. none) (h x)
-    step (more {x = y} {xs = ys} r rs) = both r (step rs)
-      where
-        both : {u : List _} → All (λ p. All (λ q. f p < f q) (h y)) u → All (λ p. All (λ q. f p < f q) (joined h ys)) u → All (λ p. All (λ q. f p < f q) (h y ++ joined h ys)) u
-        both none none = none
-        both (more b bs) (more c cs) = more (all-append b c) (both bs cs)
-
-    pairs : {ys : List _} → All (λ y. k x < k y) ys → All P ys → All (λ y. All (λ p. All (λ q. f p < f q) (h y)) (h x)) ys
-    pairs none none = none
-    pairs (more {x = y} b bs) (more c cs) = more (apart x y px c b) (pairs bs cs)
+    step (more r rs) = all-both (λ p u v. all-append u v) r (step rs)
 
     across : {ys : List _} → All (λ y. k x < k y) ys → All P ys → All (λ p. All (λ q. f p < f q) (joined h ys)) (h x)
-    across b c = step (pairs b c)
+    across b c = step (all-both (λ y l q. apart x y px q l) b c)
 
 -- what stands behind an element is above it
 pub ascending-rest : {A : Type 0} (f : A → ℕ) (pre : List A) (c : A) (rest : List A) → Ascending f (pre ++ (c ∷ rest)) → All (λ y. f c < f y) rest
@@ -100,7 +93,7 @@ layer-all : (b : Box) (z : ℕ) → All (Layer b z) (layerCells b z)
 layer-all b z = all-then at (layerCells-all b z)
   where
     at : (p : GridPoint) → T (isLayerCell b z p) → Layer b z p
-    at p t = (below-high (b .low .x) (b .high .x) (p .x) (and-left inX (inY && inZ) t), below-high (b .low .y) (b .high .y) (p .y) (and-left inY inZ (and-right inX (inY && inZ) t)), layer-z b z p t)
+    at p t = (below-high (b .low .x) (b .high .x) (p .x) (and-l inX (inY && inZ) t), below-high (b .low .y) (b .high .y) (p .y) (and-l inY inZ (and-r inX (inY && inZ) t)), layer-z b z p t)
       where
         inX : Bool
         inX = below (b .low .x) (b .high .x) (p .x)

@@ -1,20 +1,19 @@
 -- The cells before a cell in their order: those with a lower index, and the cell itself is not among them. From the ascending order, and that
 -- each cell stands in the list once. Assumes nothing.
-use Prim.Native.Nat.{ℕ, suc, _+_, _≤_, _<_}
+use Prim.Native.Nat.{ℕ, suc, _+_, _<_}
 use native.Mathlib.Omega.{arith}
-use mathlib.Core.Bool.{Bool, _&&_}
-use mathlib.Core.List.{List, [], _∷_, _++_, map, append-assoc}
+use mathlib.Core.List.{List, [], _∷_, _++_, map, map-append, append-assoc}
 use mathlib.Core.Path.{_≡_, refl, sym, ap, subst, _∙_}
-use lib.Dec.{T, eqb}
+use lib.Dec.{T}
 use Rattle.rules.specs.Lists.{one, many, upTo, joined}
-use Rattle.rules.specs.Grid.{below, GridPoint, Box, samePoint, index, isCell}
+use Rattle.rules.specs.Grid.{GridPoint, Box, samePoint, index, isCell}
 use Rattle.rules.specs.Vertices.{rowCells, layerCells, cells}
-use Rattle.rules.proofs.Tests.{one-of, one-not, one-most, one-positive, and-left, and-right, and-both}
-use Rattle.rules.proofs.Lists.{All, none, more, all-then, all-joined, joined-append, many-append, many-none, map-append}
-use Rattle.rules.proofs.Runs.{upTo-split, upTo-first, upTo-all}
-use Rattle.rules.proofs.Counting.{samePoint-sound, samePoint-itself, isLayerCell, layer-z, cells-once, layerCells-all}
-use Rattle.rules.proofs.FourCells.{InCells, cell-bounds}
-use Rattle.rules.proofs.Indexes.{BoxFits}
+use Rattle.rules.proofs.Tests.{one-of, one-not, one-most, one-positive}
+use Rattle.rules.proofs.Lists.{All, none, more, all-then, many-append, many-none}
+use Rattle.rules.proofs.Runs.{upTo-split, upTo-first, joined-cut}
+use Rattle.rules.proofs.Counting.{samePoint-sound, samePoint-itself, cells-once}
+use Rattle.rules.proofs.Indexes.{BoxFits, CellWithin, cell-within}
+use Rattle.rules.proofs.Inside.{cells-all}
 use Rattle.grid.specs.Order.{rowTo, layerTo, boxTo}
 use Rattle.surface_nets.proofs.Ascending.{Ascending, ascending-rest, cells-ascend}
 
@@ -49,10 +48,6 @@ passed d b f pre c rest e p t h =
 
 -- ---- where a cell stands
 
-joined-cut : {A : Type 0} (f : ℕ → List A) (low k high : ℕ) → low ≤ k → k < high → joined f (upTo low high) ≡ joined f (upTo low k) ++ (f k ++ joined f (upTo (suc k) high))
-unfolding joined
-joined-cut f low k high h i = ap (joined f) (upTo-split low k high h (omega arith) ∙ ap (λ (l : List ℕ). upTo low k ++ l) (upTo-first k high i)) ∙ joined-append f (upTo low k) (k ∷ upTo (suc k) high)
-
 -- the cells before a cell, as the loops have passed them
 abbrev pub before : Box → GridPoint → List GridPoint
 before b c = boxTo b (c .z) ++ (layerTo b (c .z) (c .y) ++ rowTo b (c .z) (c .y) (c .x))
@@ -70,14 +65,14 @@ stands b c t =
     record {
       rest = Q ++ (W ++ U);
       here =
-          joined-cut (layerCells b) (b .low .z) (c .z) (b .high .z) (i .lz) (i .hz)
-          ∙ ap (λ (l : List GridPoint). boxTo b (c .z) ++ (l ++ U)) (joined-cut (rowCells b (c .z)) (b .low .y) (c .y) (b .high .y) (i .ly) (i .hy))
+          joined-cut (layerCells b) (b .low .z) (c .z) (b .high .z) (i .z .0) (i .z .1)
+          ∙ ap (λ (l : List GridPoint). boxTo b (c .z) ++ (l ++ U)) (joined-cut (rowCells b (c .z)) (b .low .y) (c .y) (b .high .y) (i .y .0) (i .y .1))
           ∙ ap (λ (l : List GridPoint). boxTo b (c .z) ++ ((layerTo b (c .z) (c .y) ++ (l ++ W)) ++ U)) row
           ∙ shape c (boxTo b (c .z)) (layerTo b (c .z) (c .y)) (rowTo b (c .z) (c .y) (c .x)) Q W U;
     }
   where
-    i : InCells b c
-    i = cell-bounds b c t
+    i : CellWithin b c
+    i = cell-within b c t
 
     at : ℕ → GridPoint
     at x = record { x = x; y = c .y; z = c .z }
@@ -93,33 +88,11 @@ stands b c t =
 
     row : rowCells b (c .z) (c .y) ≡ rowTo b (c .z) (c .y) (c .x) ++ (c ∷ Q)
     row =
-        ap (map at) (upTo-split (b .low .x) (c .x) (b .high .x) (i .lx) (omega (arith, i .hx)) ∙ ap (λ (l : List ℕ). upTo (b .low .x) (c .x) ++ l) (upTo-first (c .x) (b .high .x) (i .hx)))
+        ap (map at) (upTo-split (b .low .x) (c .x) (b .high .x) (i .x .0) (omega (arith, i .x .1)) ∙ ap (λ (l : List ℕ). upTo (b .low .x) (c .x) ++ l) (upTo-first (c .x) (b .high .x) (i .x .1)))
         ∙ map-append at (upTo (b .low .x) (c .x)) (c .x ∷ upTo (suc (c .x)) (b .high .x))
 
--- ---- every cell of the list is one of the box
+-- ---- the cells of a first part of the list are cells of the box
 
-pub cells-all : (b : Box) → All (λ c. T (isCell b c)) (cells b)
-unfolding cells
-cells-all b = all-joined (all-then in-layer (upTo-all (b .low .z) (b .high .z)))
-  where
-    in-layer : (z : ℕ) → T (below (b .low .z) (b .high .z) z) → All (λ (c : GridPoint). T (isCell b c)) (layerCells b z)
-    in-layer z t = all-then at (layerCells-all b z)
-      where
-        at : (c : GridPoint) → T (isLayerCell b z c) → T (isCell b c)
-        at c s =
-            and-both inX (inY && inZ) (and-left inX (inY && eqb (c .z) z) s)
-            (and-both inY inZ (and-left inY (eqb (c .z) z) (and-right inX (inY && eqb (c .z) z) s)) (rw (layer-z b z c s) t))
-          where
-            inX : Bool
-            inX = below (b .low .x) (b .high .x) (c .x)
-
-            inY : Bool
-            inY = below (b .low .y) (b .high .y) (c .y)
-
-            inZ : Bool
-            inZ = below (b .low .z) (b .high .z) (c .z)
-
--- and so of a first part of it
 all-left : {A : Type 0} {P : A → Type 0} (s t : List A) → All P (s ++ t) → All P s
 all-left [] t h = none
 all-left (x ∷ s) t (more p q) = more p (all-left s t q)

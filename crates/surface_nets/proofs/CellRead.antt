@@ -1,9 +1,12 @@
--- The step of a loop of the write pass: the cell that the code reads is the rules' cell, and its step the turn of the fold. Assumes nothing.
+-- The step of a loop of the write pass: the cell that the code reads is the rules' cell, its step is the turn of the fold, and the lists go on
+-- from those where the loop began. Assumes nothing.
 use Prim.Native.Nat.{ℕ, _+_, _*_}
-use mathlib.Core.List.{List, [], _∷_, _++_}
+use mathlib.Core.List.{List, [], _∷_, _++_, append-assoc}
 use mathlib.Core.Path.{_≡_, refl, sym, ap, _∙_}
+use lib.Dec.{T}
+use lib.ListN.{length}
 use lib.Ieee.{Float}
-use Rattle.rules.specs.Grid.{GridPoint, axisX, axisY, axisZ, Box, Field, index}
+use Rattle.rules.specs.Grid.{GridPoint, axisX, axisY, axisZ, Box, Field, index, isCell}
 use Rattle.rules.specs.Cell.{values}
 use Rattle.rules.specs.Faces.{Flags, edge, owned}
 use Rattle.grid.specs.declared.Block.{Block}
@@ -11,52 +14,71 @@ use Rattle.grid.specs.declared.corners.Side.{Side}
 use Rattle.grid.specs.declared.ownership.Own.{Own}
 use Rattle.grid.specs.Block.{point, boxOf, flagsOf, fieldOf}
 use Rattle.grid.specs.Corners.{sideAt, eightOf}
-use Rattle.grid.proofs.Tallies.{values-are}
+use Rattle.grid.specs.Inside.{Inside}
+use Rattle.grid.specs.Order.{rowTo, layerTo, boxTo}
+use Rattle.grid.proofs.Tallies.{corners-read}
 use Rattle.step.specs.Turns.{Lent, cellMade, ownOf, cellTurn, folded, CellReady, Roomy, Reached}
-use Rattle.surface_nets.proofs.Folds.{folded-last, folded-append}
-use Rattle.surface_nets.proofs.Reading.{reached-more}
+use Rattle.surface_nets.proofs.Folds.{folded-none, folded-one, folded-append, SameLengths, lengths-kept}
+use Rattle.surface_nets.proofs.Reading.{reached-more, cell-ready}
 
 -- what the code has read of the cell c
-pub record Read (grid : List Float) (k : Block) (c : GridPoint) (at row layer : ℕ) (d : List Float) (own : Own) : Type 0 where
+pub record Read (grid : List Float) (k : Block) (c : GridPoint) (at : ℕ) (d : List Float) (own : Own) : Type 0 where
   pub place : at ≡ index (point (k .dims)) c
-  pub rows : row ≡ k .dims .x
-  pub layers : layer ≡ k .dims .x * k .dims .y
   pub corners : d ≡ values (fieldOf grid k) c
   pub owns : own ≡ ownOf (boxOf k) (flagsOf k) c
 
-pub was-read : (grid : List Float) (k : Block) (c : GridPoint) (at row layer : ℕ) {low high : Side} {d : List Float} {own : Own} → at ≡ index (point (k .dims)) c → row ≡ k .dims .x → layer ≡ k .dims .x * k .dims .y
-    → low ≡ sideAt grid at row layer → high ≡ sideAt grid (at + 1) row layer → d ≡ eightOf low high
-    → (own .x ≡ owned (boxOf k) (flagsOf k) (edge axisX c)) × ((own .y ≡ owned (boxOf k) (flagsOf k) (edge axisY c)) × (own .z ≡ owned (boxOf k) (flagsOf k) (edge axisZ c))) → Read grid k c at row layer d own
-was-read grid k c at row layer {low} {high} {d} {own} ea er el elow ehigh ed eo =
-    record {
-      place = ea;
-      rows = er;
-      layers = el;
-      corners = ed ∙ ap (λ (s : Side). eightOf s high) elow ∙ ap (λ (s : Side). eightOf (sideAt grid at row layer) s) ehigh ∙ sym (values-are grid k c at row layer ea er el);
-      owns = λ i. record { x = eo .0 i; y = eo .1 .0 i; z = eo .1 .1 i };
-    }
+pub was-read : {grid : List Float} {k : Block} {c : GridPoint} {at : ℕ} {low high : Side} {d : List Float} {own : Own} → at ≡ index (point (k .dims)) c
+    → low ≡ sideAt grid at (k .dims .x) (k .dims .x * k .dims .y) → high ≡ sideAt grid (at + 1) (k .dims .x) (k .dims .x * k .dims .y) → d ≡ eightOf low high
+    → (own .x ≡ owned (boxOf k) (flagsOf k) (edge axisX c)) × ((own .y ≡ owned (boxOf k) (flagsOf k) (edge axisY c)) × (own .z ≡ owned (boxOf k) (flagsOf k) (edge axisZ c))) → Read grid k c at d own
+was-read {grid} {k} {c} ea elow ehigh ed eo =
+    record { place = ea; corners = corners-read grid k c ea elow ehigh ed; owns = λ i. record { x = eo .0 i; y = eo .1 .0 i; z = eo .1 .1 i } }
 
-module _ {grid : List Float} {k : Block} {c : GridPoint} {at row layer : ℕ} {d : List Float} {own : Own} (r : Read grid k c at row layer d own) where
-  pub turned : (s : Lent) → cellMade d own c at row layer s ≡ cellTurn (fieldOf grid k) (boxOf k) (flagsOf k) s c
-  unfolding cellTurn
-  turned s = rw (r .corners, r .owns, r .place, r .rows, r .layers)
+-- ---- the lists on the way
 
-  pub ready : (s : Lent) → CellReady (values (fieldOf grid k) c) (ownOf (boxOf k) (flagsOf k) c) (index (point (k .dims)) c) (k .dims .x) (k .dims .x * k .dims .y) s → CellReady d own at row layer s
-  ready s h = rw (r .corners, r .owns, r .place, r .rows, r .layers) h
+-- s' is what the cells that are passed leave of s
+pub record Meshed (grid : List Float) (k : Block) (s : Lent) (passed : List GridPoint) (s' : Lent) : Type 0 where
+  pub same : s' ≡ folded (cellTurn (fieldOf grid k) (boxOf k) (flagsOf k)) s passed
 
--- one cell more
-pub cell-more : (g : Field) (b : Box) (m : Flags) (s : Lent) {s' s'' : Lent} (l next : List GridPoint) (c : GridPoint) → next ≡ l ++ (c ∷ []) → s' ≡ folded (cellTurn g b m) s l → s'' ≡ cellTurn g b m s' c → s'' ≡ folded (cellTurn g b m) s next
-cell-more g b m s l next c e f h = h ∙ ap (λ (t : Lent). cellTurn g b m t c) f ∙ sym (ap (folded (cellTurn g b m) s) e ∙ folded-last (cellTurn g b m) s l c)
+-- the lists are reached once the cells of l are passed
+abbrev pub ReachedAt : List Float → Block → List GridPoint → Lent → Type 0
+ReachedAt grid k l s = Reached (fieldOf grid k) (boxOf k) (flagsOf k) (length grid) l s
 
--- one list more
-pub list-more : (g : Field) (b : Box) (m : Flags) (s : Lent) {s' s'' : Lent} (l t next : List GridPoint) → next ≡ l ++ t → s' ≡ folded (cellTurn g b m) s l → s'' ≡ folded (cellTurn g b m) s' t → s'' ≡ folded (cellTurn g b m) s next
-list-more g b m s l t next e f h = h ∙ ap (λ (u : Lent). folded (cellTurn g b m) u t) f ∙ sym (ap (folded (cellTurn g b m) s) e ∙ folded-append (cellTurn g b m) s l t)
-
--- the lists on the way, from those where the loop began
-pub reached-on : (g : Field) (b : Box) (m : Flags) (size : ℕ) (l t next : List GridPoint) (s : Lent) {s' : Lent} → Reached g b m size l s → next ≡ l ++ t → s' ≡ folded (cellTurn g b m) s t → Reached g b m size next s'
-reached-on g b m size l t next s r e f = rw (e, f) (reached-more g b m size l t s r)
+pub meshed-none : {grid : List Float} {k : Block} {s : Lent} {passed : List GridPoint} → passed ≡ [] → Meshed grid k s passed s
+meshed-none {grid} {k} {s} e =
+    let f = cellTurn (fieldOf grid k) (boxOf k) (flagsOf k) in
+    record { same = sym (ap (folded f s) e ∙ folded-none f s) }
 
 -- the lists where a pass begins
-pub reached-none : (g : Field) (b : Box) (m : Flags) (size : ℕ) (s : Lent) → s .vertex ≡ 0 → s .used ≡ 0 → Roomy g b m size s → Reached g b m size [] s
+pub reached-none : {g : Field} {b : Box} {m : Flags} {size : ℕ} {s : Lent} → s .vertex ≡ 0 → s .used ≡ 0 → Roomy g b m size s → Reached g b m size [] s
 unfolding folded
-reached-none g b m size s v u r = record { start = s; noVertex = v; noIndex = u; roomy = r; same = refl }
+reached-none {s = s} v u r = record { start = s; noVertex = v; noIndex = u; roomy = r; same = refl }
+
+module _ {grid : List Float} {k : Block} {s : Lent} {passed : List GridPoint} {s' : Lent} (m : Meshed grid k s passed s') where
+  -- a list more
+  pub meshed-more : {s'' : Lent} (t : List GridPoint) {next : List GridPoint} → s'' ≡ folded (cellTurn (fieldOf grid k) (boxOf k) (flagsOf k)) s' t → next ≡ passed ++ t → Meshed grid k s next s''
+  meshed-more t h e =
+      let f = cellTurn (fieldOf grid k) (boxOf k) (flagsOf k) in
+      record { same = h ∙ ap (λ (u : Lent). folded f u t) (m .same) ∙ sym (ap (folded f s) e ∙ folded-append f s passed t) }
+
+  -- a cell more, which the code read
+  pub meshed-cell : {c : GridPoint} {at : ℕ} {d : List Float} {own : Own} {s'' : Lent} {next : List GridPoint} → Read grid k c at d own
+      → s'' ≡ cellMade d own c at (k .dims .x) (k .dims .x * k .dims .y) s' → next ≡ passed ++ (c ∷ []) → Meshed grid k s next s''
+  unfolding cellTurn
+  meshed-cell {c} r h e = meshed-more (c ∷ []) (h ∙ rw (r .corners, r .owns, r .place) (sym (folded-one (cellTurn (fieldOf grid k) (boxOf k) (flagsOf k)) s' c))) e
+
+  pub meshed-all : {all : List GridPoint} → passed ≡ all → s' ≡ folded (cellTurn (fieldOf grid k) (boxOf k) (flagsOf k)) s all
+  meshed-all e = m .same ∙ ap (folded (cellTurn (fieldOf grid k) (boxOf k) (flagsOf k)) s) e
+
+  pub meshed-lengths : SameLengths s' s
+  meshed-lengths = rw (m .same) (lengths-kept (fieldOf grid k) (boxOf k) (flagsOf k) s passed)
+
+  pub meshed-reached : {l : List GridPoint} → ReachedAt grid k l s → ReachedAt grid k (l ++ passed) s'
+  meshed-reached {l} r = rw (m .same) (reached-more (fieldOf grid k) (boxOf k) (flagsOf k) (length grid) l passed s r)
+
+-- what the step of the cell c asks, where the cells of its row before it are passed
+pub cell-asks : {grid : List Float} {k : Block} {c : GridPoint} {at : ℕ} {d : List Float} {own : Own} {s s' : Lent} → Inside grid k → T (isCell (boxOf k) c) → Read grid k c at d own
+    → Meshed grid k s (rowTo (boxOf k) (c .z) (c .y) (c .x)) s' → ReachedAt grid k (boxTo (boxOf k) (c .z) ++ layerTo (boxOf k) (c .z) (c .y)) s
+    → CellReady d own at (k .dims .x) (k .dims .x * k .dims .y) s'
+cell-asks {grid} {k} {c} {s' = s'} i t r m a =
+    let b = boxOf k in
+    rw (r .corners, r .owns, r .place) (cell-ready grid k i c t s' (rw (append-assoc (boxTo b (c .z)) (layerTo b (c .z) (c .y)) (rowTo b (c .z) (c .y) (c .x))) at (meshed-reached m a)))

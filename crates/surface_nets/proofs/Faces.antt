@@ -18,7 +18,7 @@ use Rattle.rules.specs.Call.{flatVectors}
 use Rattle.rules.proofs.Tests.{one-of}
 use Rattle.rules.proofs.Lists.{many-append}
 use Rattle.rules.proofs.Counting.{samePoint-itself}
-use Rattle.rules.proofs.FourCells.{Four, Owned, owned-says, four-in, four-on, gives-owned}
+use Rattle.rules.proofs.FourCells.{Four, Owned, owned-says, along-down, four-in, four-on, gives-owned}
 use Rattle.rules.proofs.Numbers.{number-below}
 use Rattle.rules.proofs.Indexes.{BoxFits, stride, index-down}
 use Rattle.grid.proofs.Tallies.{otherEnd, changes-at}
@@ -30,11 +30,6 @@ use Rattle.surface_nets.proofs.Growing.{Looked}
 
 -- ---- indexes of the four cells
 
-along-down : (a : Axis) (p : GridPoint) → along (axisC a) (stepDown (axisB a) p) ≡ along (axisC a) p
-along-down axisX p = refl
-along-down axisY p = refl
-along-down axisZ p = refl
-
 -- how far the four cells stand before the first
 pub record Back (d : GridPoint) (e : Edge) (B C : ℕ) : Type 0 where
   pub two : index d (cell2 e) + B ≡ index d (e .from)
@@ -44,7 +39,7 @@ pub record Back (d : GridPoint) (e : Edge) (B C : ℕ) : Type 0 where
 pub back : (d : GridPoint) (a : Axis) (p : GridPoint) → 0 < along (axisB a) p → 0 < along (axisC a) p → Back d (edge a p) (stride d (axisB a)) (stride d (axisC a))
 back d a p h k =
     let two = index-down d (axisB a) p h in
-    let last = index-down d (axisC a) (stepDown (axisB a) p) (rw (along-down a p) k) in
+    let last = index-down d (axisC a) (stepDown (axisB a) p) (rw (along-down (axisB a) p) k) in
     record { two = two; three = index-down d (axisC a) p k; four = ap (λ (n : ℕ). n + stride d (axisB a)) last ∙ two }
 
 stride-up : (d : GridPoint) (a : Axis) → 0 < d .x → 0 < d .y → 0 < stride d a

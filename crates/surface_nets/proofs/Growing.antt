@@ -3,7 +3,7 @@
 use Prim.Native.Nat.{ℕ, _+_, _-_, _*_, _≤_}
 use native.Mathlib.Omega.{arith}
 use mathlib.Core.Bool.{Bool, true, false, cond}
-use mathlib.Core.List.{List, [], _∷_, _++_, map, append-nil, append-assoc}
+use mathlib.Core.List.{List, [], _∷_, _++_, map, map-append, append-nil, append-assoc}
 use mathlib.Core.Path.{_≡_, sym, ap, _∙_}
 use lib.Dec.{T}
 use lib.Ieee.{Float}
@@ -14,14 +14,15 @@ use Rattle.rules.specs.Cell.{Vector, negative, values}
 use Rattle.rules.specs.Vertices.{cells, vertices, vertexPosition, vertexNormal, nullVertex, cellEntry}
 use Rattle.rules.specs.Faces.{Flags, Edge, edge, gives, cellEdges, cell1, cell2, cell3, cell4, faceCells}
 use Rattle.rules.specs.Call.{flatVectors, flatPoints}
-use Rattle.rules.proofs.Lists.{map-append, joined-append, joined-one, length-joined, total-same, total-times, all-each}
+use Rattle.rules.proofs.Lists.{joined-snoc, joined-length}
 use Rattle.rules.proofs.Edges.{faceCells-length}
 use Rattle.rules.proofs.Numbers.{faceNumbers}
+use Rattle.rules.proofs.Seen.{length-points, length-vectors}
 use Rattle.step.specs.Turns.{set3, putVector, Lent, shorterAt, facePut, vertexMade, faceMade, nullMade}
 use Rattle.surface_nets.proofs.Folds.{folded-last}
 use Rattle.surface_nets.proofs.Stores.{set-over, set3-over, six-over}
 use Rattle.surface_nets.proofs.Marks.{mark, marked}
-use Rattle.surface_nets.proofs.Lookups.{length-vectors, length-points, Corner, face-six}
+use Rattle.surface_nets.proofs.Lookups.{Corner, face-six}
 
 -- the lists of s once the vertices of vs, the map entries of ms and the faces of es are written
 abbrev pub made : Field → Box → Lent → List GridPoint → List GridPoint → List Edge → Lent
@@ -47,20 +48,10 @@ pub record VertexRoom (s : Lent) (n : ℕ) : Type 0 where
   pub strides : n ≤ length (s .strides)
 
 vectors-last : (f : GridPoint → Vector) (vs : List GridPoint) (c : GridPoint) → flatVectors (map f vs) ++ (f c .x ∷ f c .y ∷ f c .z ∷ []) ≡ flatVectors (map f (vs ++ (c ∷ [])))
-vectors-last f vs c =
-    sym (ap flatVectors (map-append f vs (c ∷ [])) ∙ joined-append three (map f vs) (f c ∷ []) ∙ ap (λ (l : List Float). flatVectors (map f vs) ++ l) (joined-one three (f c)))
-  where
-    three : Vector → List Float
-    three v = v .x ∷ v .y ∷ v .z ∷ []
+vectors-last f vs c = sym (ap flatVectors (map-append f vs (c ∷ [])) ∙ joined-snoc (λ (v : Vector). v .x ∷ v .y ∷ v .z ∷ []) (map f vs) (f c))
 
 points-last : (vs : List GridPoint) (c : GridPoint) → flatPoints vs ++ (c .x ∷ c .y ∷ c .z ∷ []) ≡ flatPoints (vs ++ (c ∷ []))
-points-last vs c = sym (joined-append three vs (c ∷ []) ∙ ap (λ (l : List ℕ). flatPoints vs ++ l) (joined-one three c))
-  where
-    three : GridPoint → List ℕ
-    three v = v .x ∷ v .y ∷ v .z ∷ []
-
-length-last : {A : Type 0} (l : List A) (a : A) → length (l ++ (a ∷ [])) ≡ length l + 1
-length-last l a = length-append l (a ∷ [])
+points-last vs c = sym (joined-snoc (λ (p : GridPoint). p .x ∷ p .y ∷ p .z ∷ []) vs c)
 
 module _ (g : Field) (b : Box) (s : Lent) (vs ms : List GridPoint) (es : List Edge) where
   -- a surface cell's vertex has the next number
@@ -76,7 +67,7 @@ module _ (g : Field) (b : Box) (s : Lent) (vs ms : List GridPoint) (es : List Ed
         strides = strides i;
         map = entries i;
         indices = over (joined (faceNumbers g b) es) (s .indices);
-        vertex = sym (length-last vs c) i;
+        vertex = sym (length-append vs (c ∷ [])) i;
         used = 6 * length es;
       }
     where
@@ -128,9 +119,7 @@ module _ (g : Field) (b : Box) (s : Lent) (vs ms : List GridPoint) (es : List Ed
 
 pub length-faces : (g : Field) (b : Box) (es : List Edge) → length (joined (faceNumbers g b) es) ≡ 6 * length es
 length-faces g b es =
-    length-joined (faceNumbers g b) es
-    ∙ total-same (all-each (λ (e : Edge). length-map (faceCells g e) (λ (c : GridPoint). place (samePoint c) (vertices g b)) ∙ faceCells-length g e) es)
-    ∙ total-times 6 es
+    joined-length (faceNumbers g b) 6 (λ (e : Edge). length-map (faceCells g e) (λ (c : GridPoint). place (samePoint c) (vertices g b)) ∙ faceCells-length g e) es
 
 -- what the face of an edge looks up, from the map's entry `at` and by the strides B and C
 pub record Looked (g : Field) (b : Box) (entries : List ℕ) (positions : List Float) (e : Edge) (at B C : ℕ) : Type 0 where
@@ -180,10 +169,10 @@ module _ (g : Field) (b : Box) (s : Lent) (vs ms : List GridPoint) (es : List Ed
           six-over numbers (s .indices) (6 * length es) (shorterAt positions (getD entries at 0) (getD entries (at - B) 0) (getD entries (at - C) 0) (getD entries (at - B - C) 0)) n1
           (getD entries at 0) (getD entries (at - B) 0) (getD entries (at - C) 0) (getD entries (at - B - C) 0) (sym (length-faces g b es)) (omega (arith, room tt, length-faces g b es))
           ∙ ap (λ (l : List ℕ). over (numbers ++ l) (s .indices)) (face-six g b entries positions e at (at - B) (at - C) (at - B - C) n1 n (h .one) (h .two) (h .three) (h .four))
-          ∙ ap (λ (l : List ℕ). over l (s .indices)) (sym (joined-append (faceNumbers g b) es (e ∷ []) ∙ ap (λ (l : List ℕ). numbers ++ l) (joined-one (faceNumbers g b) e)))
+          ∙ ap (λ (l : List ℕ). over l (s .indices)) (sym (joined-snoc (faceNumbers g b) es e))
 
       used : 6 * length es + 6 * 1 ≡ 6 * length (es ++ (e ∷ []))
-      used = omega (arith, length-last es e)
+      used = omega (arith, length-append es (e ∷ []))
   face-step false look room =
       λ i.
       record {

@@ -1,33 +1,26 @@
 -- What a face looks up: a passed surface cell's number in the map, and by that number its position; so the six numbers that a face puts are
 -- those that document 01 says. From the place of a vertex. Assumes nothing.
-use Prim.Native.Nat.{ℕ, _+_, _*_, _<_}
+use Prim.Native.Nat.{ℕ, _<_}
 use native.Mathlib.Omega.{arith}
-use mathlib.Core.Bool.{Bool, true, false, _&&_, cond}
-use mathlib.Core.List.{List, [], _∷_, _++_, map}
-use mathlib.Core.Path.{_≡_, refl, sym, ap, _∙_}
+use mathlib.Core.Bool.{Bool, false, _&&_, cond}
+use mathlib.Core.List.{List, _++_, map}
+use mathlib.Core.Path.{_≡_, sym, ap, _∙_}
 use lib.Dec.{T}
 use lib.Ieee.{Float, nan, lt}
-use lib.ListN.{length, getD, length-map, drop, List·getD-map, List·getD-append}
+use lib.Ieee.Bits.{is-true}
+use lib.ListN.{length, getD, length-map, drop, List·getD-map}
 use Rattle.rules.specs.Lists.{keep, many, place, over}
 use Rattle.rules.specs.Grid.{GridPoint, Box, Field, samePoint, isCell, value}
 use Rattle.rules.specs.Cell.{Vector, negative, squaredDistance}
 use Rattle.rules.specs.Vertices.{cells, vertices, surfaceCell, vertexPosition, vertexNumber, firstVertex, nullVertex, cellEntry}
 use Rattle.rules.specs.Faces.{Edge, cell1, cell2, cell3, cell4, six, shorter, faceCells}
-use Rattle.rules.specs.Call.{flatVectors, flatPoints}
-use Rattle.rules.proofs.Tests.{is-true}
-use Rattle.rules.proofs.Lists.{all-each, keep-append, many-keep, many-same, length-joined, total-times, place-here, place-below, place-passes}
+use Rattle.rules.specs.Call.{flatVectors}
+use Rattle.rules.proofs.Lists.{all-each, keep-append, many-keep, many-same, place-here, place-below, place-passes}
 use Rattle.rules.proofs.Counting.{samePoint-sound, samePoint-moves, vertices-are}
 use Rattle.rules.proofs.Numbers.{number-place, faceNumbers}
-use Rattle.rules.proofs.Seen.{ThreeAt, flatVectors-at}
+use Rattle.rules.proofs.Edges.{map-six}
+use Rattle.rules.proofs.Seen.{ThreeAt, three-over, length-vectors, flatVectors-at}
 use Rattle.step.specs.Turns.{vectorAt, shorterAt}
-
--- ---- lengths of flat lists
-
-pub length-vectors : (f : GridPoint → Vector) (vs : List GridPoint) → length (flatVectors (map f vs)) ≡ 3 * length vs
-length-vectors f vs = length-joined (λ (v : Vector). v .x ∷ v .y ∷ v .z ∷ []) (map f vs) ∙ total-times 3 (map f vs) ∙ ap (λ (n : ℕ). 3 * n) (length-map vs f)
-
-pub length-points : (vs : List GridPoint) → length (flatPoints vs) ≡ 3 * length vs
-length-points vs = length-joined (λ (p : GridPoint). p .x ∷ p .y ∷ p .z ∷ []) vs ∙ total-times 3 vs
 
 -- ---- entries
 
@@ -70,7 +63,7 @@ module _ (g : Field) (b : Box) (s t : List GridPoint) (e : cells b ≡ s ++ t) (
   number-here = ap (place (samePoint p)) (vertices-split g b s t e) ∙ place-here (samePoint p) vs (keep (surfaceCell g) t) vs-has
 
   pub position-at : (old : List Float) → vectorAt (over (flatVectors (map (vertexPosition g) vs)) old) (number g b p) ≡ vertexPosition g p
-  position-at old = ap (vectorAt (over flat old)) number-here ∙ (λ j. record { x = x j; y = y j; z = z j })
+  position-at old = ap (vectorAt (over flat old)) number-here ∙ (λ j. record { x = at .first j; y = at .second j; z = at .third j })
     where
       flat : List Float
       flat = flatVectors (map (vertexPosition g) vs)
@@ -84,27 +77,13 @@ module _ (g : Field) (b : Box) (s t : List GridPoint) (e : cells b ≡ s ++ t) (
       is : getD vs n p ≡ p
       is = sym (samePoint-sound p (getD vs n p) (place-passes (samePoint p) vs p vs-has))
 
-      at : ThreeAt (λ (q : Vector). q .x) (λ (q : Vector). q .y) (λ (q : Vector). q .z) flat n nan (vertexPosition g p)
+      at : ThreeAt (λ (q : Vector). q .x) (λ (q : Vector). q .y) (λ (q : Vector). q .z) (over flat old) n nan (vertexPosition g p)
       at =
-          flatVectors-at (map (vertexPosition g) vs) n (vertexPosition g p) (rw (length-map vs (vertexPosition g)) within)
-          (List·getD-map (vertexPosition g) vs n p ∙ ap (vertexPosition g) is)
-
-      x : getD (over flat old) (3 * n) nan ≡ vertexPosition g p .x
-      x = List·getD-append flat (drop (length flat) old) nan (3 * n) (omega (arith, within, length-vectors (vertexPosition g) vs)) ∙ at .first
-
-      y : getD (over flat old) (3 * n + 1) nan ≡ vertexPosition g p .y
-      y = List·getD-append flat (drop (length flat) old) nan (3 * n + 1) (omega (arith, within, length-vectors (vertexPosition g) vs)) ∙ at .second
-
-      z : getD (over flat old) (3 * n + 2) nan ≡ vertexPosition g p .z
-      z = List·getD-append flat (drop (length flat) old) nan (3 * n + 2) (omega (arith, within, length-vectors (vertexPosition g) vs)) ∙ at .third
+          three-over (λ (q : Vector). q .x) (λ (q : Vector). q .y) (λ (q : Vector). q .z) flat (drop (length flat) old) n nan (vertexPosition g p) (omega (arith, within, length-vectors (vertexPosition g) vs))
+          (flatVectors-at (map (vertexPosition g) vs) n (vertexPosition g p) (rw (length-map vs (vertexPosition g)) within)
+          (List·getD-map (vertexPosition g) vs n p ∙ ap (vertexPosition g) is))
 
 -- ---- the six numbers of a face
-
-map-six : {A B : Type 0} (f : A → B) (s t : Bool) (c1 c2 c3 c4 : A) → map f (six s t c1 c2 c3 c4) ≡ six s t (f c1) (f c2) (f c3) (f c4)
-map-six f true true c1 c2 c3 c4 = refl
-map-six f true false c1 c2 c3 c4 = refl
-map-six f false true c1 c2 c3 c4 = refl
-map-six f false false c1 c2 c3 c4 = refl
 
 module _ (g : Field) (b : Box) (entries : List ℕ) (positions : List Float) (e : Edge) (at1 at2 at3 at4 : ℕ) where
   pub face-six : (n1 : Bool) → n1 ≡ negative (value g (e .from)) → Corner g b entries positions at1 (cell1 e) → Corner g b entries positions at2 (cell2 e) → Corner g b entries positions at3 (cell3 e) → Corner g b entries positions at4 (cell4 e)

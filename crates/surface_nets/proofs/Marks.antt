@@ -1,7 +1,7 @@
 -- The map: each cell's entry is written at its index, so a cell that was passed is looked up as it should be, and after all cells of the box
 -- the map is document 01's. From the one point that an index has within the dimensions. Assumes nothing.
-use Prim.Native.Nat.{ℕ, zero, suc, _+_, _≤_, _<_}
-use native.Mathlib.Nat.{add-zero, zero-add}
+use Prim.Native.Nat.{ℕ, _+_, _≤_, _<_}
+use native.Mathlib.Nat.{zero-add}
 use native.Mathlib.Omega.{arith}
 use mathlib.Core.Bool.{Bool, true, false, cond}
 use mathlib.Core.List.{List, [], _∷_}
@@ -14,12 +14,11 @@ use Rattle.rules.specs.Lists.{one, many, placed}
 use Rattle.rules.specs.Grid.{GridPoint, Box, Field, samePoint, index, pointAt, isCell, inBox}
 use Rattle.rules.specs.Vertices.{cells, cellEntry, edgeEntry, mapEntry}
 use Rattle.rules.proofs.Tests.{is-test, one-of, less-or-not}
-use Rattle.rules.proofs.Lists.{All, none, more, all-then}
+use Rattle.rules.proofs.Lists.{All, none, more, all-then, all-both, length-placed, getD-placed}
 use Rattle.rules.proofs.Counting.{samePoint-sound, samePoint-itself, cells-once}
-use Rattle.rules.proofs.FourCells.{cell-bounds}
-use Rattle.rules.proofs.Indexes.{BoxFits, index-distinct, index-of-point, point-back}
+use Rattle.rules.proofs.Indexes.{BoxFits, cell-within, index-distinct, index-of-point, point-back}
+use Rattle.rules.proofs.Inside.{cells-all}
 use Rattle.step.specs.Turns.{folded}
-use Rattle.surface_nets.proofs.Before.{cells-all}
 
 -- one cell's entry, and those of a list of cells
 abbrev pub mark : Field → Box → List ℕ → GridPoint → List ℕ
@@ -45,23 +44,12 @@ unfolding many
 none-same p [] e = none
 none-same p (c ∷ cs) e = more (λ (t : T (samePoint p c)). omega (arith, one-of (samePoint p c) t)) (none-same p cs (omega arith))
 
-getD-placed : (f : ℕ → ℕ → ℕ) (n : ℕ) (xs : List ℕ) (j : ℕ) → j < length xs → getD (placed f n xs) j 0 ≡ f (n + j) (getD xs j 0)
-unfolding placed
-getD-placed f n [] j h = absurd (omega arith)
-getD-placed f n (x ∷ xs) zero h = ap (λ (k : ℕ). f k x) (sym (add-zero n))
-getD-placed f n (x ∷ xs) (suc j) h = getD-placed f (suc n) xs j (omega arith) ∙ ap (λ (k : ℕ). f k (getD xs j 0)) (omega arith)
-
-length-placed : (f : ℕ → ℕ → ℕ) (n : ℕ) (xs : List ℕ) → length (placed f n xs) ≡ length xs
-unfolding placed
-length-placed f n [] = refl
-length-placed f n (x ∷ xs) = ap suc (length-placed f (suc n) xs)
-
 module _ (g : Field) (b : Box) (f : BoxFits (g .dims) b) where
   -- two cells of the box with one index are one
   same-index : (p q : GridPoint) → T (isCell b p) → T (isCell b q) → index (g .dims) p ≡ index (g .dims) q → p ≡ q
   same-index p q s t e =
-      let h = cell-bounds b p s in
-      let k = cell-bounds b q t in
+      let h = cell-within b p s in
+      let k = cell-within b q t in
       index-distinct (g .dims) p q (omega arith) (omega arith) (omega arith) (omega arith) e
 
   -- the entry of a passed cell
@@ -78,13 +66,12 @@ module _ (g : Field) (b : Box) (f : BoxFits (g .dims) b) where
       here : T (samePoint p c) → many (samePoint p) cs ≡ 0 → getD (marked g b (mark g b l c) cs) at 0 ≡ cellEntry g b p
       here s e =
           let same : p ≡ c = samePoint-sound p c s in
-          marked-apart g b (mark g b l c) at (all-then-in cs ts (none-same p cs e))
+          marked-apart g b (mark g b l c) at (all-both apart ts (none-same p cs e))
           ∙ ap (λ (q : GridPoint). getD (set l (index (g .dims) q) (cellEntry g b q)) at 0) (sym same)
           ∙ getD-set-same l at (cellEntry g b p) 0 k
         where
-          all-then-in : (ds : List GridPoint) → All (λ (c : GridPoint). T (isCell b c)) ds → All (λ (c : GridPoint). T (samePoint p c) → ⊥) ds → All (λ (c : GridPoint). at ≡ index (g .dims) c → ⊥) ds
-          all-then-in [] none none = none
-          all-then-in (d ∷ ds) (more u us) (more v vs) = more (λ e. v (subst (λ (q : GridPoint). T (samePoint p q)) (same-index p d t u e) (samePoint-itself p))) (all-then-in ds us vs)
+          apart : (d : GridPoint) → T (isCell b d) → (T (samePoint p d) → ⊥) → at ≡ index (g .dims) d → ⊥
+          apart d u v e = v (subst (λ (q : GridPoint). T (samePoint p q)) (same-index p d t u e) (samePoint-itself p))
 
       go : (0 < many (samePoint p) cs) ⊎ (many (samePoint p) cs ≤ 0) → (0 < many (samePoint p) cs → getD (marked g b (mark g b l c) cs) at 0 ≡ cellEntry g b p)
           → (s : Bool) → samePoint p c ≡ s → 0 < one s + many (samePoint p) cs → getD (marked g b (mark g b l c) cs) at 0 ≡ cellEntry g b p
@@ -99,7 +86,7 @@ module _ (g : Field) (b : Box) (f : BoxFits (g .dims) b) where
   unfolding mapEntry
   marked-all l =
       ext-getD 0 (marked g b l (cells b)) (placed (mapEntry g b) 0 l) (marked-length g b l (cells b) ∙ sym (length-placed (mapEntry g b) 0 l))
-      (λ j h. at j (rw (marked-length g b l (cells b)) at h) ∙ sym (getD-placed (mapEntry g b) 0 l j (rw (marked-length g b l (cells b)) at h) ∙ ap (λ (k : ℕ). mapEntry g b k (getD l j 0)) (zero-add j)))
+      (λ j h. at j (rw (marked-length g b l (cells b)) at h) ∙ sym (getD-placed (mapEntry g b) 0 l j 0 (rw (marked-length g b l (cells b)) at h) ∙ ap (λ (k : ℕ). mapEntry g b k (getD l j 0)) (zero-add j)))
     where
       at : (j : ℕ) → j < length l → getD (marked g b l (cells b)) j 0 ≡ mapEntry g b j (getD l j 0)
       at j h = go (isCell b p) refl
@@ -113,7 +100,7 @@ module _ (g : Field) (b : Box) (f : BoxFits (g .dims) b) where
 
           apart : isCell b p ≡ false → (c : GridPoint) → T (isCell b c) → j ≡ index (g .dims) c → ⊥
           apart e c t k =
-              let i = cell-bounds b c t in
+              let i = cell-within b c t in
               let back : p ≡ c = ap (pointAt (g .dims)) k ∙ point-back (g .dims) c (omega arith) (omega arith) in
               subst T (ap (isCell b) (sym back) ∙ e) t
 

@@ -110,8 +110,8 @@ module _ (g : Field) (b : Box) (m : Flags) (f : BoxFits (g .dims) b) (s : Lent) 
 -- ---- in a grid where none of the conditions 1 to 3 applies
 
 module _ (grid : List Float) (k : Block) (i : Inside grid k) where
-  few-vertices : length (vertices (fieldOf grid k) (boxOf k)) ≤ 1073741824
-  few-vertices =
+  pub short-vertices : length (vertices (fieldOf grid k) (boxOf k)) ≤ 1073741824
+  short-vertices =
       omega (arith, cell-count (fieldOf grid k) (boxOf k), many-most (surfaceCell (fieldOf grid k)) (cells (boxOf k)), ap length (box-ends (boxOf k)), box-short grid k i (k .high .z) (omega arith))
 
   in-map : (s : Lent) → Roomy (fieldOf grid k) (boxOf k) (flagsOf k) (length grid) s → (p : GridPoint) → T (isCell (boxOf k) p) → index (point (k .dims)) p < length (s .map)
@@ -122,7 +122,7 @@ module _ (grid : List Float) (k : Block) (i : Inside grid k) where
       → CellReady (values (fieldOf grid k) c) (ownOf (boxOf k) (flagsOf k) c) (index (point (k .dims)) c) (k .dims .x) (k .dims .x * k .dims .y) s
   cell-ready c t s r =
       subst (CellReady (values g c) (ownOf b m c) (index (point (k .dims)) c) (k .dims .x) (k .dims .x * k .dims .y)) (sym (r .same ∙ turns-from g b m (fits grid k i) (r .start) (length grid) (r .roomy) small (r .noVertex) (r .noIndex) (before b c) (c ∷ w .rest) (w .here)))
-      (ready-standing g b m (fits grid k i) (r .start) (length grid) (r .roomy) (r .noVertex) (r .noIndex) small few-vertices (before b c) c (w .rest) (w .here) t low)
+      (ready-standing g b m (fits grid k i) (r .start) (length grid) (r .roomy) (r .noVertex) (r .noIndex) small short-vertices (before b c) c (w .rest) (w .here) t low)
     where
       g : Field
       g = fieldOf grid k

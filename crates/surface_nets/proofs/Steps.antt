@@ -6,15 +6,16 @@ use mathlib.Core.Bool.{Bool, true, false, cond}
 use mathlib.Core.List.{List, [], _∷_, _++_, map, append-nil, append-assoc}
 use mathlib.Core.Path.{_≡_, refl, sym, ap, subst, _∙_}
 use lib.Dec.{T}
+use lib.Ieee.Bits.{is-true}
 use lib.ListN.{length, length-append}
 use Rattle.rules.specs.Lists.{one, keep, joined, place}
 use Rattle.rules.specs.Grid.{GridPoint, Axis, axisX, axisY, axisZ, Box, Field, samePoint, index, isCell, value}
 use Rattle.rules.specs.Cell.{negative, corner, values}
 use Rattle.rules.specs.Vertices.{cells, vertices, surfaceCell, cellEntry}
 use Rattle.rules.specs.Faces.{Flags, Edge, edge, edges, gives, cellEdges, indices, axisB, axisC}
-use Rattle.rules.proofs.Tests.{is-true, is-test, one-of}
-use Rattle.rules.proofs.Lists.{keep-append, joined-append, joined-one, place-past}
-use Rattle.rules.proofs.Edges.{edges-are}
+use Rattle.rules.proofs.Tests.{is-test, one-of}
+use Rattle.rules.proofs.Lists.{keep-append, joined-append, joined-snoc, place-past}
+use Rattle.rules.proofs.Edges.{edges-are, cellEdges-length}
 use Rattle.rules.proofs.Numbers.{indices-are}
 use Rattle.rules.proofs.Counting.{samePoint-itself}
 use Rattle.rules.proofs.Indexes.{BoxFits, stride}
@@ -65,21 +66,6 @@ length-added : (t : Bool) (e : Edge) → length (added t e) ≡ one t
 length-added true e = refl
 length-added false e = refl
 
-length-three : (g : Field) (b : Box) (m : Flags) (c : GridPoint) → length (cellEdges g b m c) ≡ one (gives g b m (edge axisX c)) + one (gives g b m (edge axisY c)) + one (gives g b m (edge axisZ c))
-length-three g b m c =
-    sym (ap length (three-added g b m c []))
-    ∙ length-append (x ++ y) z
-    ∙ omega (arith, length-append x y, length-added (gives g b m (edge axisX c)) (edge axisX c), length-added (gives g b m (edge axisY c)) (edge axisY c), length-added (gives g b m (edge axisZ c)) (edge axisZ c))
-  where
-    x : List Edge
-    x = added (gives g b m (edge axisX c)) (edge axisX c)
-
-    y : List Edge
-    y = added (gives g b m (edge axisY c)) (edge axisY c)
-
-    z : List Edge
-    z = added (gives g b m (edge axisZ c)) (edge axisZ c)
-
 -- ---- the room that is left at a surface cell
 
 module _ (g : Field) (b : Box) (m : Flags) (pre : List GridPoint) (c : GridPoint) (rest : List GridPoint) (e : cells b ≡ pre ++ (c ∷ rest)) (on : T (surfaceCell g c)) where
@@ -103,7 +89,7 @@ module _ (g : Field) (b : Box) (m : Flags) (pre : List GridPoint) (c : GridPoint
   edges-split =
       edges-are g b m ∙ ap (joined (cellEdges g b m)) split
       ∙ joined-append (cellEdges g b m) (surfaceCells g pre ++ (c ∷ [])) (surfaceCells g rest)
-      ∙ ap (λ (l : List Edge). l ++ faceEdges g b m rest) (joined-append (cellEdges g b m) (surfaceCells g pre) (c ∷ []) ∙ ap (λ (l : List Edge). faceEdges g b m pre ++ l) (joined-one (cellEdges g b m) c))
+      ∙ ap (λ (l : List Edge). l ++ faceEdges g b m rest) (joined-snoc (cellEdges g b m) (surfaceCells g pre) c)
 
   pub indices-left : 6 * length (faceEdges g b m pre) + 6 * one (thereX (values g c) (ownOf b m c)) + 6 * one (thereY (values g c) (ownOf b m c)) + 6 * one (thereZ (values g c) (ownOf b m c)) ≤ length (indices g b m)
   indices-left =
@@ -114,7 +100,7 @@ module _ (g : Field) (b : Box) (m : Flags) (pre : List GridPoint) (c : GridPoint
         ap length edges-split,
         length-append (faceEdges g b m pre ++ cellEdges g b m c) (faceEdges g b m rest),
         length-append (faceEdges g b m pre) (cellEdges g b m c),
-        length-three g b m c,
+        cellEdges-length g b m c,
         ap one (gives-at g b m axisX c),
         ap one (gives-at g b m axisY c),
         ap one (gives-at g b m axisZ c),
@@ -196,7 +182,7 @@ module _ (g : Field) (b : Box) (m : Flags) (f : BoxFits (g .dims) b) (s : Lent) 
       whole =
           (λ i. ((es ++ added (kx i) (edge axisX c)) ++ added (ky i) (edge axisY c)) ++ added (kz i) (edge axisZ c))
           ∙ three-added g b m c es
-          ∙ sym (ap (joined (cellEdges g b m)) (kept-more g pre c on) ∙ joined-append (cellEdges g b m) (surfaceCells g pre) (c ∷ []) ∙ ap (λ (r : List Edge). es ++ r) (joined-one (cellEdges g b m) c))
+          ∙ sym (ap (joined (cellEdges g b m)) (kept-more g pre c on) ∙ joined-snoc (cellEdges g b m) (surfaceCells g pre) c)
 
   pub turn : (pre : List GridPoint) (c : GridPoint) (rest : List GridPoint) → cells b ≡ pre ++ (c ∷ rest) → cellTurn g b m (standing g b m s pre) c ≡ standing g b m s (pre ++ (c ∷ []))
   unfolding cellTurn cellMade

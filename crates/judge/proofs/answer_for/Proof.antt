@@ -1,12 +1,14 @@
 -- The conditions in their order: each way out by the tests that led there. Assumes nothing.
-use mathlib.Core.Path.{ap, sym, _∙_}
+use mathlib.Core.Path.{refl, ap, sym, _∙_}
 use borrow.Author.Tests.{lt-ltb, le-ltb}
 use lib.ListN.{length}
-use Rattle.rules.specs.Call.{badDimensions, badBox, roomAnswer}
+use Rattle.rules.specs.Call.{roomAnswer}
+use Rattle.rules.proofs.Tests.{failed}
 use Rattle.grid.specs.declared.count.Tally.{Tally}
 use Rattle.grid.specs.Block.{point, boxOf, flagsOf, fieldOf, callOf}
+use Rattle.grid.proofs.Bounds.{corner-inside}
 use Rattle.judge.specs.Reading.{roomOf}
-use Rattle.judge.proofs.Judging.{says-1, says-2, says-3, says-4, says-5, says-room, too-short, long-enough, counts, few-vertices, not-bad, passed, corner-inside}
+use Rattle.judge.proofs.Judging.{says-1, says-2, says-3, says-4, says-5, says-room, too-short, long-enough, counts, few-vertices, passed}
 use borrow.Author.Needs.{needs}
 use Rattle.judge.proofs.answer_for.Statement.{statement}
 use Rattle.judge.proofs.answer_for.Tie as tie
@@ -45,7 +47,7 @@ linearize-requires c κs =
     let k = a .k in
     let dims = sym (c .before .before .before .bad-dimensions .ensures) ∙ c .before .before .if1 .left in
     let box = sym (c .before .bad-box .ensures) ∙ c .if2 .left in
-    corner-inside (point (k .dims)) (boxOf k) (not-bad (badDimensions (point (k .dims))) dims) (not-bad (badBox (point (k .dims)) (boxOf k)) box)
+    corner-inside (point (k .dims)) (boxOf k) (failed refl dims) (failed refl box)
 
 refused-requires-3 : tie.Need-refused-requires-3
 refused-requires-3 c κs = search needs

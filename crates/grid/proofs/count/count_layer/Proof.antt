@@ -1,139 +1,60 @@
-use lib.Dec.{lit≤}
-use lib.ListN.{length}
-use native.Mathlib.Nat.{le-trans}
-use Rattle.rules.specs.Vertices.{rowCells, layerCells}
-use Rattle.grid.proofs.Bounds.{small}
 -- The invariant: the counts are those of the cells before the row y. Assumes nothing.
-use Prim.Native.Nat.{ℕ, _+_, _^_, _≤_, _-_}
-use mathlib.Core.Path.{_≡_, ap, sym, _∙_}
-use native.Mathlib.Omega.{arith}
-use borrow.Author.Needs.{needs}
-use Rattle.grid.specs.declared.count.Tally.{Tally}
-use Rattle.grid.specs.Block.{point, boxOf, flagsOf, fieldOf}
-use Rattle.grid.specs.Tally.{tallyOf}
+use Prim.Native.Nat.{_+_, _-_}
+use Rattle.grid.specs.Block.{boxOf}
 use Rattle.grid.specs.Order.{layerTo}
-use Rattle.grid.proofs.Bounds.{fits}
-use Rattle.grid.proofs.Rows.{layer-short}
-use Rattle.grid.proofs.Order.{layer-begins, layer-grows, layer-ends}
-use Rattle.grid.proofs.Tallies.{none-counted, step}
+use Rattle.grid.proofs.Walks.{Counting, begun, cell-spans, AtRow, at-row, layer-done}
+use Rattle.grid.proofs.Order.{layer-begins}
+use Rattle.grid.proofs.Tallies.{Counts, counts-none, counts-all, Step, step}
 use Rattle.grid.proofs.count.count_layer.Statement.{statement}
 use Rattle.grid.proofs.count.count_layer.Tie as tie
 
 abbrev Inv-loop : tie.InvT-loop
-Inv-loop sdf k z from end vertices₀ indices₀ y₀ vertices indices y = (from ≤ y) × (y ≤ end) × (_≡_ {A = Tally} (record { vertices = vertices; indices = indices }) (tallyOf (fieldOf sdf k) (boxOf k) (flagsOf k) (layerTo (boxOf k) z y)))
+Inv-loop sdf k z from end vertices₀ indices₀ y₀ vertices indices y = Counting from end y × Counts sdf k (layerTo (boxOf k) z y) vertices indices
 
 abbrev μ-loop : tie.MeasureT-loop
 μ-loop sdf k z from end vertices₀ indices₀ y₀ vertices indices y = end - y
 
+-- the places that a later one leads back to
+abbrev entry-of : tie.At-loop Inv-loop μ-loop → tie.Start Inv-loop μ-loop
+entry-of c = c .before .before
+
+abbrev turn-of : tie.After-count-row Inv-loop μ-loop → tie.In-loop Inv-loop μ-loop
+turn-of c = c .before
+
+-- the row of a turn, and what it adds
+here : (c : tie.In-loop Inv-loop μ-loop) → let a = entry-of (c .before) .args in AtRow (a .k) (a .z) (c .before .loop .y)
+here c = at-row (entry-of (c .before) .pre .0) (c .before .loop .inv .0) (c .loop-test .taken)
+
+more : (c : tie.After-count-row Inv-loop μ-loop) → let a = entry-of (turn-of c .before) .args in let w = turn-of c .before .loop in let r = c .count-row .result in
+    Step (a .sdf .now) (a .k) (layerTo (boxOf (a .k)) (a .z) (w .y + 1)) (w .vertices) (w .indices) (r .vertices) (r .indices)
+more c = let h = here (turn-of c) in step (turn-of c .before .loop .inv .1) (record { same = c .count-row .ensures }) (h .grows) (h .short)
+
 loop-holds : tie.Need-loop-holds Inv-loop μ-loop
-loop-holds c =
-    let s = c .before in
-    let l = s .args .sdf .now in
-    let k = s .args .k in
-    let i = (s .pre .0) in
-    let f = fits l k i in
-    let rows = s .pre in
-    (omega arith, omega arith, sym (none-counted (fieldOf l k) (boxOf k) (flagsOf k)) ∙ ap (tallyOf (fieldOf l k) (boxOf k) (flagsOf k)) (sym (layer-begins (boxOf k) (s .args .z))))
+loop-holds c = let s = c .before in (begun (cell-spans (s .pre .0) .y), counts-none (layer-begins (boxOf (s .args .k)) (s .args .z)))
 
 count-row-requires : tie.Need-count-row-requires Inv-loop μ-loop
-count-row-requires c κs =
-    let s = c .before .before .before in
-    let l = s .args .sdf .now in
-    let k = s .args .k in
-    let i = (s .pre .0) in
-    let f = fits l k i in
-    let rows = s .pre in
-    let w = c .before .loop in
-    let taken = c .loop-test .taken in
-    let held = w .inv in
-    (i, (omega arith, omega arith))
+count-row-requires c κs = let s = entry-of (c .before) in (s .pre .0, (here c .turn .here, s .pre .1))
 
 add-vertices : tie.Need-add-vertices Inv-loop μ-loop
-add-vertices c =
-    let s = c .before .before .before .before .before in
-    let l = s .args .sdf .now in
-    let k = s .args .k in
-    let i = (s .pre .0) in
-    let f = fits l k i in
-    let rows = s .pre in
-    let w = c .before .before .before .loop in
-    let taken = c .before .before .loop-test .taken in
-    let held = w .inv in
-    let q = small (point (k .dims)) (i .dims) in
-    let long : length (layerTo (boxOf k) (s .args .z) (w .y + 1)) ≤ 2 ^ 40 = le-trans (layer-short l k i (s .args .z) (w .y + 1) (omega arith)) (lit≤ tt) in
-    let more = step (fieldOf l k) (boxOf k) (flagsOf k) (layerTo (boxOf k) (s .args .z) (w .y)) (rowCells (boxOf k) (s .args .z) (w .y)) (layerTo (boxOf k) (s .args .z) (w .y + 1)) (w .vertices) (w .indices) (c .before .count-row .result .vertices) (c .before .count-row .result .indices) (layer-grows (boxOf k) (s .args .z) (w .y) (w .inv .0)) long (w .inv .2) (c .before .count-row .ensures) in
-    omega (arith, more .vertices-fit)
+add-vertices c = more (c .before) .vertices-fit
 
 add-indices : tie.Need-add-indices Inv-loop μ-loop
-add-indices c =
-    let s = c .before .before .before .before .before .before in
-    let l = s .args .sdf .now in
-    let k = s .args .k in
-    let i = (s .pre .0) in
-    let f = fits l k i in
-    let rows = s .pre in
-    let w = c .before .before .before .before .loop in
-    let taken = c .before .before .before .loop-test .taken in
-    let held = w .inv in
-    let q = small (point (k .dims)) (i .dims) in
-    let long : length (layerTo (boxOf k) (s .args .z) (w .y + 1)) ≤ 2 ^ 40 = le-trans (layer-short l k i (s .args .z) (w .y + 1) (omega arith)) (lit≤ tt) in
-    let more = step (fieldOf l k) (boxOf k) (flagsOf k) (layerTo (boxOf k) (s .args .z) (w .y)) (rowCells (boxOf k) (s .args .z) (w .y)) (layerTo (boxOf k) (s .args .z) (w .y + 1)) (w .vertices) (w .indices) (c .before .before .count-row .result .vertices) (c .before .before .count-row .result .indices) (layer-grows (boxOf k) (s .args .z) (w .y) (w .inv .0)) long (w .inv .2) (c .before .before .count-row .ensures) in
-    omega (arith, more .indices-fit)
+add-indices c = more (c .before .before) .indices-fit
 
 add-y : tie.Need-add-y Inv-loop μ-loop
-add-y c =
-    let s = c .before .before .before .before .before .before in
-    let l = s .args .sdf .now in
-    let k = s .args .k in
-    let i = (s .pre .0) in
-    let f = fits l k i in
-    let rows = s .pre in
-    let w = c .before .before .before .before .loop in
-    let taken = c .before .before .before .loop-test .taken in
-    let held = w .inv in
-    let q = small (point (k .dims)) (i .dims) in
-    omega arith
+add-y c = here (turn-of (c .before .before)) .turn .fits
 
 loop-less : tie.Need-loop-less Inv-loop μ-loop
-loop-less c =
-    let s = c .before .before .before .before .before .before in
-    let l = s .args .sdf .now in
-    let k = s .args .k in
-    let i = (s .pre .0) in
-    let f = fits l k i in
-    let rows = s .pre in
-    let w = c .before .before .before .before .loop in
-    let taken = c .before .before .before .loop-test .taken in
-    let held = w .inv in
-    omega arith
+loop-less c = here (turn-of (c .before .before)) .turn .less
 
 loop-again : tie.Need-loop-again Inv-loop μ-loop
-loop-again c =
-    let s = c .before .before .before .before .before .before in
-    let l = s .args .sdf .now in
-    let k = s .args .k in
-    let i = (s .pre .0) in
-    let f = fits l k i in
-    let rows = s .pre in
-    let w = c .before .before .before .before .loop in
-    let taken = c .before .before .before .loop-test .taken in
-    let held = w .inv in
-    let q = small (point (k .dims)) (i .dims) in
-    let long : length (layerTo (boxOf k) (s .args .z) (w .y + 1)) ≤ 2 ^ 40 = le-trans (layer-short l k i (s .args .z) (w .y + 1) (omega arith)) (lit≤ tt) in
-    let more = step (fieldOf l k) (boxOf k) (flagsOf k) (layerTo (boxOf k) (s .args .z) (w .y)) (rowCells (boxOf k) (s .args .z) (w .y)) (layerTo (boxOf k) (s .args .z) (w .y + 1)) (w .vertices) (w .indices) (c .before .before .count-row .result .vertices) (c .before .before .count-row .result .indices) (layer-grows (boxOf k) (s .args .z) (w .y) (w .inv .0)) long (w .inv .2) (c .before .before .count-row .ensures) in
-    (omega arith, omega arith, more .same)
+loop-again c = (here (turn-of (c .before .before)) .turn .next, more (c .before .before) .counts)
 
 returns : tie.Need-returns Inv-loop μ-loop
 returns c =
-    let s = c .before .before .before in
-    let l = s .args .sdf .now in
-    let k = s .args .k in
-    let i = (s .pre .0) in
-    let f = fits l k i in
-    let rows = s .pre in
+    let a = entry-of (c .before) .args in
     let w = c .before .loop in
-    let e : w .y ≡ k .high .y = omega arith in
-    w .inv .2 ∙ ap (λ (n : ℕ). tallyOf (fieldOf l k) (boxOf k) (flagsOf k) (layerTo (boxOf k) (s .args .z) n)) e ∙ ap (tallyOf (fieldOf l k) (boxOf k) (flagsOf k)) (layer-ends (boxOf k) (s .args .z))
+    counts-all (w .inv .1) (layer-done (a .k) (a .z) (w .inv .0) (c .loop-test .left))
 
 pub count-layer-spec : {M : Type 1} → statement M
 count-layer-spec =

@@ -1,32 +1,43 @@
-use lib.Dec.{T}
-use lib.ListN.{length}
-use mathlib.Core.List.{[], _∷_}
-use mathlib.Core.Path.{refl}
-use Rattle.rules.specs.Grid.{GridPoint, isCell}
-use Rattle.grid.proofs.Bounds.{small, plane-few}
-use Rattle.grid.proofs.Tallies.{cell-counted}
--- The invariant: the counts are those of the cells before x. Assumes nothing.
-use Prim.Native.Nat.{ℕ, _+_, _*_, _^_, _≤_, _-_}
-use mathlib.Core.Path.{_≡_, ap, sym, _∙_}
-use native.Mathlib.Omega.{arith}
+-- The invariant: the counts are those of the cells before x, and `at` is the place of x. Assumes nothing.
+use Prim.Native.Nat.{_+_, _-_}
 use borrow.Author.Needs.{needs}
-use Rattle.grid.specs.declared.count.Tally.{Tally}
-use Rattle.grid.specs.Block.{point, boxOf, flagsOf, fieldOf}
-use Rattle.grid.specs.Tally.{tallyOf}
-use Rattle.rules.specs.Grid.{index}
+use Rattle.grid.specs.Block.{boxOf}
 use Rattle.grid.specs.Order.{rowTo}
-use Rattle.grid.proofs.Bounds.{fits}
-use Rattle.grid.proofs.Rows.{row-start, high-side, layer-few, cell-on-row}
-use Rattle.grid.proofs.Order.{row-begins, row-grows, row-ends, row-length}
-use Rattle.grid.proofs.Tallies.{values-are, cell-tally, none-counted, step}
+use Rattle.grid.proofs.Walks.{Row, OnRow, AtCell, row-first, layer-fits, row-begun, at-cell, row-done}
+use Rattle.grid.proofs.Order.{row-begins}
+use Rattle.grid.proofs.Tallies.{Counts, counts-none, counts-all, Step, step, cell-counts}
 use Rattle.grid.proofs.count.count_row.Statement.{statement}
 use Rattle.grid.proofs.count.count_row.Tie as tie
 
 abbrev Inv-loop : tie.InvT-loop
-Inv-loop sdf k y z from end row layer at₀ vertices₀ indices₀ x₀ at vertices indices x = (from ≤ x) × (x ≤ end) × (at ≡ index (point (k .dims)) (record { x = x; y = y; z = z })) × (_≡_ {A = Tally} (record { vertices = vertices; indices = indices }) (tallyOf (fieldOf sdf k) (boxOf k) (flagsOf k) (rowTo (boxOf k) z y x)))
+Inv-loop sdf k y z from end row layer at₀ vertices₀ indices₀ x₀ at vertices indices x = OnRow k y z at x × Counts sdf k (rowTo (boxOf k) z y x) vertices indices
 
 abbrev μ-loop : tie.MeasureT-loop
 μ-loop sdf k y z from end row layer at₀ vertices₀ indices₀ x₀ at vertices indices x = end - x
+
+-- the places that a later one leads back to
+abbrev entry-of : tie.At-loop Inv-loop μ-loop → tie.Start Inv-loop μ-loop
+entry-of c = c .before .before .before .before .before
+
+abbrev turn-of : tie.After-count-cell Inv-loop μ-loop → tie.In-loop Inv-loop μ-loop
+turn-of c = c .before .before .before .before .before .before
+
+-- the row, the cell of a turn, and what the cell adds
+row : (s : tie.Start Inv-loop μ-loop) → Row (s .args .sdf .now) (s .args .k) (s .args .y) (s .args .z)
+row s = record { inside = s .pre .0; along-y = s .pre .1 .0; along-z = s .pre .1 .1 }
+
+here : (c : tie.In-loop Inv-loop μ-loop) → let a = entry-of (c .before) .args in let w = c .before .loop in
+    AtCell (a .sdf .now) (a .k) (a .y) (a .z) (w .at) (w .x)
+here c = at-cell (row (entry-of (c .before))) (c .before .loop .inv .0) (c .loop-test .taken)
+
+more : (c : tie.After-count-cell Inv-loop μ-loop) → let a = entry-of (turn-of c .before) .args in let w = turn-of c .before .loop in let r = c .count-cell .result in
+    Step (a .sdf .now) (a .k) (rowTo (boxOf (a .k)) (a .z) (a .y) (w .x + 1)) (w .vertices) (w .indices) (r .vertices) (r .indices)
+more c =
+    let h = here (turn-of c) in
+    let o = c .before .before in
+    step (turn-of c .before .loop .inv .1)
+    (cell-counts (h .place) (o .before .before .before .side-at .ensures) (o .before .before .side-at2 .ensures) (o .before .corners .ensures) (o .owned-at .ensures) (c .count-cell .ensures))
+    (h .grows) (h .short)
 
 cast-row : tie.Need-cast-row Inv-loop μ-loop
 cast-row c = search needs
@@ -35,197 +46,54 @@ cast-layer : tie.Need-cast-layer Inv-loop μ-loop
 cast-layer c = search needs
 
 mul-layer : tie.Need-mul-layer Inv-loop μ-loop
-mul-layer c =
-    let s = c .before .before .before in
-    let l = s .args .sdf .now in
-    let k = s .args .k in
-    let i = s .pre .0 in
-    let f = fits l k i in
-    let a = s .args in
-    let r = row-start l k i (a .y) (a .z) (omega arith) (omega arith) (omega arith) (omega arith) in
-    omega (arith, plane-few (point (k .dims)) (record { x = k .low .x; y = a .y; z = a .z }) r)
+mul-layer c = layer-fits (row (c .before .before .before))
 
 linearize-requires : tie.Need-linearize-requires Inv-loop μ-loop
-linearize-requires c κs =
-    let s = c .before .before .before in
-    let l = s .args .sdf .now in
-    let k = s .args .k in
-    let i = s .pre .0 in
-    let f = fits l k i in
-    row-start l k i (s .args .y) (s .args .z) (omega arith) (omega arith) (omega arith) (omega arith)
+linearize-requires c κs = row-first (row (c .before .before .before))
 
 loop-holds : tie.Need-loop-holds Inv-loop μ-loop
 loop-holds c =
     let s = c .before .before .before .before in
-    let l = s .args .sdf .now in
-    let k = s .args .k in
-    let i = s .pre .0 in
-    let f = fits l k i in
-    (omega arith, omega arith, c .linearize .ensures, sym (none-counted (fieldOf l k) (boxOf k) (flagsOf k)) ∙ ap (tallyOf (fieldOf l k) (boxOf k) (flagsOf k)) (sym (row-begins (boxOf k) (s .args .z) (s .args .y))))
+    (row-begun (row s) (c .linearize .ensures), counts-none (row-begins (boxOf (s .args .k)) (s .args .z) (s .args .y)))
 
 side-at-requires : tie.Need-side-at-requires Inv-loop μ-loop
-side-at-requires c κs =
-    let s = c .before .before .before .before .before .before in
-    let l = s .args .sdf .now in
-    let k = s .args .k in
-    let i = s .pre .0 in
-    let f = fits l k i in
-    let w = c .before .loop in
-    let cell : GridPoint = record { x = w .x; y = s .args .y; z = s .args .z } in
-    let t : T (isCell (boxOf k) cell) = cell-on-row k (w .x) (s .args .y) (s .args .z) (omega arith) (omega arith) (omega arith) (omega arith) (omega arith) (omega arith) in
-    omega (arith, high-side l k i cell t)
+side-at-requires c κs = here c .low-side
 
 add-side-at : tie.Need-add-side-at Inv-loop μ-loop
-add-side-at c =
-    let s = c .before .before .before .before .before .before .before in
-    let l = s .args .sdf .now in
-    let k = s .args .k in
-    let i = s .pre .0 in
-    let f = fits l k i in
-    let w = c .before .before .loop in
-    let cell : GridPoint = record { x = w .x; y = s .args .y; z = s .args .z } in
-    let t : T (isCell (boxOf k) cell) = cell-on-row k (w .x) (s .args .y) (s .args .z) (omega arith) (omega arith) (omega arith) (omega arith) (omega arith) (omega arith) in
-    omega (arith, high-side l k i cell t)
+add-side-at c = here (c .before) .at-fits
 
 side-at-requires-2 : tie.Need-side-at-requires-2 Inv-loop μ-loop
-side-at-requires-2 c κs =
-    let s = c .before .before .before .before .before .before .before in
-    let l = s .args .sdf .now in
-    let k = s .args .k in
-    let i = s .pre .0 in
-    let f = fits l k i in
-    let w = c .before .before .loop in
-    let cell : GridPoint = record { x = w .x; y = s .args .y; z = s .args .z } in
-    let t : T (isCell (boxOf k) cell) = cell-on-row k (w .x) (s .args .y) (s .args .z) (omega arith) (omega arith) (omega arith) (omega arith) (omega arith) (omega arith) in
-    omega (arith, high-side l k i cell t)
+side-at-requires-2 c κs = here (c .before) .high-side
 
 corners-requires : tie.Need-corners-requires Inv-loop μ-loop
 corners-requires c κs = search needs
 
 owned-at-requires : tie.Need-owned-at-requires Inv-loop μ-loop
-owned-at-requires c κs =
-    let s = c .before .before .before .before .before .before .before .before .before in
-    let l = s .args .sdf .now in
-    let k = s .args .k in
-    let i = s .pre .0 in
-    let f = fits l k i in
-    let w = c .before .before .before .before .loop in
-    let cell : GridPoint = record { x = w .x; y = s .args .y; z = s .args .z } in
-    let t : T (isCell (boxOf k) cell) = cell-on-row k (w .x) (s .args .y) (s .args .z) (omega arith) (omega arith) (omega arith) (omega arith) (omega arith) (omega arith) in
-    t
+owned-at-requires c κs = here (c .before .before .before) .cell
 
 count-cell-requires : tie.Need-count-cell-requires Inv-loop μ-loop
 count-cell-requires c κs = search needs
 
 add-vertices : tie.Need-add-vertices Inv-loop μ-loop
-add-vertices c =
-    let s = c .before .before .before .before .before .before .before .before .before .before .before .before .before in
-    let l = s .args .sdf .now in
-    let k = s .args .k in
-    let i = s .pre .0 in
-    let f = fits l k i in
-    let w = c .before .before .before .before .before .before .before .before .loop in
-    let taken = c .before .before .before .before .before .before .before .loop-test .taken in
-    let held = w .inv in
-    let rows = s .pre in
-    let q = small (point (k .dims)) (i .dims) in
-    let cell : GridPoint = record { x = w .x; y = s .args .y; z = s .args .z } in
-    let t : T (isCell (boxOf k) cell) = cell-on-row k (w .x) (s .args .y) (s .args .z) (omega arith) (omega arith) (omega arith) (omega arith) (omega arith) (omega arith) in
-    let counted = cell-counted l k cell (w .at) (k .dims .x) (k .dims .x * k .dims .y) (c .before .before .before .before .before .before .side-at .result) (c .before .before .before .before .before .side-at2 .result) (c .before .before .before .before .corners .result) (c .before .before .before .owned-at .result) (c .before .count-cell .result) (w .inv .2) refl refl (c .before .before .before .before .before .before .side-at .ensures) (c .before .before .before .before .before .side-at2 .ensures) (c .before .before .before .before .corners .ensures) (c .before .before .before .owned-at .ensures) (c .before .count-cell .ensures) in
-    let long : length (rowTo (boxOf k) (s .args .z) (s .args .y) (w .x + 1)) ≤ 2 ^ 40 = rw (row-length (boxOf k) (s .args .z) (s .args .y) (w .x + 1)) (omega arith) in
-    let more = step (fieldOf l k) (boxOf k) (flagsOf k) (rowTo (boxOf k) (s .args .z) (s .args .y) (w .x)) (cell ∷ []) (rowTo (boxOf k) (s .args .z) (s .args .y) (w .x + 1)) (w .vertices) (w .indices) (c .before .count-cell .result .vertices) (c .before .count-cell .result .indices) (row-grows (boxOf k) (s .args .z) (s .args .y) (w .x) (w .inv .0)) long (w .inv .3) counted in
-    omega (arith, more .vertices-fit)
+add-vertices c = more (c .before) .vertices-fit
 
 add-indices : tie.Need-add-indices Inv-loop μ-loop
-add-indices c =
-    let s = c .before .before .before .before .before .before .before .before .before .before .before .before .before .before in
-    let l = s .args .sdf .now in
-    let k = s .args .k in
-    let i = s .pre .0 in
-    let f = fits l k i in
-    let w = c .before .before .before .before .before .before .before .before .before .loop in
-    let taken = c .before .before .before .before .before .before .before .before .loop-test .taken in
-    let held = w .inv in
-    let rows = s .pre in
-    let q = small (point (k .dims)) (i .dims) in
-    let cell : GridPoint = record { x = w .x; y = s .args .y; z = s .args .z } in
-    let t : T (isCell (boxOf k) cell) = cell-on-row k (w .x) (s .args .y) (s .args .z) (omega arith) (omega arith) (omega arith) (omega arith) (omega arith) (omega arith) in
-    let counted = cell-counted l k cell (w .at) (k .dims .x) (k .dims .x * k .dims .y) (c .before .before .before .before .before .before .before .side-at .result) (c .before .before .before .before .before .before .side-at2 .result) (c .before .before .before .before .before .corners .result) (c .before .before .before .before .owned-at .result) (c .before .before .count-cell .result) (w .inv .2) refl refl (c .before .before .before .before .before .before .before .side-at .ensures) (c .before .before .before .before .before .before .side-at2 .ensures) (c .before .before .before .before .before .corners .ensures) (c .before .before .before .before .owned-at .ensures) (c .before .before .count-cell .ensures) in
-    let long : length (rowTo (boxOf k) (s .args .z) (s .args .y) (w .x + 1)) ≤ 2 ^ 40 = rw (row-length (boxOf k) (s .args .z) (s .args .y) (w .x + 1)) (omega arith) in
-    let more = step (fieldOf l k) (boxOf k) (flagsOf k) (rowTo (boxOf k) (s .args .z) (s .args .y) (w .x)) (cell ∷ []) (rowTo (boxOf k) (s .args .z) (s .args .y) (w .x + 1)) (w .vertices) (w .indices) (c .before .before .count-cell .result .vertices) (c .before .before .count-cell .result .indices) (row-grows (boxOf k) (s .args .z) (s .args .y) (w .x) (w .inv .0)) long (w .inv .3) counted in
-    omega (arith, more .indices-fit)
+add-indices c = more (c .before .before) .indices-fit
 
 add-at : tie.Need-add-at Inv-loop μ-loop
-add-at c =
-    let s = c .before .before .before .before .before .before .before .before .before .before .before .before .before .before in
-    let l = s .args .sdf .now in
-    let k = s .args .k in
-    let i = s .pre .0 in
-    let f = fits l k i in
-    let w = c .before .before .before .before .before .before .before .before .before .loop in
-    let taken = c .before .before .before .before .before .before .before .before .loop-test .taken in
-    let held = w .inv in
-    let rows = s .pre in
-    let cell : GridPoint = record { x = w .x; y = s .args .y; z = s .args .z } in
-    let t : T (isCell (boxOf k) cell) = cell-on-row k (w .x) (s .args .y) (s .args .z) (omega arith) (omega arith) (omega arith) (omega arith) (omega arith) (omega arith) in
-    omega (arith, high-side l k i cell t)
+add-at c = here (turn-of (c .before .before)) .at-fits
 
 add-x : tie.Need-add-x Inv-loop μ-loop
-add-x c =
-    let s = c .before .before .before .before .before .before .before .before .before .before .before .before .before .before in
-    let l = s .args .sdf .now in
-    let k = s .args .k in
-    let i = s .pre .0 in
-    let f = fits l k i in
-    let w = c .before .before .before .before .before .before .before .before .before .loop in
-    let taken = c .before .before .before .before .before .before .before .before .loop-test .taken in
-    let held = w .inv in
-    let rows = s .pre in
-    let q = small (point (k .dims)) (i .dims) in
-    omega arith
+add-x c = here (turn-of (c .before .before)) .turn .fits
 
 loop-less : tie.Need-loop-less Inv-loop μ-loop
-loop-less c =
-    let s = c .before .before .before .before .before .before .before .before .before .before .before .before .before .before in
-    let l = s .args .sdf .now in
-    let k = s .args .k in
-    let i = s .pre .0 in
-    let f = fits l k i in
-    let w = c .before .before .before .before .before .before .before .before .before .loop in
-    let taken = c .before .before .before .before .before .before .before .before .loop-test .taken in
-    let held = w .inv in
-    let rows = s .pre in
-    omega arith
+loop-less c = here (turn-of (c .before .before)) .turn .less
 
 loop-again : tie.Need-loop-again Inv-loop μ-loop
-loop-again c =
-    let s = c .before .before .before .before .before .before .before .before .before .before .before .before .before .before in
-    let l = s .args .sdf .now in
-    let k = s .args .k in
-    let i = s .pre .0 in
-    let f = fits l k i in
-    let w = c .before .before .before .before .before .before .before .before .before .loop in
-    let taken = c .before .before .before .before .before .before .before .before .loop-test .taken in
-    let held = w .inv in
-    let rows = s .pre in
-    let q = small (point (k .dims)) (i .dims) in
-    let cell : GridPoint = record { x = w .x; y = s .args .y; z = s .args .z } in
-    let t : T (isCell (boxOf k) cell) = cell-on-row k (w .x) (s .args .y) (s .args .z) (omega arith) (omega arith) (omega arith) (omega arith) (omega arith) (omega arith) in
-    let counted = cell-counted l k cell (w .at) (k .dims .x) (k .dims .x * k .dims .y) (c .before .before .before .before .before .before .before .side-at .result) (c .before .before .before .before .before .before .side-at2 .result) (c .before .before .before .before .before .corners .result) (c .before .before .before .before .owned-at .result) (c .before .before .count-cell .result) (w .inv .2) refl refl (c .before .before .before .before .before .before .before .side-at .ensures) (c .before .before .before .before .before .before .side-at2 .ensures) (c .before .before .before .before .before .corners .ensures) (c .before .before .before .before .owned-at .ensures) (c .before .before .count-cell .ensures) in
-    let long : length (rowTo (boxOf k) (s .args .z) (s .args .y) (w .x + 1)) ≤ 2 ^ 40 = rw (row-length (boxOf k) (s .args .z) (s .args .y) (w .x + 1)) (omega arith) in
-    let more = step (fieldOf l k) (boxOf k) (flagsOf k) (rowTo (boxOf k) (s .args .z) (s .args .y) (w .x)) (cell ∷ []) (rowTo (boxOf k) (s .args .z) (s .args .y) (w .x + 1)) (w .vertices) (w .indices) (c .before .before .count-cell .result .vertices) (c .before .before .count-cell .result .indices) (row-grows (boxOf k) (s .args .z) (s .args .y) (w .x) (w .inv .0)) long (w .inv .3) counted in
-    (omega arith, omega arith, omega arith, more .same)
+loop-again c = (here (turn-of (c .before .before)) .next, more (c .before .before) .counts)
 
 returns : tie.Need-returns Inv-loop μ-loop
-returns c =
-    let s = c .before .before .before .before .before .before in
-    let l = s .args .sdf .now in
-    let k = s .args .k in
-    let i = s .pre .0 in
-    let f = fits l k i in
-    let w = c .before .loop in
-    let e : w .x ≡ k .high .x = omega arith in
-    w .inv .3 ∙ ap (λ (n : ℕ). tallyOf (fieldOf l k) (boxOf k) (flagsOf k) (rowTo (boxOf k) (s .args .z) (s .args .y) n)) e ∙ ap (tallyOf (fieldOf l k) (boxOf k) (flagsOf k)) (row-ends (boxOf k) (s .args .z) (s .args .y))
+returns c = let w = c .before .loop in counts-all (w .inv .1) (row-done (w .inv .0) (c .loop-test .left))
 
 pub count-row-spec : {M : Type 1} → statement M
 count-row-spec =

@@ -1,6 +1,5 @@
-use mathlib.Core.Bool.{Bool, true, false, _&&_, not, Bool·beq}
-use native.Mathlib.Omega.{arith}
 -- Each way out by the tests that led there. Assumes nothing.
+use native.Mathlib.Omega.{arith}
 use borrow.Author.Tests.{not-true, not-false}
 use Rattle.grid.proofs.count.face_count.Statement.{statement}
 use Rattle.grid.proofs.count.face_count.Tie as tie

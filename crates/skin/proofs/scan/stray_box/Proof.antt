@@ -1,58 +1,49 @@
 -- The invariant: the flag says whether a layer before z has a stray point. Assumes nothing.
-use Prim.Native.Nat.{ℕ, _+_, _≤_, _-_}
-use mathlib.Core.Path.{_≡_, ap, _∙_}
-use native.Mathlib.Omega.{arith}
+use Prim.Native.Nat.{_+_, _-_}
 use borrow.Author.Needs.{needs}
-use Rattle.rules.specs.Lists.{some, upTo}
 use Rattle.grid.specs.Block.{boxOf, fieldOf}
-use Rattle.grid.proofs.Runs.{none-yet, one-more}
-use Rattle.grid.proofs.Bounds.{fits}
+use Rattle.grid.proofs.Walks.{Turn, turn, through, end-fits, Scanned, scan-begun, scan-more, scan-ended, point-spans}
 use Rattle.skin.specs.Scan.{strayLayer, strayBox}
 use Rattle.skin.proofs.scan.stray_box.Statement.{statement}
 use Rattle.skin.proofs.scan.stray_box.Tie as tie
 
 abbrev Inv-loop : tie.InvT-loop
-Inv-loop sdf k from end stray₀ z₀ stray z = (from ≤ z) × (z ≤ end) × (stray ≡ some (strayLayer (fieldOf sdf k) (boxOf k)) (upTo from z))
+Inv-loop sdf k from end stray₀ z₀ stray z = Scanned (strayLayer (fieldOf sdf k) (boxOf k)) from end z stray
 
 abbrev μ-loop : tie.MeasureT-loop
 μ-loop sdf k from end stray₀ z₀ stray z = end - z
 
+abbrev entry-of : tie.At-loop Inv-loop μ-loop → tie.Start Inv-loop μ-loop
+entry-of c = c .before .before .before
+
+-- the layer of a turn
+here : (c : tie.In-loop Inv-loop μ-loop) → let k = entry-of (c .before) .args .k in Turn (k .low .z) (k .high .z + 1) (c .before .loop .z)
+here c = turn (point-spans (entry-of (c .before) .pre) .z) (c .before .loop .inv .count) (c .loop-test .taken)
+
 add-end : tie.Need-add-end Inv-loop μ-loop
-add-end c = let s = c .before .before in let f = fits (s .args .sdf .now) (s .args .k) (s .pre) in omega arith
+add-end c = end-fits (point-spans (c .before .before .pre) .z)
 
 loop-holds : tie.Need-loop-holds Inv-loop μ-loop
-loop-holds c =
-    let s = c .before .before in
-    let f = fits (s .args .sdf .now) (s .args .k) (s .pre) in
-    (omega arith, omega arith, none-yet (strayLayer (fieldOf (s .args .sdf .now) (s .args .k)) (boxOf (s .args .k))) (s .args .k .low .z))
+loop-holds c = scan-begun (point-spans (c .before .before .pre) .z)
 
 stray-layer-requires : tie.Need-stray-layer-requires Inv-loop μ-loop
-stray-layer-requires c κs = let s = c .before .before .before .before in let f = fits (s .args .sdf .now) (s .args .k) (s .pre) in (s .pre, omega arith)
+stray-layer-requires c κs = (entry-of (c .before) .pre, through (here c))
 
 either-requires : tie.Need-either-requires Inv-loop μ-loop
 either-requires c κs = search needs
 
 add-z : tie.Need-add-z Inv-loop μ-loop
-add-z c = let s = c .before .before .before .before .before .before in let f = fits (s .args .sdf .now) (s .args .k) (s .pre) in omega arith
+add-z c = here (c .before .before) .fits
 
 loop-less : tie.Need-loop-less Inv-loop μ-loop
-loop-less c = let s = c .before .before .before .before .before .before in let f = fits (s .args .sdf .now) (s .args .k) (s .pre) in omega arith
+loop-less c = here (c .before .before) .less
 
 loop-again : tie.Need-loop-again Inv-loop μ-loop
-loop-again c =
-    let s = c .before .before .before .before .before .before in
-    let f = fits (s .args .sdf .now) (s .args .k) (s .pre) in
-    let w = c .before .before .before .loop in
-    (omega arith, omega arith, one-more (strayLayer (fieldOf (s .args .sdf .now) (s .args .k)) (boxOf (s .args .k))) (w .inv .0) (w .inv .2) (c .before .stray-layer .ensures) (c .either .ensures))
+loop-again c = scan-more (c .before .before .before .loop .inv) (here (c .before .before)) (c .before .stray-layer .ensures) (c .either .ensures)
 
 returns : tie.Need-returns Inv-loop μ-loop
 unfolding strayBox
-returns c =
-    let s = c .before .before .before .before in
-    let f = fits (s .args .sdf .now) (s .args .k) (s .pre) in
-    let w = c .before .loop in
-    let e : w .z ≡ s .args .k .high .z + 1 = omega arith in
-    w .inv .2 ∙ ap (λ (n : ℕ). some (strayLayer (fieldOf (s .args .sdf .now) (s .args .k)) (boxOf (s .args .k))) (upTo (s .args .k .low .z) n)) e
+returns c = scan-ended (c .before .loop .inv) (c .loop-test .left)
 
 pub stray-box-spec : {M : Type 1} → statement M
 stray-box-spec =

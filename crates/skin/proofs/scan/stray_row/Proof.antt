@@ -1,55 +1,53 @@
 -- The invariant: the flag says whether a point before x of the row is stray. Assumes nothing.
-use Prim.Native.Nat.{ℕ, _+_, _≤_, _-_}
-use mathlib.Core.Path.{_≡_, ap, _∙_}
-use native.Mathlib.Omega.{arith}
+use Prim.Native.Nat.{ℕ, _+_, _-_}
+use lib.Dec.{T}
 use borrow.Author.Needs.{needs}
-use Rattle.rules.specs.Lists.{some, upTo}
-use Rattle.grid.specs.Block.{point, boxOf, fieldOf}
-use Rattle.grid.proofs.Runs.{none-yet, one-more}
+use Rattle.rules.specs.Grid.{GridPoint, inBox}
+use Rattle.grid.specs.Block.{boxOf, fieldOf}
 use Rattle.grid.proofs.Rows.{on-row}
-use Rattle.grid.proofs.Bounds.{fits, index-few, point-inside, below-length}
+use Rattle.grid.proofs.Bounds.{point-inside, below-length, place-fits}
+use Rattle.grid.proofs.Walks.{Turn, turn, through, end-fits, Scanned, scan-begun, scan-more, scan-ended, point-spans}
 use Rattle.skin.specs.Enclosed.{stray}
 use Rattle.skin.specs.Scan.{strayRow}
 use Rattle.skin.proofs.scan.stray_row.Statement.{statement}
 use Rattle.skin.proofs.scan.stray_row.Tie as tie
 
 abbrev Inv-loop : tie.InvT-loop
-Inv-loop sdf k y z from end stray₀ x₀ stray' x = (from ≤ x) × (x ≤ end) × (stray' ≡ some (λ (x : ℕ). stray (fieldOf sdf k) (boxOf k) (record { x = x; y = y; z = z })) (upTo from x))
+Inv-loop sdf k y z from end stray₀ x₀ found x = Scanned (λ (x' : ℕ). stray (fieldOf sdf k) (boxOf k) (record { x = x'; y = y; z = z })) from end x found
 
 abbrev μ-loop : tie.MeasureT-loop
-μ-loop sdf k y z from end stray₀ x₀ stray' x = end - x
+μ-loop sdf k y z from end stray₀ x₀ found x = end - x
+
+abbrev entry-of : tie.At-loop Inv-loop μ-loop → tie.Start Inv-loop μ-loop
+entry-of c = c .before .before .before
+
+-- the point of a turn
+here : (c : tie.In-loop Inv-loop μ-loop) → let k = entry-of (c .before) .args .k in Turn (k .low .x) (k .high .x + 1) (c .before .loop .x)
+here c = turn (point-spans (entry-of (c .before) .pre .0) .x) (c .before .loop .inv .count) (c .loop-test .taken)
+
+abbrev spot : tie.At-loop Inv-loop μ-loop → GridPoint
+spot c = record { x = c .loop .x; y = entry-of c .args .y; z = entry-of c .args .z }
+
+within : (c : tie.In-loop Inv-loop μ-loop) → T (inBox (boxOf (entry-of (c .before) .args .k)) (spot (c .before)))
+within c = let (ylow, yhigh, zlow, zhigh) = entry-of (c .before) .pre .1 in on-row (entry-of (c .before) .pre .0) (ylow, yhigh) (zlow, zhigh) (through (here c))
 
 add-end : tie.Need-add-end Inv-loop μ-loop
-add-end c = let s = c .before .before in let f = fits (s .args .sdf .now) (s .args .k) (s .pre .0) in omega arith
+add-end c = end-fits (point-spans (c .before .before .pre .0) .x)
 
 loop-holds : tie.Need-loop-holds Inv-loop μ-loop
-loop-holds c =
-    let s = c .before .before in
-    let f = fits (s .args .sdf .now) (s .args .k) (s .pre .0) in
-    (omega arith, omega arith, none-yet (λ (x : ℕ). stray (fieldOf (s .args .sdf .now) (s .args .k)) (boxOf (s .args .k)) (record { x = x; y = s .args .y; z = s .args .z })) (s .args .k .low .x))
+loop-holds c = scan-begun (point-spans (c .before .before .pre .0) .x)
 
 linearize-requires : tie.Need-linearize-requires Inv-loop μ-loop
-linearize-requires c κs =
-    let s = c .before .before .before .before in
-    let f = fits (s .args .sdf .now) (s .args .k) (s .pre .0) in
-    let w = c .before .loop in
-    point-inside (s .args .sdf .now) (s .args .k) (s .pre .0) (record { x = w .x; y = s .args .y; z = s .args .z }) (on-row (s .args .sdf .now) (s .args .k) (s .pre .0) (s .args .y) (s .args .z) (omega arith) (omega arith) (omega arith) (omega arith) (w .x) (omega arith) (omega arith))
+linearize-requires c κs = let s = entry-of (c .before) in point-inside (s .args .sdf .now) (s .args .k) (s .pre .0) (spot (c .before)) (within c)
 
 mul-is-stray : tie.Need-mul-is-stray Inv-loop μ-loop
-mul-is-stray c =
-    let s = c .before .before .before .before .before in
-    let f = fits (s .args .sdf .now) (s .args .k) (s .pre .0) in
-    let w = c .before .before .loop in
-    let i = point-inside (s .args .sdf .now) (s .args .k) (s .pre .0) (record { x = w .x; y = s .args .y; z = s .args .z }) (on-row (s .args .sdf .now) (s .args .k) (s .pre .0) (s .args .y) (s .args .z) (omega arith) (omega arith) (omega arith) (omega arith) (w .x) (omega arith) (omega arith)) in
-    omega (arith, c .linearize .ensures, index-few (point (s .args .k .dims)) (record { x = w .x; y = s .args .y; z = s .args .z }) i)
+mul-is-stray c = place-fits (linearize-requires (c .before) _) (c .linearize .ensures)
 
 shared-slice-read-is-stray : tie.Need-shared-slice-read-is-stray Inv-loop μ-loop
 shared-slice-read-is-stray c =
-    let s = c .before .before .before .before .before .before in
-    let f = fits (s .args .sdf .now) (s .args .k) (s .pre .0) in
-    let w = c .before .before .before .loop in
-    let i = below-length (s .args .sdf .now) (s .args .k) (s .pre .0) (record { x = w .x; y = s .args .y; z = s .args .z }) (on-row (s .args .sdf .now) (s .args .k) (s .pre .0) (s .args .y) (s .args .z) (omega arith) (omega arith) (omega arith) (omega arith) (w .x) (omega arith) (omega arith)) in
-    omega (arith, c .before .linearize .ensures)
+    let t = c .before .before in
+    let s = entry-of (t .before) in
+    rw (c .before .linearize .ensures) (below-length (s .args .sdf .now) (s .args .k) (s .pre .0) (spot (t .before)) (within t))
 
 is-stray-requires : tie.Need-is-stray-requires Inv-loop μ-loop
 is-stray-requires c κs = search needs
@@ -58,34 +56,19 @@ either-requires : tie.Need-either-requires Inv-loop μ-loop
 either-requires c κs = search needs
 
 add-x : tie.Need-add-x Inv-loop μ-loop
-add-x c =
-    let s = c .before .before .before .before .before .before .before .before in
-    let f = fits (s .args .sdf .now) (s .args .k) (s .pre .0) in
-    let w = c .before .before .before .before .before .loop in
-    omega arith
+add-x c = here (c .before .before .before .before) .fits
 
 loop-less : tie.Need-loop-less Inv-loop μ-loop
-loop-less c =
-    let s = c .before .before .before .before .before .before .before .before in
-    let f = fits (s .args .sdf .now) (s .args .k) (s .pre .0) in
-    let w = c .before .before .before .before .before .loop in
-    omega arith
+loop-less c = here (c .before .before .before .before) .less
 
 loop-again : tie.Need-loop-again Inv-loop μ-loop
 loop-again c =
-    let s = c .before .before .before .before .before .before .before .before in
-    let f = fits (s .args .sdf .now) (s .args .k) (s .pre .0) in
-    let w = c .before .before .before .before .before .loop in
-    (omega arith, omega arith, one-more (λ (x : ℕ). stray (fieldOf (s .args .sdf .now) (s .args .k)) (boxOf (s .args .k)) (record { x = x; y = s .args .y; z = s .args .z })) (w .inv .0) (w .inv .2) (rw (← c .before .before .before .linearize .ensures) (c .before .is-stray .ensures)) (c .either .ensures))
+    let t = c .before .before .before .before in
+    scan-more (t .before .loop .inv) (here t) (rw (← c .before .before .before .linearize .ensures) (c .before .is-stray .ensures)) (c .either .ensures)
 
 returns : tie.Need-returns Inv-loop μ-loop
 unfolding strayRow
-returns c =
-    let s = c .before .before .before .before in
-    let f = fits (s .args .sdf .now) (s .args .k) (s .pre .0) in
-    let w = c .before .loop in
-    let e : w .x ≡ s .args .k .high .x + 1 = omega arith in
-    w .inv .2 ∙ ap (λ (n : ℕ). some (λ (x : ℕ). stray (fieldOf (s .args .sdf .now) (s .args .k)) (boxOf (s .args .k)) (record { x = x; y = s .args .y; z = s .args .z })) (upTo (s .args .k .low .x) n)) e
+returns c = scan-ended (c .before .loop .inv) (c .loop-test .left)
 
 pub stray-row-spec : {M : Type 1} → statement M
 stray-row-spec =

@@ -1,32 +1,53 @@
-use lib.Dec.{T}
-use lib.ListN.{length}
-use mathlib.Core.List.{_++_, append-assoc}
-use Rattle.grid.specs.Order.{layerTo, boxTo}
-use Rattle.grid.proofs.Bounds.{small, fits, plane-few}
-use Rattle.grid.proofs.Rows.{row-start, high-side, cell-on-row}
-use Rattle.grid.proofs.Order.{row-begins, row-grows, row-ends}
-use Rattle.step.specs.Turns.{Lent}
-use Rattle.surface_nets.proofs.Folds.{folded-none, lengths-kept}
-use Rattle.surface_nets.proofs.CellRead.{was-read, turned, ready, cell-more, reached-on}
-use Rattle.surface_nets.proofs.Reading.{cell-ready}
--- The invariant: the lists are what the cells before x leave. Assumes nothing.
-use Prim.Native.Nat.{ℕ, _+_, _*_, _≤_, _-_}
-use mathlib.Core.Path.{_≡_, ap, sym, refl, _∙_}
-use native.Mathlib.Omega.{arith}
+-- The invariant: the lists are what the cells before x leave, and `at` is the place of x. Assumes nothing.
+use Prim.Native.Nat.{_-_}
 use borrow.Author.Needs.{needs}
-use Rattle.rules.specs.Grid.{GridPoint, index, isCell}
-use Rattle.grid.specs.Block.{point, boxOf, flagsOf, fieldOf}
+use Rattle.grid.specs.Block.{boxOf}
 use Rattle.grid.specs.Order.{rowTo}
-use Rattle.step.specs.Turns.{cellTurn, folded}
+use Rattle.grid.proofs.Walks.{Row, OnRow, AtCell, row-first, layer-fits, row-begun, at-cell, row-done}
+use Rattle.grid.proofs.Order.{row-begins}
 use Rattle.step.specs.Reading.{lent}
+use Rattle.surface_nets.proofs.CellRead.{Read, was-read, Meshed, meshed-none, meshed-cell, meshed-all, meshed-lengths, cell-asks}
 use Rattle.surface_nets.proofs.passes.mesh_row.Statement.{statement}
 use Rattle.surface_nets.proofs.passes.mesh_row.Tie as tie
 
 abbrev Inv-loop : tie.InvT-loop
-Inv-loop sdf k y z positions₀ normals₀ cells₀ strides₀ map₀ indices₀ from end row layer at₀ state₀ x₀ positions normals cells strides map indices at state x = (from ≤ x) × (x ≤ end) × (at ≡ index (point (k .dims)) (record { x = x; y = y; z = z })) × (lent positions normals cells strides map indices state ≡ folded (cellTurn (fieldOf sdf k) (boxOf k) (flagsOf k)) (lent positions₀ normals₀ cells₀ strides₀ map₀ indices₀ state₀) (rowTo (boxOf k) z y x))
+Inv-loop sdf k y z positions₀ normals₀ cells₀ strides₀ map₀ indices₀ from end row layer at₀ state₀ x₀ positions normals cells strides map indices at state x =
+    OnRow k y z at x × Meshed sdf k (lent positions₀ normals₀ cells₀ strides₀ map₀ indices₀ state₀) (rowTo (boxOf k) z y x) (lent positions normals cells strides map indices state)
 
 abbrev μ-loop : tie.MeasureT-loop
 μ-loop sdf k y z positions₀ normals₀ cells₀ strides₀ map₀ indices₀ from end row layer at₀ state₀ x₀ positions normals cells strides map indices at state x = end - x
+
+-- ---- the places that a later one leads back to
+
+abbrev begin-of : tie.After-linearize Inv-loop μ-loop → tie.Start Inv-loop μ-loop
+begin-of c = c .before .before .before .before .before .before .before .before .before .before
+
+abbrev entry-of : tie.At-loop Inv-loop μ-loop → tie.Start Inv-loop μ-loop
+entry-of c = begin-of (c .before)
+
+abbrev turn-of : tie.After-owned-at Inv-loop μ-loop → tie.In-loop Inv-loop μ-loop
+turn-of c = c .before .before .before .before
+
+abbrev read-of : tie.After-mesh-cell-arg6 Inv-loop μ-loop → tie.After-owned-at Inv-loop μ-loop
+read-of c = c .before .before .before .before .before .before .before
+
+abbrev call-of : tie.After-slice-known12 Inv-loop μ-loop → tie.After-mesh-cell Inv-loop μ-loop
+call-of c = c .before .before .before .before .before .before .before .before .before .before .before .before
+
+-- ---- the row, the cell of a turn, and what is read of it
+
+row : (s : tie.Start Inv-loop μ-loop) → Row (s .args .sdf .now) (s .args .k) (s .args .y) (s .args .z)
+row s = record { inside = s .pre .0; along-y = s .pre .1 .0; along-z = s .pre .1 .1 .0 }
+
+here : (c : tie.In-loop Inv-loop μ-loop) → let a = entry-of (c .before) .args in let w = c .before .loop in
+    AtCell (a .sdf .now) (a .k) (a .y) (a .z) (w .at) (w .x)
+here c = at-cell (row (entry-of (c .before))) (c .before .loop .inv .0) (c .loop-test .taken)
+
+read : (c : tie.After-owned-at Inv-loop μ-loop) → let a = entry-of (turn-of c .before) .args in let w = turn-of c .before .loop in
+    Read (a .sdf .now) (a .k) (record { x = w .x; y = a .y; z = a .z }) (w .at) (c .before .corners .result) (c .owned-at .result)
+read c = was-read (here (turn-of c) .place) (c .before .before .before .side-at .ensures) (c .before .before .side-at2 .ensures) (c .before .corners .ensures) (c .owned-at .ensures)
+
+-- ---- the needs
 
 cast-row : tie.Need-cast-row Inv-loop μ-loop
 cast-row c = search needs
@@ -35,300 +56,72 @@ cast-layer : tie.Need-cast-layer Inv-loop μ-loop
 cast-layer c = search needs
 
 mul-layer : tie.Need-mul-layer Inv-loop μ-loop
-mul-layer c =
-    let s = c .before .before .before .before .before .before .before .before .before in
-    let a = s .args in
-    let l = a .sdf .now in
-    let k = a .k in
-    let i = s .pre .0 in
-    let f = fits l k i in
-    let rows = s .pre .1 .0 in
-    let deep = s .pre .1 .1 .0 in
-    let r = row-start l k i (a .y) (a .z) (omega arith) (omega arith) (omega arith) (omega arith) in
-    omega (arith, plane-few (point (k .dims)) (record { x = k .low .x; y = a .y; z = a .z }) r)
+mul-layer c = layer-fits (row (c .before .before .before .before .before .before .before .before .before))
 
 linearize-requires : tie.Need-linearize-requires Inv-loop μ-loop
-linearize-requires c κs =
-    let s = c .before .before .before .before .before .before .before .before .before in
-    let a = s .args in
-    let l = a .sdf .now in
-    let k = a .k in
-    let i = s .pre .0 in
-    let f = fits l k i in
-    let rows = s .pre .1 .0 in
-    let deep = s .pre .1 .1 .0 in
-    row-start l k i (a .y) (a .z) (omega arith) (omega arith) (omega arith) (omega arith)
+linearize-requires c κs = row-first (row (c .before .before .before .before .before .before .before .before .before))
 
 loop-holds : tie.Need-loop-holds Inv-loop μ-loop
 loop-holds c =
-    let s = c .before .before .before .before .before .before .before .before .before .before in
-    let a = s .args in
-    let l = a .sdf .now in
-    let k = a .k in
-    let i = s .pre .0 in
-    let f = fits l k i in
-    let rows = s .pre .1 .0 in
-    let deep = s .pre .1 .1 .0 in
-    let entry = lent (a .positions .now) (a .normals .now) (a .cells .now) (a .strides .now) (a .map .now) (a .indices .now) (a .made) in
-    (omega arith, omega arith, c .linearize .ensures, sym (ap (folded (cellTurn (fieldOf l k) (boxOf k) (flagsOf k)) entry) (row-begins (boxOf k) (a .z) (a .y)) ∙ folded-none (cellTurn (fieldOf l k) (boxOf k) (flagsOf k)) entry))
+    let s = begin-of c in
+    (row-begun (row s) (c .linearize .ensures), meshed-none (row-begins (boxOf (s .args .k)) (s .args .z) (s .args .y)))
 
 side-at-requires : tie.Need-side-at-requires Inv-loop μ-loop
-side-at-requires c κs =
-    let s = c .before .before .before .before .before .before .before .before .before .before .before .before in
-    let a = s .args in
-    let l = a .sdf .now in
-    let k = a .k in
-    let i = s .pre .0 in
-    let f = fits l k i in
-    let rows = s .pre .1 .0 in
-    let deep = s .pre .1 .1 .0 in
-    let w = c .before .loop in
-    let taken = c .loop-test .taken in
-    let held = w .inv in
-    let cell : GridPoint = record { x = w .x; y = a .y; z = a .z } in
-    let t : T (isCell (boxOf k) cell) = cell-on-row k (w .x) (a .y) (a .z) (omega arith) (omega arith) (omega arith) (omega arith) (omega arith) (omega arith) in
-    omega (arith, high-side l k i cell t)
+side-at-requires c κs = here c .low-side
 
 add-side-at : tie.Need-add-side-at Inv-loop μ-loop
-add-side-at c =
-    let s = c .before .before .before .before .before .before .before .before .before .before .before .before .before in
-    let a = s .args in
-    let l = a .sdf .now in
-    let k = a .k in
-    let i = s .pre .0 in
-    let f = fits l k i in
-    let rows = s .pre .1 .0 in
-    let deep = s .pre .1 .1 .0 in
-    let w = c .before .before .loop in
-    let taken = c .before .loop-test .taken in
-    let held = w .inv in
-    let cell : GridPoint = record { x = w .x; y = a .y; z = a .z } in
-    let t : T (isCell (boxOf k) cell) = cell-on-row k (w .x) (a .y) (a .z) (omega arith) (omega arith) (omega arith) (omega arith) (omega arith) (omega arith) in
-    omega (arith, high-side l k i cell t)
+add-side-at c = here (c .before) .at-fits
 
 side-at-requires-2 : tie.Need-side-at-requires-2 Inv-loop μ-loop
-side-at-requires-2 c κs =
-    let s = c .before .before .before .before .before .before .before .before .before .before .before .before .before in
-    let a = s .args in
-    let l = a .sdf .now in
-    let k = a .k in
-    let i = s .pre .0 in
-    let f = fits l k i in
-    let rows = s .pre .1 .0 in
-    let deep = s .pre .1 .1 .0 in
-    let w = c .before .before .loop in
-    let taken = c .before .loop-test .taken in
-    let held = w .inv in
-    let cell : GridPoint = record { x = w .x; y = a .y; z = a .z } in
-    let t : T (isCell (boxOf k) cell) = cell-on-row k (w .x) (a .y) (a .z) (omega arith) (omega arith) (omega arith) (omega arith) (omega arith) (omega arith) in
-    omega (arith, high-side l k i cell t)
+side-at-requires-2 c κs = here (c .before) .high-side
 
 corners-requires : tie.Need-corners-requires Inv-loop μ-loop
 corners-requires c κs = search needs
 
 owned-at-requires : tie.Need-owned-at-requires Inv-loop μ-loop
-owned-at-requires c κs =
-    let s = c .before .before .before .before .before .before .before .before .before .before .before .before .before .before .before in
-    let a = s .args in
-    let l = a .sdf .now in
-    let k = a .k in
-    let i = s .pre .0 in
-    let f = fits l k i in
-    let rows = s .pre .1 .0 in
-    let deep = s .pre .1 .1 .0 in
-    let w = c .before .before .before .before .loop in
-    let taken = c .before .before .before .loop-test .taken in
-    let held = w .inv in
-    let cell : GridPoint = record { x = w .x; y = a .y; z = a .z } in
-    let t : T (isCell (boxOf k) cell) = cell-on-row k (w .x) (a .y) (a .z) (omega arith) (omega arith) (omega arith) (omega arith) (omega arith) (omega arith) in
-    t
+owned-at-requires c κs = here (c .before .before .before) .cell
 
 mesh-cell-requires : tie.Need-mesh-cell-requires Inv-loop μ-loop
 mesh-cell-requires c κs =
-    let s = c .before .before .before .before .before .before .before .before .before .before .before .before .before .before .before .before .before .before .before .before .before .before .before in
-    let a = s .args in
-    let l = a .sdf .now in
-    let k = a .k in
-    let i = s .pre .0 in
-    let f = fits l k i in
-    let rows = s .pre .1 .0 in
-    let deep = s .pre .1 .1 .0 in
-    let w = c .before .before .before .before .before .before .before .before .before .before .before .before .loop in
-    let taken = c .before .before .before .before .before .before .before .before .before .before .before .loop-test .taken in
-    let held = w .inv in
-    let cell : GridPoint = record { x = w .x; y = a .y; z = a .z } in
-    let t : T (isCell (boxOf k) cell) = cell-on-row k (w .x) (a .y) (a .z) (omega arith) (omega arith) (omega arith) (omega arith) (omega arith) (omega arith) in
-    let entry = lent (a .positions .now) (a .normals .now) (a .cells .now) (a .strides .now) (a .map .now) (a .indices .now) (a .made) in
-    let here = lent (w .positions) (w .normals) (w .cells) (w .strides) (w .map) (w .indices) (w .state) in
-    let read = was-read l k cell (w .at) (k .dims .x) (k .dims .x * k .dims .y) (w .inv .2) refl refl (c .before .before .before .before .before .before .before .before .before .before .side-at .ensures) (c .before .before .before .before .before .before .before .before .before .side-at2 .ensures) (c .before .before .before .before .before .before .before .before .corners .ensures) (c .before .before .before .before .before .before .before .owned-at .ensures) in
-    ready read here (cell-ready l k i cell t here (reached-on (fieldOf l k) (boxOf k) (flagsOf k) (length l) (boxTo (boxOf k) (a .z) ++ layerTo (boxOf k) (a .z) (a .y)) (rowTo (boxOf k) (a .z) (a .y) (w .x)) (boxTo (boxOf k) (a .z) ++ (layerTo (boxOf k) (a .z) (a .y) ++ rowTo (boxOf k) (a .z) (a .y) (w .x))) entry (s .pre .1 .1 .1) (sym (append-assoc (boxTo (boxOf k) (a .z)) (layerTo (boxOf k) (a .z) (a .y)) (rowTo (boxOf k) (a .z) (a .y) (w .x)))) (w .inv .3)))
+    let t = turn-of (read-of c) in
+    let s = entry-of (t .before) in
+    cell-asks (s .pre .0) (here t .cell) (read (read-of c)) (t .before .loop .inv .1) (s .pre .1 .1 .1)
 
 add-at : tie.Need-add-at Inv-loop μ-loop
-add-at c =
-    let s = c .before .before .before .before .before .before .before .before .before .before .before .before .before .before .before .before .before .before .before .before .before .before .before .before .before .before .before .before .before .before .before .before .before .before .before .before in
-    let a = s .args in
-    let l = a .sdf .now in
-    let k = a .k in
-    let i = s .pre .0 in
-    let f = fits l k i in
-    let rows = s .pre .1 .0 in
-    let deep = s .pre .1 .1 .0 in
-    let w = c .before .before .before .before .before .before .before .before .before .before .before .before .before .before .before .before .before .before .before .before .before .before .before .before .before .loop in
-    let taken = c .before .before .before .before .before .before .before .before .before .before .before .before .before .before .before .before .before .before .before .before .before .before .before .before .loop-test .taken in
-    let held = w .inv in
-    let cell : GridPoint = record { x = w .x; y = a .y; z = a .z } in
-    let t : T (isCell (boxOf k) cell) = cell-on-row k (w .x) (a .y) (a .z) (omega arith) (omega arith) (omega arith) (omega arith) (omega arith) (omega arith) in
-    omega (arith, high-side l k i cell t)
+add-at c = here (turn-of (read-of (call-of c .before))) .at-fits
 
 add-x : tie.Need-add-x Inv-loop μ-loop
-add-x c =
-    let s = c .before .before .before .before .before .before .before .before .before .before .before .before .before .before .before .before .before .before .before .before .before .before .before .before .before .before .before .before .before .before .before .before .before .before .before .before in
-    let a = s .args in
-    let l = a .sdf .now in
-    let k = a .k in
-    let i = s .pre .0 in
-    let f = fits l k i in
-    let rows = s .pre .1 .0 in
-    let deep = s .pre .1 .1 .0 in
-    let w = c .before .before .before .before .before .before .before .before .before .before .before .before .before .before .before .before .before .before .before .before .before .before .before .before .before .loop in
-    let taken = c .before .before .before .before .before .before .before .before .before .before .before .before .before .before .before .before .before .before .before .before .before .before .before .before .loop-test .taken in
-    let held = w .inv in
-    let q = small (point (k .dims)) (i .dims) in
-    omega arith
+add-x c = here (turn-of (read-of (call-of c .before))) .turn .fits
 
 loop-less : tie.Need-loop-less Inv-loop μ-loop
-loop-less c =
-    let s = c .before .before .before .before .before .before .before .before .before .before .before .before .before .before .before .before .before .before .before .before .before .before .before .before .before .before .before .before .before .before .before .before .before .before .before .before in
-    let a = s .args in
-    let l = a .sdf .now in
-    let k = a .k in
-    let i = s .pre .0 in
-    let f = fits l k i in
-    let rows = s .pre .1 .0 in
-    let deep = s .pre .1 .1 .0 in
-    let w = c .before .before .before .before .before .before .before .before .before .before .before .before .before .before .before .before .before .before .before .before .before .before .before .before .before .loop in
-    let taken = c .before .before .before .before .before .before .before .before .before .before .before .before .before .before .before .before .before .before .before .before .before .before .before .before .loop-test .taken in
-    let held = w .inv in
-    omega arith
+loop-less c = here (turn-of (read-of (call-of c .before))) .turn .less
 
 loop-again : tie.Need-loop-again Inv-loop μ-loop
 loop-again c =
-    let s = c .before .before .before .before .before .before .before .before .before .before .before .before .before .before .before .before .before .before .before .before .before .before .before .before .before .before .before .before .before .before .before .before .before .before .before .before in
-    let a = s .args in
-    let l = a .sdf .now in
-    let k = a .k in
-    let i = s .pre .0 in
-    let f = fits l k i in
-    let rows = s .pre .1 .0 in
-    let deep = s .pre .1 .1 .0 in
-    let w = c .before .before .before .before .before .before .before .before .before .before .before .before .before .before .before .before .before .before .before .before .before .before .before .before .before .loop in
-    let taken = c .before .before .before .before .before .before .before .before .before .before .before .before .before .before .before .before .before .before .before .before .before .before .before .before .loop-test .taken in
-    let held = w .inv in
-    let cell : GridPoint = record { x = w .x; y = a .y; z = a .z } in
-    let t : T (isCell (boxOf k) cell) = cell-on-row k (w .x) (a .y) (a .z) (omega arith) (omega arith) (omega arith) (omega arith) (omega arith) (omega arith) in
-    let entry = lent (a .positions .now) (a .normals .now) (a .cells .now) (a .strides .now) (a .map .now) (a .indices .now) (a .made) in
-    let here = lent (w .positions) (w .normals) (w .cells) (w .strides) (w .map) (w .indices) (w .state) in
-    let read = was-read l k cell (w .at) (k .dims .x) (k .dims .x * k .dims .y) (w .inv .2) refl refl (c .before .before .before .before .before .before .before .before .before .before .before .before .before .before .before .before .before .before .before .before .before .before .before .side-at .ensures) (c .before .before .before .before .before .before .before .before .before .before .before .before .before .before .before .before .before .before .before .before .before .before .side-at2 .ensures) (c .before .before .before .before .before .before .before .before .before .before .before .before .before .before .before .before .before .before .before .before .before .corners .ensures) (c .before .before .before .before .before .before .before .before .before .before .before .before .before .before .before .before .before .before .before .before .owned-at .ensures) in
-    (omega arith, omega arith, omega arith, cell-more (fieldOf l k) (boxOf k) (flagsOf k) entry (rowTo (boxOf k) (a .z) (a .y) (w .x)) (rowTo (boxOf k) (a .z) (a .y) (w .x + 1)) cell (row-grows (boxOf k) (a .z) (a .y) (w .x) (w .inv .0)) (w .inv .3) (c .before .before .before .before .before .before .before .before .before .before .before .before .mesh-cell .ensures ∙ turned read here))
+    let r = read-of (call-of c .before) in
+    let t = turn-of r in
+    (here t .next, meshed-cell (t .before .loop .inv .1) (read r) (call-of c .mesh-cell .ensures) (here t .grows))
 
 same-length : tie.Need-same-length Inv-loop μ-loop
-same-length c =
-    let s = c .before .before .before .before .before .before .before .before .before .before .before .before in
-    let a = s .args in
-    let l = a .sdf .now in
-    let k = a .k in
-    let i = s .pre .0 in
-    let f = fits l k i in
-    let rows = s .pre .1 .0 in
-    let deep = s .pre .1 .1 .0 in
-    let w = c .before .loop in
-    let entry = lent (a .positions .now) (a .normals .now) (a .cells .now) (a .strides .now) (a .map .now) (a .indices .now) (a .made) in
-    ap (λ (u : Lent). length (u .positions)) (w .inv .3) ∙ lengths-kept (fieldOf l k) (boxOf k) (flagsOf k) entry (rowTo (boxOf k) (a .z) (a .y) (w .x)) .positions
+same-length c = meshed-lengths (c .before .loop .inv .1) .positions
 
 same-length-2 : tie.Need-same-length-2 Inv-loop μ-loop
-same-length-2 c =
-    let s = c .before .before .before .before .before .before .before .before .before .before .before .before in
-    let a = s .args in
-    let l = a .sdf .now in
-    let k = a .k in
-    let i = s .pre .0 in
-    let f = fits l k i in
-    let rows = s .pre .1 .0 in
-    let deep = s .pre .1 .1 .0 in
-    let w = c .before .loop in
-    let entry = lent (a .positions .now) (a .normals .now) (a .cells .now) (a .strides .now) (a .map .now) (a .indices .now) (a .made) in
-    ap (λ (u : Lent). length (u .normals)) (w .inv .3) ∙ lengths-kept (fieldOf l k) (boxOf k) (flagsOf k) entry (rowTo (boxOf k) (a .z) (a .y) (w .x)) .normals
+same-length-2 c = meshed-lengths (c .before .loop .inv .1) .normals
 
 same-length-3 : tie.Need-same-length-3 Inv-loop μ-loop
-same-length-3 c =
-    let s = c .before .before .before .before .before .before .before .before .before .before .before .before in
-    let a = s .args in
-    let l = a .sdf .now in
-    let k = a .k in
-    let i = s .pre .0 in
-    let f = fits l k i in
-    let rows = s .pre .1 .0 in
-    let deep = s .pre .1 .1 .0 in
-    let w = c .before .loop in
-    let entry = lent (a .positions .now) (a .normals .now) (a .cells .now) (a .strides .now) (a .map .now) (a .indices .now) (a .made) in
-    ap (λ (u : Lent). length (u .cells)) (w .inv .3) ∙ lengths-kept (fieldOf l k) (boxOf k) (flagsOf k) entry (rowTo (boxOf k) (a .z) (a .y) (w .x)) .cells
+same-length-3 c = meshed-lengths (c .before .loop .inv .1) .cells
 
 same-length-4 : tie.Need-same-length-4 Inv-loop μ-loop
-same-length-4 c =
-    let s = c .before .before .before .before .before .before .before .before .before .before .before .before in
-    let a = s .args in
-    let l = a .sdf .now in
-    let k = a .k in
-    let i = s .pre .0 in
-    let f = fits l k i in
-    let rows = s .pre .1 .0 in
-    let deep = s .pre .1 .1 .0 in
-    let w = c .before .loop in
-    let entry = lent (a .positions .now) (a .normals .now) (a .cells .now) (a .strides .now) (a .map .now) (a .indices .now) (a .made) in
-    ap (λ (u : Lent). length (u .strides)) (w .inv .3) ∙ lengths-kept (fieldOf l k) (boxOf k) (flagsOf k) entry (rowTo (boxOf k) (a .z) (a .y) (w .x)) .strides
+same-length-4 c = meshed-lengths (c .before .loop .inv .1) .strides
 
 same-length-5 : tie.Need-same-length-5 Inv-loop μ-loop
-same-length-5 c =
-    let s = c .before .before .before .before .before .before .before .before .before .before .before .before in
-    let a = s .args in
-    let l = a .sdf .now in
-    let k = a .k in
-    let i = s .pre .0 in
-    let f = fits l k i in
-    let rows = s .pre .1 .0 in
-    let deep = s .pre .1 .1 .0 in
-    let w = c .before .loop in
-    let entry = lent (a .positions .now) (a .normals .now) (a .cells .now) (a .strides .now) (a .map .now) (a .indices .now) (a .made) in
-    ap (λ (u : Lent). length (u .map)) (w .inv .3) ∙ lengths-kept (fieldOf l k) (boxOf k) (flagsOf k) entry (rowTo (boxOf k) (a .z) (a .y) (w .x)) .map
+same-length-5 c = meshed-lengths (c .before .loop .inv .1) .map
 
 same-length-6 : tie.Need-same-length-6 Inv-loop μ-loop
-same-length-6 c =
-    let s = c .before .before .before .before .before .before .before .before .before .before .before .before in
-    let a = s .args in
-    let l = a .sdf .now in
-    let k = a .k in
-    let i = s .pre .0 in
-    let f = fits l k i in
-    let rows = s .pre .1 .0 in
-    let deep = s .pre .1 .1 .0 in
-    let w = c .before .loop in
-    let entry = lent (a .positions .now) (a .normals .now) (a .cells .now) (a .strides .now) (a .map .now) (a .indices .now) (a .made) in
-    ap (λ (u : Lent). length (u .indices)) (w .inv .3) ∙ lengths-kept (fieldOf l k) (boxOf k) (flagsOf k) entry (rowTo (boxOf k) (a .z) (a .y) (w .x)) .indices
+same-length-6 c = meshed-lengths (c .before .loop .inv .1) .indices
 
 returns : tie.Need-returns Inv-loop μ-loop
-returns c =
-    let s = c .before .before .before .before .before .before .before .before .before .before .before .before in
-    let a = s .args in
-    let l = a .sdf .now in
-    let k = a .k in
-    let i = s .pre .0 in
-    let f = fits l k i in
-    let rows = s .pre .1 .0 in
-    let deep = s .pre .1 .1 .0 in
-    let w = c .before .loop in
-    let entry = lent (a .positions .now) (a .normals .now) (a .cells .now) (a .strides .now) (a .map .now) (a .indices .now) (a .made) in
-    let e : w .x ≡ k .high .x = omega arith in
-    w .inv .3 ∙ ap (λ (n : ℕ). folded (cellTurn (fieldOf l k) (boxOf k) (flagsOf k)) entry (rowTo (boxOf k) (a .z) (a .y) n)) e ∙ ap (folded (cellTurn (fieldOf l k) (boxOf k) (flagsOf k)) entry) (row-ends (boxOf k) (a .z) (a .y))
+returns c = let w = c .before .loop in meshed-all (w .inv .1) (row-done (w .inv .0) (c .loop-test .left))
 
 pub mesh-row-spec : {M : Type 1} → statement M
 mesh-row-spec =

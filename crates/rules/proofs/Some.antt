@@ -6,8 +6,9 @@ use mathlib.Core.Bool.{Bool, true, false, _||_, or-assoc}
 use mathlib.Core.List.{List, [], _∷_, _++_, map}
 use mathlib.Core.Path.{_≡_, refl, sym, ap, ap₂, subst, _∙_}
 use lib.Dec.{T}
 use Rattle.rules.specs.Lists.{one, some, many, joined}
-use Rattle.rules.proofs.Tests.{is-test, one-of, or-second}
+use Rattle.rules.proofs.Tests.{is-test, one-of, or-first, or-second}
+use Rattle.rules.proofs.Lists.{All, none, more}
 
 pub some-append : {A : Type 0} (f : A → Bool) (s t : List A) → some f (s ++ t) ≡ (some f s || some f t)
 unfolding some
@@ -24,14 +25,10 @@ unfolding some
 some-map f h [] = refl
 some-map f h (x ∷ l) = ap (λ (b : Bool). f (h x) || b) (some-map f h l)
 
-pub some-same : {A : Type 0} {f h : A → Bool} → ((x : A) → f x ≡ h x) → (l : List A) → some f l ≡ some h l
+pub some-same : {A : Type 0} {f h : A → Bool} {l : List A} → All (λ x. f x ≡ h x) l → some f l ≡ some h l
 unfolding some
-some-same e [] = refl
-some-same e (x ∷ l) = ap₂ _||_ (e x) (some-same e l)
-
-or-first : (a b : Bool) → T a → T (a || b)
-or-first true b t = tt
-or-first false b t = absurd t
+some-same none = refl
+some-same (more p q) = ap₂ _||_ p (some-same q)
 
 module _ {A : Type 0} (same : A → A → Bool) (sound : (a b : A) → T (same a b) → a ≡ b) (itself : (a : A) → T (same a a)) (f : A → Bool) where
   -- an element that the list holds

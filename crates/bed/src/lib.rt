@@ -4,7 +4,8 @@ pub mod files;
 
 ghost use mathlib.Core.Path.{_≡_};
 ghost use Rattle.rules.specs.Call.{answer, afterwards, room};
-ghost use Rattle.surface_nets.specs.Reading.{buffers, callMade};
+ghost use Rattle.pass.specs.Reading.{buffers};
+ghost use Rattle.surface_nets.specs.Reading.{callMade};
 ghost use Rattle.bed.specs.Boundary.{extent, said};
 use grid::Extent;
 

@@ -12,7 +12,7 @@ use Rattle.rules.specs.Grid.{Box, Field}
 use Rattle.rules.specs.Call.{Answer, Buffers}
 use Rattle.grid.specs.declared.Extent.{Extent}
 use Rattle.judge.specs.Reading.{answerOf}
-use Rattle.surface_nets.specs.Reading.{buffers}
+use Rattle.pass.specs.Reading.{buffers}
 use Rattle.skin.specs.declared.Enclosed.{Enclosed as Tested}
 use Rattle.skin.specs.Scan.{answers, gridOf, boxFrom}
 use Rattle.bed.specs.Boundary.{extent, said}

@@ -1,5 +1,5 @@
 -- Laws of the grid that belong to no one function: what the conditions leave, the tests against the cap, where rows and cells stand, what
--- holds in a turn of a loop, and how counts add up. Assumes nothing.
+-- holds in a turn of a loop, and which corner values are read. Assumes nothing.
 pub mod Tests
 pub mod Bounds
 pub mod Beyond
@@ -8,4 +8,4 @@ pub mod Owned
 pub mod Rows
 pub mod Walks
 pub mod Order
-pub mod Tallies
+pub mod Eight

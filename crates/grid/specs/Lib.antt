@@ -3,4 +3,3 @@ pub mod Block
 pub mod Inside
 pub mod Corners
 pub mod Order
-pub mod Tally

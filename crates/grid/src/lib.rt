@@ -1,8 +1,6 @@
-// A grid, a box in it and the max plane: the conditions 1, 2 and 5 of document 01, the reading of a cell's corners, and the counts of
-// vertices and indices. What reads the grid asks that the box lies in it, which the conditions 1 to 3 say.
+// A grid, a box in it and the max plane: the conditions 1, 2 and 5 of document 01, and the reading of a cell's corners. What reads the grid asks that the box lies in it, which the conditions 1 to 3 say.
 pub mod checks;
 pub mod corners;
-pub mod count;
 pub mod ownership;
 pub mod place;
 pub mod scan;

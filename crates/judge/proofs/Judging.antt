@@ -18,13 +18,13 @@ use Rattle.rules.proofs.Accepted.{accepted-answer, done-accepted}
 use Rattle.rules.proofs.Counting.{vertices-are}
 use Rattle.rules.proofs.Edges.{edges-are, edge-count, index-count}
 use Rattle.grid.specs.declared.Block.{Block}
-use Rattle.grid.specs.declared.count.Tally.{Tally}
+use Rattle.count.specs.declared.Tally.{Tally}
 use Rattle.grid.specs.Block.{point, boxOf, flagsOf, fieldOf, callOf}
 use Rattle.grid.specs.Inside.{Inside}
-use Rattle.grid.specs.Tally.{tallyOf}
+use Rattle.count.specs.Tally.{tallyOf}
 use Rattle.grid.proofs.Order.{box-ends}
 use Rattle.grid.proofs.Rows.{box-short}
-use Rattle.grid.proofs.Tallies.{vertices-few}
+use Rattle.count.proofs.Tallies.{vertices-few}
 
 -- ---- conditions 1 to 5
 

@@ -87,6 +87,6 @@ pub fn answer_for(sdf: &[f32], k: Block, room: Lengths) -> Answer
     if grid::scan::bad_distance(sdf, k) {
         return refused(5);
     }
-    let t = grid::count::count_box(sdf, k);
+    let t = count::count_box(sdf, k);
     room_answer(t.vertices, t.indices, room)
 }

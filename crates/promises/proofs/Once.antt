@@ -1,4 +1,4 @@
--- Document 01, "What a claim has to settle": "Show that two outcomes that fit are equal". For each public function of marks, grid, judge, step, surface_nets and bed
+-- Document 01, "What a claim has to settle": "Show that two outcomes that fit are equal". For each public function of marks, grid, count, judge, step, pass, surface_nets and bed
 -- one outcome alone fits the contract: the result, and every list behind a `&mut` afterwards, refused calls too. Those of cube stand in
 -- its own proofs/Unique. Assumes nothing.
 use mathlib.Core.Path.{_≡_, _∙_, sym}
@@ -16,16 +16,16 @@ use Rattle.grid.proofs.corners.side_at.Kinds as side-at-kinds
 use Rattle.grid.proofs.corners.side_at.Reads as side-at
 use Rattle.grid.proofs.corners.corners.Kinds as corners-kinds
 use Rattle.grid.proofs.corners.corners.Reads as corners
-use Rattle.grid.proofs.count.face_count.Kinds as face-count-kinds
-use Rattle.grid.proofs.count.face_count.Reads as face-count
-use Rattle.grid.proofs.count.count_cell.Kinds as count-cell-kinds
-use Rattle.grid.proofs.count.count_cell.Reads as count-cell
-use Rattle.grid.proofs.count.count_row.Kinds as count-row-kinds
-use Rattle.grid.proofs.count.count_row.Reads as count-row
-use Rattle.grid.proofs.count.count_layer.Kinds as count-layer-kinds
-use Rattle.grid.proofs.count.count_layer.Reads as count-layer
-use Rattle.grid.proofs.count.count_box.Kinds as count-box-kinds
-use Rattle.grid.proofs.count.count_box.Reads as count-box
+use Rattle.count.proofs.face_count.Kinds as face-count-kinds
+use Rattle.count.proofs.face_count.Reads as face-count
+use Rattle.count.proofs.count_cell.Kinds as count-cell-kinds
+use Rattle.count.proofs.count_cell.Reads as count-cell
+use Rattle.count.proofs.count_row.Kinds as count-row-kinds
+use Rattle.count.proofs.count_row.Reads as count-row
+use Rattle.count.proofs.count_layer.Kinds as count-layer-kinds
+use Rattle.count.proofs.count_layer.Reads as count-layer
+use Rattle.count.proofs.count_box.Kinds as count-box-kinds
+use Rattle.count.proofs.count_box.Reads as count-box
 use Rattle.grid.proofs.ownership.owns.Kinds as owns-kinds
 use Rattle.grid.proofs.ownership.owns.Reads as owns
 use Rattle.grid.proofs.ownership.owned_at.Kinds as owned-at-kinds
@@ -56,6 +56,8 @@ use Rattle.judge.proofs.answer_for.Kinds as answer-for-kinds
 use Rattle.judge.proofs.answer_for.Reads as answer-for
 use Rattle.step.proofs.mesh_cell.Kinds as mesh-cell-kinds
 use Rattle.step.proofs.mesh_cell.Reads as mesh-cell
+use Rattle.pass.proofs.mesh_box.Kinds as mesh-box-kinds
+use Rattle.pass.proofs.mesh_box.Reads as mesh-box
 use Rattle.surface_nets.proofs.surface_nets.Kinds as surface-nets-kinds
 use Rattle.surface_nets.proofs.surface_nets.Reads as surface-nets
 use Rattle.bed.proofs.bed_surface_nets.Kinds as bed-surface-nets-kinds
@@ -153,6 +155,12 @@ pub mesh-cell-once : OneOutcome 7 mesh-cell-kinds.ps mesh-cell-kinds.r mesh-cell
 mesh-cell-once κs a o o' l l' =
     let b = l ∙ sym l' in
     λ i. record { result = record { vertices = b i .vertex; indices = b i .used }; last = (tt, (tt, (tt, (tt, (tt, (tt, (b i .positions, (b i .normals, (b i .cells, (b i .strides, (b i .map, (b i .indices, (tt, tt))))))))))))) }
+
+-- the write pass: the six lists
+pub mesh-box-once : OneOutcome 7 mesh-box-kinds.ps mesh-box-kinds.r mesh-box.Learnt
+mesh-box-once κs a o o' l l' =
+    let b = l ∙ sym l' in
+    λ i. record { result = tt; last = (tt, (tt, (b i .positions, (b i .normals, (b i .cells, (b i .strides, (b i .map, (b i .indices, tt)))))))) }
 
 -- document 01's call: the answer with V and I, and the six lists
 pub surface-nets-once : OneOutcome 7 surface-nets-kinds.ps surface-nets-kinds.r surface-nets.Learnt

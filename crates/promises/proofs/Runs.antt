@@ -7,7 +7,8 @@ use contract.Lifetimes.{Lfts}
 use borrow.Fn.Kinds.{Dens}
 use Rattle.grid.specs.declared.Extent.{Extent}
 use Rattle.judge.specs.Reading.{answerOf}
-use Rattle.surface_nets.specs.Reading.{buffers, callMade}
+use Rattle.pass.specs.Reading.{buffers}
+use Rattle.surface_nets.specs.Reading.{callMade}
 use Rattle.bed.specs.Boundary.{extent, said}
 use Rattle.promises.specs.Served.{Served}
 use Rattle.promises.proofs.OneOutcome.{Outcome, FitsContract}

@@ -12,7 +12,7 @@ use Rattle.grid.specs.Block.{boxOf, flagsOf, fieldOf, callOf}
 use Rattle.grid.specs.Inside.{Inside}
 use Rattle.judge.proofs.Judging.{done-enough}
 use Rattle.step.specs.Turns.{Roomy}
-use Rattle.surface_nets.proofs.Reading.{lentOf}
+use Rattle.pass.proofs.Reading.{lentOf}
 
 module _ (grid : List Float) (k : Block) (s : Buffers) (e : answer (callOf grid k) (room s) .number ≡ 0) where
   pub done-inside : Inside grid k

@@ -1,17 +1,11 @@
 -- The call's arguments as the rules have them. Definitions only. Assumes nothing.
-use Prim.Native.Nat.{ℕ}
 use mathlib.Core.Bool.{Bool}
 use mathlib.Core.List.{List}
 use lib.Ieee.{Float}
-use Rattle.rules.specs.Call.{Buffers, Call}
-use Rattle.rules.specs.Faces.{allThree}
+use Rattle.rules.specs.Call.{Call}
 use Rattle.grid.specs.declared.Extent.{Extent}
 use Rattle.grid.specs.declared.Block.{Block}
 use Rattle.grid.specs.Block.{callOf}
-
-abbrev pub buffers : List Float → List Float → List ℕ → List ℕ → List ℕ → List ℕ → Buffers
-buffers positions normals cells strides map indices =
-    record { positions = positions; normals = normals; cells = cells; strides = strides; map = map; indices = indices }
 
 -- the block of a call: document 01's yes/no sets all three flags
 abbrev pub blockOf : Extent → Extent → Extent → Bool → Block

@@ -3,16 +3,13 @@
 ghost use mathlib.Core.Path.{_≡_};
 ghost use Rattle.rules.specs.Call.{answer, afterwards, room};
 ghost use Rattle.judge.specs.Reading.{answerOf};
-ghost use Rattle.surface_nets.specs.Reading.{buffers, callMade};
-
-mod passes;
-
+ghost use Rattle.pass.specs.Reading.{buffers};
+ghost use Rattle.surface_nets.specs.Reading.{callMade};
 use grid::Block;
 use grid::Extent;
 use grid::MaxPlane;
 pub use judge::Answer;
 use judge::Lengths;
-use step::Made;
 
 // Extracts the surface of the distances in the box from `low` to `high`, both corners included, of a grid of dimensions `dims`.
 // Positions and normals take three floats a vertex, cells three numbers, strides one; the map one for each number of the grid.
@@ -55,11 +52,7 @@ pub fn surface_nets(
     if number != 0 {
         return a;
     }
-    let none = Made {
-        vertices: 0,
-        indices: 0,
-    };
-    passes::mesh_box(
+    pass::mesh_box(
         sdf,
         k,
         positions,
@@ -68,7 +61,6 @@ pub fn surface_nets(
         strides,
         stride_to_index,
         indices,
-        none,
     );
     a
 }

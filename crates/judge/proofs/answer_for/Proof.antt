@@ -4,7 +4,7 @@ use borrow.Author.Tests.{lt-ltb, le-ltb}
 use lib.ListN.{length}
 use Rattle.rules.specs.Call.{roomAnswer}
 use Rattle.rules.proofs.Tests.{failed}
-use Rattle.grid.specs.declared.count.Tally.{Tally}
+use Rattle.count.specs.declared.Tally.{Tally}
 use Rattle.grid.specs.Block.{point, boxOf, flagsOf, fieldOf, callOf}
 use Rattle.grid.proofs.Bounds.{corner-inside}
 use Rattle.judge.specs.Reading.{roomOf}

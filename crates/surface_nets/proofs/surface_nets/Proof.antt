@@ -2,12 +2,10 @@
 use Prim.Native.Nat.{ℕ, zero, suc, _<_}
 use mathlib.Core.Path.{_≡_, ap, sym, refl, _∙_}
 use native.Mathlib.Omega.{arith}
-use Rattle.rules.specs.Call.{Answer, Buffers, answer, room}
+use Rattle.rules.specs.Call.{Call, Buffers, Answer, answer, room}
 use Rattle.rules.proofs.Locality.{when-done, when-refused}
-use Rattle.grid.specs.Block.{callOf}
-use Rattle.step.specs.Turns.{Lent}
-use Rattle.surface_nets.specs.Reading.{buffers, blockOf}
-use Rattle.surface_nets.proofs.Reading.{pass-writes}
+use Rattle.pass.specs.Reading.{buffers}
+use Rattle.surface_nets.specs.Reading.{blockOf, callMade}
 use Rattle.surface_nets.proofs.Done.{done-inside, done-roomy}
 use borrow.Author.Needs.{needs}
 use Rattle.surface_nets.proofs.surface_nets.Statement.{statement}
@@ -17,32 +15,38 @@ above-zero : {n : ℕ} → (n ≡ 0 → ⊥) → 0 < n
 above-zero {n = zero} h = absurd (h refl)
 above-zero {n = suc n} h = omega arith
 
+-- ---- the call, its lists, and what the answer says
+
+abbrev entry-of : tie.After-answer-for → tie.Start
+entry-of c = c .before .before .before .before .before .before .before .before
+
+abbrev call-of : tie.Start → Call
+call-of s = let a = s .args in callMade (a .sdf .now) (a .dims) (a .low) (a .high) (a .max-plane)
+
+abbrev lists-of : tie.Start → Buffers
+lists-of s = let a = s .args in buffers (a .positions .now) (a .normals .now) (a .cells .now) (a .strides .now) (a .stride-to-index .now) (a .indices .now)
+
+number : (c : tie.After-answer-for) → c .answer-for .result .number ≡ answer (call-of (entry-of c)) (room (lists-of (entry-of c))) .number
+number c = ap (λ (t : Answer). t .number) (c .answer-for .ensures)
+
+-- ---- the needs
+
 answer-for-requires : tie.Need-answer-for-requires
 answer-for-requires c κs = search needs
 
 returns : tie.Need-returns
 returns c =
-    let a = c .before .before .before .before .before .before .before .before .before .args in
-    let l = a .sdf .now in
-    let k = blockOf (a .dims) (a .low) (a .high) (a .max-plane) in
-    let q = callOf l k in
-    let s = buffers (a .positions .now) (a .normals .now) (a .cells .now) (a .strides .now) (a .stride-to-index .now) (a .indices .now) in
-    let says = c .before .answer-for .ensures in
-    let number : c .before .answer-for .result .number ≡ answer q (room s) .number = ap (λ (t : Answer). t .number) says in
-    let some : 0 < answer q (room s) .number = above-zero (λ e. c .if1 .taken (number ∙ e)) in
-    (says, sym (when-refused q s some))
+    let p = c .before in
+    let s = entry-of p in
+    (p .answer-for .ensures, sym (when-refused (call-of s) (lists-of s) (above-zero (λ e. c .if1 .taken (number p ∙ e)))))
 
 mesh-box-requires : tie.Need-mesh-box-requires
 mesh-box-requires c κs =
-    let a = c .before .before .before .before .before .before .before .before .before .before .before .before .before .before .before .args in
-    let l = a .sdf .now in
+    let q = c .before .before .before .before .before .before in
+    let a = entry-of (q .before) .args in
     let k = blockOf (a .dims) (a .low) (a .high) (a .max-plane) in
-    let q = callOf l k in
-    let s = buffers (a .positions .now) (a .normals .now) (a .cells .now) (a .strides .now) (a .stride-to-index .now) (a .indices .now) in
-    let says = c .before .before .before .before .before .before .before .answer-for .ensures in
-    let number : c .before .before .before .before .before .before .before .answer-for .result .number ≡ answer q (room s) .number = ap (λ (t : Answer). t .number) says in
-    let e = sym number ∙ c .before .before .before .before .before .before .if1 .left in
-    (done-inside l k s e, ((refl, refl), done-roomy l k s e))
+    let e = sym (number (q .before)) ∙ q .if1 .left in
+    (done-inside (a .sdf .now) k (lists-of (entry-of (q .before))) e, done-roomy (a .sdf .now) k (lists-of (entry-of (q .before))) e)
 
 same-length : tie.Need-same-length
 same-length c = search needs
@@ -64,15 +68,10 @@ same-length-6 c = search needs
 
 returns-2 : tie.Need-returns-2
 returns-2 c =
-    let a = c .before .before .before .before .before .before .before .before .before .before .before .before .before .before .before .before .before .before .before .before .before .before .before .before .before .before .before .before .args in
-    let l = a .sdf .now in
-    let k = blockOf (a .dims) (a .low) (a .high) (a .max-plane) in
-    let q = callOf l k in
-    let s = buffers (a .positions .now) (a .normals .now) (a .cells .now) (a .strides .now) (a .stride-to-index .now) (a .indices .now) in
-    let says = c .before .before .before .before .before .before .before .before .before .before .before .before .before .before .before .before .before .before .before .before .answer-for .ensures in
-    let number : c .before .before .before .before .before .before .before .before .before .before .before .before .before .before .before .before .before .before .before .before .answer-for .result .number ≡ answer q (room s) .number = ap (λ (t : Answer). t .number) says in
-    let e = sym number ∙ c .before .before .before .before .before .before .before .before .before .before .before .before .before .before .before .before .before .before .before .if1 .left in
-    (says, ap (λ (u : Lent). buffers (u .positions) (u .normals) (u .cells) (u .strides) (u .map) (u .indices)) (c .before .before .before .before .before .before .before .before .before .before .before .before .mesh-box .ensures ∙ pass-writes l k (done-inside l k s e) s (done-roomy l k s e)) ∙ sym (when-done q s e))
+    let m = c .before .before .before .before .before .before .before .before .before .before .before .before in
+    let q = m .before .before .before .before .before .before .before in
+    let s = entry-of (q .before) in
+    (q .before .answer-for .ensures, m .mesh-box .ensures ∙ sym (when-done (call-of s) (lists-of s) (sym (number (q .before)) ∙ q .if1 .left)))
 
 pub surface-nets-spec : {M : Type 1} → statement M
 surface-nets-spec =

@@ -1,0 +1,72 @@
+-- The invariant: the counts are those of the cells before the row y. Assumes nothing.
+use Prim.Native.Nat.{_+_, _-_}
+use Rattle.grid.specs.Block.{boxOf}
+use Rattle.grid.specs.Order.{layerTo}
+use Rattle.grid.proofs.Walks.{Counting, begun, cell-spans, AtRow, at-row, layer-done}
+use Rattle.grid.proofs.Order.{layer-begins}
+use Rattle.count.proofs.Tallies.{Counts, counts-none, counts-all, Step, step}
+use Rattle.count.proofs.count_layer.Statement.{statement}
+use Rattle.count.proofs.count_layer.Tie as tie
+
+abbrev Inv-loop : tie.InvT-loop
+Inv-loop sdf k z from end vertices₀ indices₀ y₀ vertices indices y = Counting from end y × Counts sdf k (layerTo (boxOf k) z y) vertices indices
+
+abbrev μ-loop : tie.MeasureT-loop
+μ-loop sdf k z from end vertices₀ indices₀ y₀ vertices indices y = end - y
+
+-- the places that a later one leads back to
+abbrev entry-of : tie.At-loop Inv-loop μ-loop → tie.Start Inv-loop μ-loop
+entry-of c = c .before .before
+
+abbrev turn-of : tie.After-count-row Inv-loop μ-loop → tie.In-loop Inv-loop μ-loop
+turn-of c = c .before
+
+-- the row of a turn, and what it adds
+here : (c : tie.In-loop Inv-loop μ-loop) → let a = entry-of (c .before) .args in AtRow (a .k) (a .z) (c .before .loop .y)
+here c = at-row (entry-of (c .before) .pre .0) (c .before .loop .inv .0) (c .loop-test .taken)
+
+more : (c : tie.After-count-row Inv-loop μ-loop) → let a = entry-of (turn-of c .before) .args in let w = turn-of c .before .loop in let r = c .count-row .result in
+    Step (a .sdf .now) (a .k) (layerTo (boxOf (a .k)) (a .z) (w .y + 1)) (w .vertices) (w .indices) (r .vertices) (r .indices)
+more c = let h = here (turn-of c) in step (turn-of c .before .loop .inv .1) (record { same = c .count-row .ensures }) (h .grows) (h .short)
+
+loop-holds : tie.Need-loop-holds Inv-loop μ-loop
+loop-holds c = let s = c .before in (begun (cell-spans (s .pre .0) .y), counts-none (layer-begins (boxOf (s .args .k)) (s .args .z)))
+
+count-row-requires : tie.Need-count-row-requires Inv-loop μ-loop
+count-row-requires c κs = let s = entry-of (c .before) in (s .pre .0, (here c .turn .here, s .pre .1))
+
+add-vertices : tie.Need-add-vertices Inv-loop μ-loop
+add-vertices c = more (c .before) .vertices-fit
+
+add-indices : tie.Need-add-indices Inv-loop μ-loop
+add-indices c = more (c .before .before) .indices-fit
+
+add-y : tie.Need-add-y Inv-loop μ-loop
+add-y c = here (turn-of (c .before .before)) .turn .fits
+
+loop-less : tie.Need-loop-less Inv-loop μ-loop
+loop-less c = here (turn-of (c .before .before)) .turn .less
+
+loop-again : tie.Need-loop-again Inv-loop μ-loop
+loop-again c = (here (turn-of (c .before .before)) .turn .next, more (c .before .before) .counts)
+
+returns : tie.Need-returns Inv-loop μ-loop
+returns c =
+    let a = entry-of (c .before) .args in
+    let w = c .before .loop in
+    counts-all (w .inv .1) (layer-done (a .k) (a .z) (w .inv .0) (c .loop-test .left))
+
+pub count-layer-spec : {M : Type 1} → statement M
+count-layer-spec =
+    tie.close
+    (tie.spec
+    Inv-loop
+    μ-loop
+    loop-holds
+    count-row-requires
+    add-vertices
+    add-indices
+    add-y
+    loop-less
+    loop-again
+    returns)

@@ -1,0 +1,2 @@
+-- What the counts are, of one cell and of a list of cells.
+pub mod Tally

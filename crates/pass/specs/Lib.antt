@@ -1,0 +1,2 @@
+-- How the lent lists render document 01's buffers.
+pub mod Reading

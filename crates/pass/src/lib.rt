@@ -105,6 +105,7 @@ fn mesh_layer(
     state
 }
 
+// The whole box, layer after layer, from no vertex and no index: all that document 01 says of an answer 0.
 pub fn mesh_box(
     sdf: &[f32],
     k: Block,

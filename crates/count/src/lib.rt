@@ -20,7 +20,7 @@ pub struct Tally {
 }
 
 // 1 for an owned edge with exactly one negative end.
-pub fn face_count(own: bool, n1: bool, n2: bool) -> usize
+fn face_count(own: bool, n1: bool, n2: bool) -> usize
     ensures { λ r. ⌜ r ≡ one (own && unlike n1 n2) ⌝ }
     ensures { λ r. ⌜ r ≤ 1 ⌝ }
 {
@@ -34,7 +34,7 @@ pub fn face_count(own: bool, n1: bool, n2: bool) -> usize
 }
 
 // What one cell adds, from its corner values and the edges that the box owns.
-pub fn count_cell(d: &[f32; 8], own: Own) -> Tally
+fn count_cell(d: &[f32; 8], own: Own) -> Tally
     ensures { λ r. ⌜ r ≡ cellTally (now (d .entry)) own ⌝ }
 {
     if !cube::is_surface(d) {
@@ -53,7 +53,7 @@ pub fn count_cell(d: &[f32; 8], own: Own) -> Tally
     }
 }
 
-pub fn count_row(sdf: &[f32], k: Block, y: u32, z: u32) -> Tally
+fn count_row(sdf: &[f32], k: Block, y: u32, z: u32) -> Tally
     requires { ⌜ Inside (now sdf) k ⌝ }
     requires { ⌜ (k .low .y ≤ y) × (y < k .high .y) ⌝ }
     requires { ⌜ (k .low .z ≤ z) × (z < k .high .z) ⌝ }
@@ -79,7 +79,7 @@ pub fn count_row(sdf: &[f32], k: Block, y: u32, z: u32) -> Tally
     Tally { vertices, indices }
 }
 
-pub fn count_layer(sdf: &[f32], k: Block, z: u32) -> Tally
+fn count_layer(sdf: &[f32], k: Block, z: u32) -> Tally
     requires { ⌜ Inside (now sdf) k ⌝ }
     requires { ⌜ (k .low .z ≤ z) × (z < k .high .z) ⌝ }
     ensures { λ r. ⌜ r ≡ tallyOf (fieldOf (now (sdf .entry)) k) (boxOf k) (flagsOf k) (layerCells (boxOf k) z) ⌝ }

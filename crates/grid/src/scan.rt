@@ -13,7 +13,7 @@ use crate::Extent;
 pub const CAP: f32 = 1267650600228229401496703205376.0;
 
 // Not finite, or above the cap in magnitude.
-pub fn is_beyond(d: f32) -> bool
+fn is_beyond(d: f32) -> bool
     ensures { λ r. ⌜ r ≡ beyond d ⌝ }
 {
     if CAP < d {
@@ -35,7 +35,7 @@ pub fn either(a: bool, b: bool) -> bool
 }
 
 // A row: n distances from `at` on.
-pub fn bad_row(sdf: &[f32], at: usize, n: usize) -> bool
+fn bad_row(sdf: &[f32], at: usize, n: usize) -> bool
     requires { ⌜ at + n ≤ length (now sdf) ⌝ }
     ensures { λ r. ⌜ r ≡ badRun (now (sdf .entry)) at n ⌝ }
 {
@@ -46,7 +46,7 @@ pub fn bad_row(sdf: &[f32], at: usize, n: usize) -> bool
     bad
 }
 
-pub fn bad_layer(sdf: &[f32], k: Block, z: u32) -> bool
+fn bad_layer(sdf: &[f32], k: Block, z: u32) -> bool
     requires { ⌜ Inside (now sdf) k ⌝ }
     requires { ⌜ (k .low .z ≤ z) × (z ≤ k .high .z) ⌝ }
     ensures { λ r. ⌜ r ≡ badLayer (fieldOf (now (sdf .entry)) k) (boxOf k) z ⌝ }

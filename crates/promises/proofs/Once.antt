@@ -16,14 +16,6 @@ use Rattle.grid.proofs.corners.side_at.Kinds as side-at-kinds
 use Rattle.grid.proofs.corners.side_at.Reads as side-at
 use Rattle.grid.proofs.corners.corners.Kinds as corners-kinds
 use Rattle.grid.proofs.corners.corners.Reads as corners
-use Rattle.count.proofs.face_count.Kinds as face-count-kinds
-use Rattle.count.proofs.face_count.Reads as face-count
-use Rattle.count.proofs.count_cell.Kinds as count-cell-kinds
-use Rattle.count.proofs.count_cell.Reads as count-cell
-use Rattle.count.proofs.count_row.Kinds as count-row-kinds
-use Rattle.count.proofs.count_row.Reads as count-row
-use Rattle.count.proofs.count_layer.Kinds as count-layer-kinds
-use Rattle.count.proofs.count_layer.Reads as count-layer
 use Rattle.count.proofs.count_box.Kinds as count-box-kinds
 use Rattle.count.proofs.count_box.Reads as count-box
 use Rattle.grid.proofs.ownership.owns.Kinds as owns-kinds
@@ -32,14 +24,8 @@ use Rattle.grid.proofs.ownership.owned_at.Kinds as owned-at-kinds
 use Rattle.grid.proofs.ownership.owned_at.Reads as owned-at
 use Rattle.grid.proofs.place.linearize.Kinds as linearize-kinds
 use Rattle.grid.proofs.place.linearize.Reads as linearize
-use Rattle.grid.proofs.scan.is_beyond.Kinds as is-beyond-kinds
-use Rattle.grid.proofs.scan.is_beyond.Reads as is-beyond
 use Rattle.grid.proofs.scan.either.Kinds as either-kinds
 use Rattle.grid.proofs.scan.either.Reads as either
-use Rattle.grid.proofs.scan.bad_row.Kinds as bad-row-kinds
-use Rattle.grid.proofs.scan.bad_row.Reads as bad-row
-use Rattle.grid.proofs.scan.bad_layer.Kinds as bad-layer-kinds
-use Rattle.grid.proofs.scan.bad_layer.Reads as bad-layer
 use Rattle.grid.proofs.scan.bad_distance.Kinds as bad-distance-kinds
 use Rattle.grid.proofs.scan.bad_distance.Reads as bad-distance
 use Rattle.marks.proofs.bits.Kinds as bits-kinds
@@ -86,18 +72,6 @@ side-at-once κs a o o' l l' = let s = l ∙ sym l' in λ i. record { result = s
 pub corners-once : OneOutcome 0 corners-kinds.ps corners-kinds.r corners.Learnt
 corners-once κs a o o' l l' = let s = l ∙ sym l' in λ i. record { result = s i; last = o .last }
 
-pub face-count-once : OneOutcome 0 face-count-kinds.ps face-count-kinds.r face-count.Learnt
-face-count-once κs a o o' l l' = let s = l .0 ∙ sym (l' .0) in λ i. record { result = s i; last = o .last }
-
-pub count-cell-once : OneOutcome 1 count-cell-kinds.ps count-cell-kinds.r count-cell.Learnt
-count-cell-once κs a o o' l l' = let s = l ∙ sym l' in λ i. record { result = s i; last = o .last }
-
-pub count-row-once : OneOutcome 1 count-row-kinds.ps count-row-kinds.r count-row.Learnt
-count-row-once κs a o o' l l' = let s = l ∙ sym l' in λ i. record { result = s i; last = o .last }
-
-pub count-layer-once : OneOutcome 1 count-layer-kinds.ps count-layer-kinds.r count-layer.Learnt
-count-layer-once κs a o o' l l' = let s = l ∙ sym l' in λ i. record { result = s i; last = o .last }
-
 pub count-box-once : OneOutcome 1 count-box-kinds.ps count-box-kinds.r count-box.Learnt
 count-box-once κs a o o' l l' = let s = l ∙ sym l' in λ i. record { result = s i; last = o .last }
 
@@ -110,17 +84,8 @@ owned-at-once κs a o o' l l' = let s = same-own (l .0 ∙ sym (l' .0)) (l .1 .0
 pub linearize-once : OneOutcome 0 linearize-kinds.ps linearize-kinds.r linearize.Learnt
 linearize-once κs a o o' l l' = let s = l ∙ sym l' in λ i. record { result = s i; last = o .last }
 
-pub is-beyond-once : OneOutcome 0 is-beyond-kinds.ps is-beyond-kinds.r is-beyond.Learnt
-is-beyond-once κs a o o' l l' = let s = l ∙ sym l' in λ i. record { result = s i; last = o .last }
-
 pub either-once : OneOutcome 0 either-kinds.ps either-kinds.r either.Learnt
 either-once κs a o o' l l' = let s = l ∙ sym l' in λ i. record { result = s i; last = o .last }
-
-pub bad-row-once : OneOutcome 1 bad-row-kinds.ps bad-row-kinds.r bad-row.Learnt
-bad-row-once κs a o o' l l' = let s = l ∙ sym l' in λ i. record { result = s i; last = o .last }
-
-pub bad-layer-once : OneOutcome 1 bad-layer-kinds.ps bad-layer-kinds.r bad-layer.Learnt
-bad-layer-once κs a o o' l l' = let s = l ∙ sym l' in λ i. record { result = s i; last = o .last }
 
 pub bad-distance-once : OneOutcome 1 bad-distance-kinds.ps bad-distance-kinds.r bad-distance.Learnt
 bad-distance-once κs a o o' l l' = let s = l ∙ sym l' in λ i. record { result = s i; last = o .last }

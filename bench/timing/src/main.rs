@@ -1,14 +1,17 @@
-//! Times the proved library and the published Rust on the same grids, in turns, in one process.
+//! Times the proved library and the published Rust on the same grids, in turns, in one process, and prints
+//! the figures as docs/BENCH.md holds them.
 //!
-//! `timing DEFAULT.so SCALAR.so`: two builds of the original, as rustc optimises by default and without
-//! vectorising. Each is run with dimensions known as the program runs and as the compiler knows them.
-//! The library's ratio is to the fastest of these four.
+//! `timing DEFAULT.so DEFAULT-LTO.so SCALAR.so SCALAR-LTO.so`: four builds of the original. Each is run with
+//! dimensions known as the program runs and as the compiler knows them, so that there are eight originals,
+//! and the library is held against each.
 
+mod clock;
 mod grids;
+mod page;
 mod runners;
 
-use runners::{Library, Original, Runner};
-use std::time::Instant;
+use page::Row;
+use runners::{Library, Original, PlainLoop, Runner};
 
 /// Rounds, each of which runs everyone once.
 const ROUNDS: usize = 31;
@@ -16,59 +19,63 @@ const ROUNDS: usize = 31;
 /// A time is taken over as many meshes as this many points need.
 const POINTS_A_TIME: usize = 1_000_000;
 
+/// The library, the plain loop, and each build of the original with both kinds of dimensions.
+const RUNNERS: usize = 2 + page::ORIGINALS;
+
 fn main() {
     let paths: Vec<String> = std::env::args().skip(1).collect();
-    let [by_default, scalar] = &paths[..] else {
-        eprintln!("usage: timing DEFAULT.so SCALAR.so");
+    if paths.len() != page::BUILDS.len() {
+        eprintln!("usage: timing DEFAULT.so DEFAULT-LTO.so SCALAR.so SCALAR-LTO.so");
         std::process::exit(2);
-    };
-    let originals = [by_default, scalar].map(|path| Original::load(path));
-    println!("{ROUNDS} rounds, medians, milliseconds a mesh");
-    println!(
-        "{:<14}{:>5}{:>10}{:>10}{:>10}{:>10}{:>10}{:>8}{:>10}",
-        "", "side", "library", "default", "  constant", "scalar", "  constant", "ratio", "ns/point"
-    );
+    }
+    let originals: Vec<Original> = paths
+        .iter()
+        .map(|path| Original::load(path))
+        .flat_map(|build| [build, build.with_constant_shape()])
+        .collect();
+    let mut rows = Vec::new();
     for side in [34, 66, 130, 258] {
-        report("ball", side, &grids::ball(side), originals);
+        rows.push(measure("ball", side, &grids::ball(side), &originals));
     }
     for side in [34, 66] {
-        report("random signs", side, &grids::random_signs(side), originals);
+        rows.push(measure(
+            "random signs",
+            side,
+            &grids::random_signs(side),
+            &originals,
+        ));
     }
+    page::print(&rows, ROUNDS);
 }
 
-/// Times everyone on one grid and prints a line.
-fn report(name: &str, side: u32, grid: &[f32], [by_default, scalar]: [Original; 2]) {
+/// Times everyone on one grid.
+fn measure(grid_name: &'static str, side: u32, grid: &[f32], originals: &[Original]) -> Row {
     let mut library = Library::default();
     library.make_room(grid, side);
-    let mut runners: [Box<dyn Runner>; 5] = [
-        Box::new(library),
-        Box::new(by_default),
-        Box::new(by_default.with_constant_shape()),
-        Box::new(scalar),
-        Box::new(scalar.with_constant_shape()),
-    ];
+    let plain_loop = PlainLoop::beside(&library);
+    let mut runners: Vec<Box<dyn Runner>> = vec![Box::new(library), Box::new(plain_loop)];
+    runners.extend(originals.iter().map(|&original| Box::new(original) as _));
     warm_up(&mut runners, grid, side);
-    let medians = medians(&mut runners, grid, side);
-    let fastest = medians[1..].iter().copied().fold(f64::INFINITY, f64::min);
-    let times: String = medians
-        .iter()
-        .map(|seconds| format!("{:>10.3}", 1e3 * seconds))
-        .collect();
-    println!(
-        "{name:<14}{side:>5}{times}{:>8.2}{:>10.2}",
-        medians[0] / fastest,
-        1e9 * medians[0] / grid.len() as f64
-    );
+    let times = medians(&mut runners, grid, side);
+    Row {
+        grid_name,
+        side,
+        points: grid.len(),
+        library: times[0],
+        plain_loop: times[1],
+        originals: std::array::from_fn(|i| times[2 + i]),
+    }
 }
 
 /// Runs everyone twice, so that buffers are grown and touched, and makes sure that all made one mesh.
-fn warm_up(runners: &mut [Box<dyn Runner>; 5], grid: &[f32], side: u32) {
+fn warm_up(runners: &mut [Box<dyn Runner>], grid: &[f32], side: u32) {
     let mut meshes = Vec::new();
     for runner in runners.iter_mut() {
         runner.mesh(grid, side);
         runner.mesh(grid, side);
-        meshes.push(runner.indices());
+        meshes.extend(runner.indices());
     }
+    assert_eq!(meshes.len(), RUNNERS - 1, "all but the plain loop mesh");
     assert!(
         meshes.iter().all(|mesh| *mesh == meshes[0]),
         "not all made the same mesh"
@@ -76,20 +83,20 @@ fn warm_up(runners: &mut [Box<dyn Runner>; 5], grid: &[f32], side: u32) {
 }
 
 /// The median time of each, over rounds in which they take turns; each round begins with another.
-fn medians(runners: &mut [Box<dyn Runner>; 5], grid: &[f32], side: u32) -> [f64; 5] {
+fn medians(runners: &mut [Box<dyn Runner>], grid: &[f32], side: u32) -> Vec<f64> {
     let meshes = (POINTS_A_TIME / grid.len()).max(1);
-    let mut times: [Vec<f64>; 5] = Default::default();
+    let mut times = vec![Vec::new(); runners.len()];
     for round in 0..ROUNDS {
         for turn in 0..runners.len() {
             let who = (round + turn) % runners.len();
-            let start = Instant::now();
+            let start = clock::thread_seconds();
             for _ in 0..meshes {
                 runners[who].mesh(grid, side);
             }
-            times[who].push(start.elapsed().as_secs_f64() / meshes as f64);
+            times[who].push((clock::thread_seconds() - start) / meshes as f64);
         }
     }
-    times.map(median)
+    times.into_iter().map(median).collect()
 }
 
 fn median(mut times: Vec<f64>) -> f64 {

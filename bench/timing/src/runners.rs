@@ -1,17 +1,19 @@
-//! Those who are timed: the proved library over lent buffers, and builds of the original.
+//! Those who are timed: the proved library over lent buffers, builds of the original, and a plain loop that
+//! moves the same numbers and does nothing with them.
 
 use bed::{surface_nets_lent, Counts, Lent, Refusal};
 use std::ffi::{c_char, c_int, c_void, CString};
+use std::hint::black_box;
 
 /// One who meshes a cube into warm memory.
 pub trait Runner {
     fn mesh(&mut self, grid: &[f32], side: u32);
-    /// The last mesh's indices, to see that all made the same.
-    fn indices(&self) -> Vec<u32>;
+    /// The last mesh's indices, to see that all made the same; none of one who makes no mesh.
+    fn indices(&self) -> Option<Vec<u32>>;
 }
 
 /// The proved library, with exactly the room that the grid at hand needs.
-#[derive(Default)]
+#[derive(Clone, Default)]
 pub struct Library {
     floats: [Vec<f32>; 2],
     words: [Vec<u32>; 4],
@@ -59,8 +61,39 @@ impl Runner for Library {
         self.call(grid, side).expect("there is room");
     }
 
-    fn indices(&self) -> Vec<u32> {
-        self.words[3].clone()
+    fn indices(&self) -> Option<Vec<u32>> {
+        Some(self.words[3].clone())
+    }
+}
+
+/// What no mesher can be quicker than: each distance read once, each map entry and each number of the
+/// mesh written once, in lists as long as the library's.
+pub struct PlainLoop(Library);
+
+impl PlainLoop {
+    /// Over lists of its own, as long as those that are lent to the library.
+    pub fn beside(library: &Library) -> Self {
+        Self(library.clone())
+    }
+}
+
+impl Runner for PlainLoop {
+    fn mesh(&mut self, grid: &[f32], _side: u32) {
+        let [cells, strides, map, indices] = &mut self.0.words;
+        for (entry, distance) in map.iter_mut().zip(grid) {
+            *entry = u32::from(*distance < 0.0);
+        }
+        for list in &mut self.0.floats {
+            list.fill(black_box(0.5));
+        }
+        for list in [cells, strides, indices] {
+            list.fill(black_box(7));
+        }
+        black_box(&mut self.0);
+    }
+
+    fn indices(&self) -> Option<Vec<u32>> {
+        None
     }
 }
 
@@ -110,13 +143,14 @@ impl Runner for Original {
         unsafe { (self.mesh_cube)(grid.as_ptr(), side, self.shape_is_constant) };
     }
 
-    fn indices(&self) -> Vec<u32> {
+    fn indices(&self) -> Option<Vec<u32>> {
         let mut first = std::ptr::null();
         // SAFETY: the list stays as it is until the next mesh, and is copied before.
-        unsafe {
+        let mesh = unsafe {
             let length = (self.indices)(&mut first);
-            std::slice::from_raw_parts(first, length).to_vec()
-        }
+            std::slice::from_raw_parts(first, length)
+        };
+        Some(mesh.to_vec())
     }
 }
 

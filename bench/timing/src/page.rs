@@ -1,0 +1,140 @@
+//! The figures as docs/BENCH.md holds them: the worst first, then every ratio, then every time.
+
+/// The builds of the original, in the order in which the program is given them. The last two are scalar.
+pub const BUILDS: [&str; 4] = ["default", "LTO", "scalar", "scalar LTO"];
+
+/// Each build twice: dimensions known as the program runs, then as the compiler knows them.
+pub const ORIGINALS: usize = 2 * BUILDS.len();
+
+/// The first of the scalar originals, which document 02's request 12 speaks of.
+const FIRST_SCALAR: usize = 4;
+
+/// Median seconds a mesh on one grid.
+pub struct Row {
+    pub grid_name: &'static str,
+    pub side: u32,
+    pub points: usize,
+    pub library: f64,
+    pub plain_loop: f64,
+    pub originals: [f64; ORIGINALS],
+}
+
+impl Row {
+    fn cells(&self) -> String {
+        format!("| {} | {} |", self.grid_name, self.side)
+    }
+
+    fn ratio(&self, original: usize) -> f64 {
+        self.library / self.originals[original]
+    }
+
+    /// The original, from `first` on, that is the fastest here.
+    fn fastest_from(&self, first: usize) -> usize {
+        (first..ORIGINALS)
+            .min_by(|&a, &b| self.originals[a].total_cmp(&self.originals[b]))
+            .expect("there are originals")
+    }
+
+    fn worst(&self) -> f64 {
+        self.ratio(self.fastest_from(0))
+    }
+}
+
+pub fn print(rows: &[Row], rounds: usize) {
+    print_head(rows);
+    println!("\nMedians of {rounds} rounds. The library's time divided by each build's:\n");
+    print_titles(&["worst"], &original_names());
+    for row in rows {
+        let ratios = (0..ORIGINALS).map(|i| row.ratio(i));
+        print_row(row, std::iter::once(row.worst()).chain(ratios), 2);
+    }
+    println!("\nMilliseconds a mesh:\n");
+    print_titles(&["library"], &original_names());
+    for row in rows {
+        let times = std::iter::once(&row.library).chain(&row.originals);
+        print_row(row, times.map(|seconds| 1e3 * seconds), 3);
+    }
+    println!(
+        "\nThe plain loop, and how many times as long the library and the fastest original take:\n"
+    );
+    print_titles(
+        &[
+            "plain loop, ms",
+            "library",
+            "fastest original",
+            "library, ns a point",
+        ],
+        &[],
+    );
+    for row in rows {
+        let fastest = row.originals[row.fastest_from(0)];
+        println!(
+            "{} {:.3} | {:.1} | {:.1} | {:.2} |",
+            row.cells(),
+            1e3 * row.plain_loop,
+            row.library / row.plain_loop,
+            fastest / row.plain_loop,
+            1e9 * row.library / row.points as f64,
+        );
+    }
+}
+
+/// The worst ratio of all, and the figure that document 02's request 12 asks for.
+fn print_head(rows: &[Row]) {
+    let worst = rows
+        .iter()
+        .max_by(|a, b| a.worst().total_cmp(&b.worst()))
+        .expect("there are rows");
+    println!(
+        "**The worst: the library takes {:.2} times the original's time** ({}, side {}, to the build \"{}\").",
+        worst.worst(),
+        worst.grid_name,
+        worst.side,
+        original_names()[worst.fastest_from(0)],
+    );
+    let scalar: Vec<String> = rows
+        .iter()
+        .filter(|row| row.side == 66)
+        .map(|row| {
+            let fastest = row.fastest_from(FIRST_SCALAR);
+            format!(
+                "{:.2} on the {} (\"{}\": {:.3} ms, the library {:.3} ms)",
+                row.ratio(fastest),
+                row.grid_name,
+                original_names()[fastest],
+                1e3 * row.originals[fastest],
+                1e3 * row.library,
+            )
+        })
+        .collect();
+    println!(
+        "**Request 12 of document 02** asks at most 2 at side 66, to the Rust built scalar and optimised. To the\n\
+         fastest of the four scalar builds it is {}.",
+        scalar.join(" and ")
+    );
+}
+
+/// The columns of the originals, in their order.
+fn original_names() -> Vec<String> {
+    BUILDS
+        .iter()
+        .flat_map(|build| [build.to_string(), format!("{build}, constant")])
+        .collect()
+}
+
+fn print_titles(own: &[&str], originals: &[String]) {
+    let titles: Vec<&str> = ["grid", "side"]
+        .into_iter()
+        .chain(own.iter().copied())
+        .chain(originals.iter().map(String::as_str))
+        .collect();
+    println!("| {} |", titles.join(" | "));
+    println!("|{}", "---|".repeat(titles.len()));
+}
+
+fn print_row(row: &Row, numbers: impl Iterator<Item = f64>, digits: usize) {
+    let numbers: String = numbers
+        .map(|number| format!(" {number:.digits$} |"))
+        .collect();
+    println!("{}{numbers}", row.cells());
+}

@@ -7,6 +7,9 @@
  *
  * Link libbed.a. Numbers are IEEE 754 binary32; every operation rounds once, so that the same call gives
  * the same bits on every machine.
+ *
+ * All that is said here is said of the floating-point environment in which every program starts: round to
+ * nearest, subnormal numbers kept, no traps. The library neither tests nor sets it. See bed_environment.
  */
 #ifndef BED_H
 #define BED_H
@@ -16,9 +19,60 @@
 #ifndef __cplusplus
 #include <stdbool.h>
 #endif
+#if defined(__x86_64__) || defined(_M_X64)
+#include <xmmintrin.h>
+#else
+#include <fenv.h>
+#endif
 
 #ifdef __cplusplus
 extern "C" {
+#endif
+
+/* A guard for callers who do not know their thread's floating-point environment. Start-up code that
+ * -ffast-math links in, audio and graphics code set flush-to-zero, denormals-are-zero or another rounding
+ * direction, and the library would then compute in it: vertices that are not numbers on BED_DONE, a
+ * surface that is missed, a bed called enclosed that is not. Every function below is to be called in the
+ * default environment, and so is each of them between these two:
+ *
+ *     bed_environment kept = bed_enter_environment();
+ *     answer = bed_surface_nets(..);
+ *     bed_leave_environment(kept);
+ *
+ * bed_enter_environment sets the thread's default environment and gives back what stood there;
+ * bed_leave_environment sets that again, its exception flags included. They take some nanoseconds. Between
+ * them keep to calls of this library: a compiler may move your own arithmetic into that place or out of
+ * it. On x86-64 the environment is MXCSR, since the library's code is SSE alone; elsewhere it is the C
+ * library's, and -lm is linked. */
+#if defined(__x86_64__) || defined(_M_X64)
+typedef unsigned int bed_environment;
+
+static inline bed_environment bed_enter_environment(void)
+{
+    bed_environment kept = _mm_getcsr();
+    _mm_setcsr(0x1F80);
+    return kept;
+}
+
+static inline void bed_leave_environment(bed_environment kept)
+{
+    _mm_setcsr(kept);
+}
+#else
+typedef fenv_t bed_environment;
+
+static inline bed_environment bed_enter_environment(void)
+{
+    bed_environment kept;
+    fegetenv(&kept);
+    fesetenv(FE_DFL_ENV);
+    return kept;
+}
+
+static inline void bed_leave_environment(bed_environment kept)
+{
+    fesetenv(&kept);
+}
 #endif
 
 /* What a call answers. The conditions are tried in the order of their numbers and the first that holds

@@ -1,5 +1,6 @@
 //! Whether the mesh of a box has no hole, from the distances alone.
 
+use crate::environment::DefaultEnvironment;
 use crate::lent::Counts;
 use crate::raw::bed_is_enclosed;
 use crate::refusal::Refusal;
@@ -25,6 +26,7 @@ pub fn is_enclosed(
     max: [u32; 3],
 ) -> Result<bool, Refusal> {
     let mut enclosed = false;
+    let _environment = DefaultEnvironment::enter();
     // SAFETY: the pointer and length come from a slice, which is aligned and never null, and `enclosed`
     // is a variable of its own.
     let answer = unsafe {

@@ -1,5 +1,6 @@
 //! Mesh files over lent bytes: nothing is opened or allocated, and what is not written is kept.
 
+use crate::environment::DefaultEnvironment;
 use crate::raw::{bed_read_mesh, bed_write_mesh};
 use std::fmt;
 
@@ -109,6 +110,7 @@ pub fn write_mesh(
     file: &mut [u8],
 ) -> Result<u64, FileRefusal> {
     let mut bytes = 0;
+    let _environment = DefaultEnvironment::enter();
     // SAFETY: every pointer and length come from a slice, which is aligned and never null; the lent
     // bytes are borrowed mutably, so that they overlap nothing.
     let answer = unsafe {
@@ -138,6 +140,7 @@ pub fn read_mesh(
     indices: &mut [u32],
 ) -> Result<FileCounts, FileRefusal> {
     let mut counts = FileCounts::default();
+    let _environment = DefaultEnvironment::enter();
     // SAFETY: every pointer and length come from a slice, which is aligned and never null; the lent
     // lists are borrowed mutably apart from each other and from the file, so nothing overlaps.
     let answer = unsafe {

@@ -1,5 +1,6 @@
 //! The call over lent slices: nothing is allocated, and what is not written is kept.
 
+use crate::environment::DefaultEnvironment;
 use crate::raw::bed_surface_nets;
 use crate::refusal::Refusal;
 
@@ -36,6 +37,7 @@ pub fn surface_nets_lent(
     lent: &mut Lent,
 ) -> Result<Counts, Refusal> {
     let mut counts = Counts::default();
+    let _environment = DefaultEnvironment::enter();
     // SAFETY: every pointer and length come from a slice, which is aligned and never null; the lent
     // slices are borrowed mutably apart from each other and from the grid, so nothing overlaps.
     let answer = unsafe {

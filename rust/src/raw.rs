@@ -1,4 +1,5 @@
-//! The C functions as `include/bed.h` declares them.
+//! The C functions as `include/bed.h` declares them. They are to be called in the default floating-point
+//! environment; the crate's other functions see to that themselves.
 
 extern "C" {
     /// Meshes the box min..=max of a grid into lent buffers and returns the answer number, 0 to 7.

@@ -6,6 +6,7 @@
 //! and the library is held against each.
 
 mod clock;
+mod environment;
 mod grids;
 mod page;
 mod runners;
@@ -46,6 +47,7 @@ fn main() {
         ));
     }
     page::print(&rows, ROUNDS);
+    environment::print();
 }
 
 /// Times everyone on one grid.

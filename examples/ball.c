@@ -1,6 +1,7 @@
-/* ball.c: meshes a ball and prints its counts and its first triangle.
+/* ball.c: meshes a ball and prints its counts, its first triangle and the volume that its triangles enclose.
  *
- * The usual way to call: once with empty lists to learn V and I, then with lists of that length. */
+ * The usual way to call: once with empty lists to learn V and I, then with lists of that length. The volume
+ * shows which way triangles wind: turned the other way it would be below zero. */
 
 #include "bed.h"
 
@@ -70,6 +71,20 @@ static void print_first_triangle(const struct mesh *m) {
     }
 }
 
+/* A sixth of the sum of the triangles' determinants: above zero if they look outwards. */
+static double volume(const struct mesh *m) {
+    double sum = 0;
+    for (uint64_t i = 0; i < m->indices_used; i += 3) {
+        const float *a = m->positions + 3 * m->indices[i];
+        const float *b = m->positions + 3 * m->indices[i + 1];
+        const float *c = m->positions + 3 * m->indices[i + 2];
+        sum += (double)a[0] * ((double)b[1] * c[2] - (double)b[2] * c[1]);
+        sum += (double)a[1] * ((double)b[2] * c[0] - (double)b[0] * c[2]);
+        sum += (double)a[2] * ((double)b[0] * c[1] - (double)b[1] * c[0]);
+    }
+    return sum / 6;
+}
+
 static void free_mesh(struct mesh *m) {
     free(m->positions);
     free(m->normals);
@@ -80,7 +95,8 @@ static void free_mesh(struct mesh *m) {
 
 int main(void) {
     struct mesh m = {0};
-    fill_with_ball(9.5f, 7.0f);
+    const double radius = 7, of_the_ball = 4.0 / 3.0 * 3.14159265358979 * radius * radius * radius;
+    fill_with_ball(9.5f, (float)radius);
     uint32_t answer = mesh_whole_grid(&m);
     if (answer != BED_VERTICES_SHORT) {
         fprintf(stderr, "answer %u where a lack of room was awaited\n", (unsigned)answer);
@@ -96,6 +112,12 @@ int main(void) {
            (unsigned long long)m.indices_used);
     puts("first triangle");
     print_first_triangle(&m);
+    double enclosed = volume(&m);
     free_mesh(&m);
+    printf("volume %.1f, the ball's own %.1f\n", enclosed, of_the_ball);
+    if (enclosed < 0.95 * of_the_ball || enclosed > of_the_ball) {
+        fputs("the triangles do not look outwards, or the mesh is not the ball's\n", stderr);
+        return 1;
+    }
     return 0;
 }

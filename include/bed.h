@@ -33,17 +33,17 @@ extern "C" {
  * -ffast-math links in, audio and graphics code set flush-to-zero, denormals-are-zero or another rounding
  * direction, and the library would then compute in it: vertices that are not numbers on BED_DONE, a
  * surface that is missed, a bed called enclosed that is not. Every function below is to be called in the
- * default environment, and so is each of them between these two:
+ * default environment, and between these two it is:
  *
  *     bed_environment kept = bed_enter_environment();
  *     answer = bed_surface_nets(..);
  *     bed_leave_environment(kept);
  *
  * bed_enter_environment sets the thread's default environment and gives back what stood there;
- * bed_leave_environment sets that again, its exception flags included. They take some nanoseconds. Between
- * them keep to calls of this library: a compiler may move your own arithmetic into that place or out of
- * it. On x86-64 the environment is MXCSR, since the library's code is SSE alone; elsewhere it is the C
- * library's, and -lm is linked. */
+ * bed_leave_environment sets that again, its exception flags included. They take tens of nanoseconds.
+ * Between them keep to calls of this library: a compiler may move your own arithmetic into that place or out
+ * of it. On x86-64 the environment is MXCSR, since the library's code is SSE alone; elsewhere it is the C
+ * library's, and -lm is to be linked. */
 #if defined(__x86_64__) || defined(_M_X64)
 typedef unsigned int bed_environment;
 
@@ -117,7 +117,11 @@ enum bed_answer {
  *   strides          the index of each vertex's cell in the grid.
  *   stride_to_index  the cell map, as long as the grid at least: entry i is the vertex of the cell at
  *                    grid index i, or BED_NO_VERTEX.
- *   indices          triangles, three vertex numbers each, two triangles a face. Counted from 0.
+ *   indices          triangles, three vertex numbers each, two triangles a face. Counted from 0. A face
+ *                    looks from the negative end of its grid edge to the other, out of the bed: seen from
+ *                    there its corners run counter-clockwise round the edge, x, y, z being right-handed.
+ *                    So a sixth of the sum of the triangles' determinants is the bed's volume, not its
+ *                    negative, where the mesh is closed.
  *
  * Out, on every answer:
  *   vertex_count     V, the number of vertices: written on BED_DONE, needed on BED_VERTICES_SHORT and
@@ -163,6 +167,11 @@ uint32_t bed_surface_nets(
  *
  * It does not say that triangles have an area, that the mesh does not touch or cross itself, or that it is
  * in one piece. A no does not say that there is a hole.
+ *
+ * A bed that touches floor or walls has points below zero on the box's sides, so it is never enclosed, and
+ * its mesh is an open sheet. To close it, mesh a copy of the grid with a border of points above zero: one
+ * layer at min and two at max, on each axis (examples/closed_bed.c). The wall then lies between the
+ * outermost point and the border, the nearer to the point the larger the border's value.
  *
  * enclosed is never null, points to a bool that holds false or true, and may not overlap the grid; sdf may
  * be null only where its length is 0.

@@ -13,7 +13,8 @@ pub struct SurfaceNetsBuffer {
     pub positions: Vec<[f32; 3]>,
     /// The gradient at each vertex, not of unit length.
     pub normals: Vec<[f32; 3]>,
-    /// Triangles, three vertex numbers each.
+    /// Triangles, three vertex numbers each. They look out of the bed: a face's corners run counter-clockwise
+    /// round its grid edge, seen from the end that is not negative, with x, y, z right-handed.
     pub indices: Vec<u32>,
     /// The cell of each vertex, named by its lowest corner.
     pub surface_points: Vec<[u32; 3]>,

@@ -13,6 +13,9 @@ use crate::refusal::Refusal;
 /// its mesh is empty. A no does not say that there is a hole. Refused are [`Refusal::Dimensions`],
 /// [`Refusal::Box`] and [`Refusal::GridShort`] alone.
 ///
+/// A bed that touches floor or walls has negative points on the box's sides and is never enclosed. To close it,
+/// mesh a copy of the grid with a border of positive points, one layer at min and two at max on each axis.
+///
 /// ```
 /// let mut sdf = [1.0; 64];
 /// sdf[21] = -1.0;

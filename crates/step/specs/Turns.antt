@@ -1,5 +1,6 @@
--- What the inner functions do to the lent lists, one cell after the other. These follow the code; they stand outside the rules and in no public
--- contract: proofs/ shows that they leave what document 01 says. Definitions only. Assumes nothing.
+-- What the inner functions do to the lent lists, one cell after the other. These follow the code and stand outside the rules. Two public contracts name
+-- them, both inner (docs/PROMISES.md): `mesh_cell`'s, and `mesh_box`'s in the pass for the room that it asks for. That they leave what document 01 says
+-- is shown in the pass. Definitions only. Assumes nothing.
 use Prim.Native.Nat.{ℕ, _+_, _-_, _*_, _^_, _≤_, _<_}
 use mathlib.Core.Bool.{Bool, true, false, _&&_, cond}
 use mathlib.Core.List.{List, [], _∷_}

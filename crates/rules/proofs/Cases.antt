@@ -1,5 +1,6 @@
 -- Document 01, "Bench grids": each case that it marks P, and some more, as one table that the kernel computes from the definitions, and one law
--- that gives each entry. From the definitions alone. Assumes nothing.
+-- that gives each entry. The wanted numbers are document 01's own where it gives them, and else what the published Rust makes of the same calls
+-- (crates/bench_grids/stdout). Vectors, beside this, adds numbers of the Rust on which slips of the arithmetic show. Assumes nothing.
 use Prim.Native.Nat.{ℕ, zero, suc, _/_, _%_, _^_, _<_}
 use mathlib.Core.Bool.{Bool, true, false, _&&_, cond}
 use mathlib.Core.List.{List, [], _∷_, _++_, map}
@@ -14,9 +15,9 @@ use lib.Ieee.{Float, nan, inf, fin, binary32, add, sub, mul, div, lt, ofInt, rou
 use lib.Ieee.Fits.{and-l, and-r}
 use Rattle.rules.specs.Lists.{run, upTo, keep, many, some, joined, place, placed}
 use Rattle.rules.specs.Grid.{GridPoint, axisX, axisY, Field, index}
-use Rattle.rules.specs.Cell.{Vector, zero32, one32, fraction, pointBetween, crossingPoint, crossingPoints, summed, crossings, centroid, position, normal}
-use Rattle.rules.specs.Vertices.{rowCells, layerCells, cells, layerVertices, vertices, firstVertex, vertexPosition, vertexNormal, cellEntry, mapEntry, nullVertex}
-use Rattle.rules.specs.Faces.{allThree, owned, changes, cellEdges, layerEdges, edges, shorter, faceCells, layerIndices, indices, layerPoints, points, changingEdges}
+use Rattle.rules.specs.Cell.{Vector, zero32, one32, squaredDistance, fraction, pointBetween, crossingPoint, crossingPoints, summed, crossings, centroid, position, normal}
+use Rattle.rules.specs.Vertices.{rowCells, layerCells, cells, layerVertices, vertices, firstVertex, vertexPosition, vertexNormal, cellEntry, mapEntry}
+use Rattle.rules.specs.Faces.{Edge, allThree, owned, changes, cellEdges, layerEdges, edges, cell1, cell2, cell3, cell4, shorter, faceCells, layerIndices, indices, layerPoints, points, changingEdges}
 use Rattle.rules.specs.Call.{Call, Buffers, room, Answer, badDimensions, badBox, badLength, beyond, badLayer, badDistance, roomAnswer, answer, written, afterwards}
 use Rattle.rules.specs.Cutting.{Piece, Cuts, uncut, cut, pieces, Fits}
 
@@ -24,7 +25,7 @@ use Rattle.rules.specs.Cutting.{Piece, Cuts, uncut, cut, pieces, Fits}
 
 -- which numbers of a call's outcome are looked at
 pub data Asked : Type 0 where
-  theAnswer theIndices theStrides theBuffers : Asked
+  theAnswer theIndices theStrides theDiagonals theBuffers : Asked
   positionOf normalOf : ℕ → Asked
 
 pub record Case : Type 0 where
@@ -39,7 +40,7 @@ bits x = toBits binary32 x
 abbrev three : Vector → List ℕ
 three v = bits (v .x) ∷ bits (v .y) ∷ bits (v .z) ∷ []
 
-abbrev lowest : GridPoint
+abbrev pub lowest : GridPoint
 lowest = record { x = 0; y = 0; z = 0 }
 
 abbrev numbers : Answer → List ℕ
@@ -49,11 +50,19 @@ numbers r = r .number ∷ r .vertices ∷ r .indices ∷ []
 abbrev contents : Buffers → List ℕ
 contents s = map bits (s .positions) ++ (map bits (s .normals) ++ (s .cells ++ (s .strides ++ (s .map ++ s .indices))))
 
+-- the squared distances v1-v4 and v2-v3 of an edge's face
+abbrev diagonals : Field → Edge → List ℕ
+diagonals g e =
+    bits (squaredDistance (vertexPosition g (cell1 e)) (vertexPosition g (cell4 e)))
+    ∷ bits (squaredDistance (vertexPosition g (cell2 e)) (vertexPosition g (cell3 e)))
+    ∷ []
+
 -- the outcome's numbers, from the definitions: floats by their bits
 abbrev pub got : Asked → Call → Buffers → List ℕ
 got theAnswer c s = numbers (answer c (room s))
 got theIndices c s = indices (c .grid) (c .box) (c .flags)
 got theStrides c s = map (index (c .grid .dims)) (vertices (c .grid) (c .box))
+got theDiagonals c s = joined (diagonals (c .grid)) (edges (c .grid) (c .box) (c .flags))
 got (positionOf v) c s = three (vertexPosition (c .grid) (getD (vertices (c .grid) (c .box)) v lowest))
 got (normalOf v) c s = three (vertexNormal (c .grid) (getD (vertices (c .grid) (c .box)) v lowest))
 got theBuffers c s = contents (afterwards c s)
@@ -63,10 +72,10 @@ Holds k = got (k .asked) (k .call) (k .lent) ≡ k .wanted
 
 -- ---- the grids
 
-abbrev point : ℕ → ℕ → ℕ → GridPoint
+abbrev pub point : ℕ → ℕ → ℕ → GridPoint
 point x y z = record { x = x; y = y; z = z }
 
-abbrev minusOne : Float
+abbrev pub minusOne : Float
 minusOne = fin true 1 (pos 0)
 
 -- one distance changed
@@ -76,18 +85,14 @@ with i v f j = cond (eqb i j) v (f j)
 abbrev ones : ℕ → Float
 ones j = one32
 
-abbrev ball : ℕ → Float
+abbrev pub ball : ℕ → Float
 ball = with 13 minusOne ones
 
 -- inside where the point's bit is set
-abbrev bitGrid : ℕ → ℕ → Float
+abbrev pub bitGrid : ℕ → ℕ → Float
 bitGrid word j = cond (eqb (word / 2 ^ j % 2) 1) minusOne one32
 
--- a cell whose eight corners are -1 or 0
-abbrev listed : ℕ → Float
-listed j = getD (minusOne ∷ zero32 ∷ zero32 ∷ minusOne ∷ zero32 ∷ zero32 ∷ zero32 ∷ minusOne ∷ []) j one32
-
-abbrev calls : GridPoint → ℕ → (ℕ → Float) → GridPoint → GridPoint → Bool → Call
+abbrev pub calls : GridPoint → ℕ → (ℕ → Float) → GridPoint → GridPoint → Bool → Call
 calls dims size dist low high plane =
     record { grid = record { dims = dims; dist = dist }; size = size; box = record { low = low; high = high }; flags = allThree plane }
 
@@ -96,8 +101,12 @@ abbrev threes : (ℕ → Float) → GridPoint → GridPoint → Call
 threes dist low high = calls (point 3 3 3) 27 dist low high false
 
 -- box 0,0,0 to 2,2,2
-abbrev whole : (ℕ → Float) → Call
+abbrev pub whole : (ℕ → Float) → Call
 whole dist = threes dist lowest (point 2 2 2)
+
+-- with max plane
+abbrev pub wholePlane : (ℕ → Float) → Call
+wholePlane dist = calls (point 3 3 3) 27 dist lowest (point 2 2 2) true
 
 -- ---- the lent lists
 
@@ -118,10 +127,10 @@ marked positions normals cells strides map' indices' =
     }
 
 -- room for 8 vertices and 6 faces, one number more in each list, and a map for 27
-abbrev roomy : Buffers
+abbrev pub roomy : Buffers
 roomy = marked 25 25 25 9 27 37
 
-abbrev case : Call → Buffers → Asked → List ℕ → Case
+abbrev pub case : Call → Buffers → Asked → List ℕ → Case
 case c s a w = record { call = c; lent = s; asked = a; wanted = w }
 
 abbrev answers : Call → Buffers → ℕ → ℕ → ℕ → Case
@@ -160,14 +169,14 @@ ballIndices = 2 ∷ 1 ∷ 0 ∷ 2 ∷ 3 ∷ 1 ∷ 1 ∷ 4 ∷ 0 ∷ 1 ∷ 5 ∷ 
 
 abbrev pub cases : List Case
 cases =
-    -- Ball: every diagonal ties
+    -- Ball
     answers (whole ball) roomy 0 8 18
     ∷ case (whole ball) roomy theStrides (0 ∷ 1 ∷ 3 ∷ 4 ∷ 9 ∷ 10 ∷ 12 ∷ 13 ∷ [])
     ∷ case (whole ball) roomy theIndices (2 ∷ 1 ∷ 0 ∷ 2 ∷ 3 ∷ 1 ∷ 1 ∷ 4 ∷ 0 ∷ 1 ∷ 5 ∷ 4 ∷ 4 ∷ 2 ∷ 0 ∷ 4 ∷ 6 ∷ 2 ∷ [])
     ∷ case (whole ball) roomy (positionOf 0) (0x3F555555 ∷ 0x3F555555 ∷ 0x3F555555 ∷ [])
     ∷ case (whole ball) roomy (positionOf 1) (0x3F955555 ∷ 0x3F555555 ∷ 0x3F555555 ∷ [])
     -- "Ball with max plane"
-    ∷ answers (calls (point 3 3 3) 27 ball lowest (point 2 2 2) true) roomy 0 8 36
+    ∷ answers (wholePlane ball) roomy 0 8 36
     -- "All 1.0, and Ball with -0.0 at the middle"
     ∷ answers (whole ones) roomy 0 0 0
     ∷ answers (whole (with 13 (fin true 0 (pos 0)) ones)) roomy 0 0 0
@@ -216,16 +225,13 @@ cases =
     ∷ answers (whole (with 26 nan ball)) (marked 24 24 24 8 26 18) 4 0 0
     ∷ answers (whole (with 26 nan ball)) (marked 0 0 0 0 27 0) 5 0 0
     -- a grid that takes each of the four branches of a face
-    ∷ answers (calls (point 3 3 3) 27 (bitGrid 0x2015) lowest (point 2 2 2) true) roomy 0 8 30
-    ∷ case (calls (point 3 3 3) 27 (bitGrid 0x2015) lowest (point 2 2 2) true) roomy theIndices
+    ∷ answers (wholePlane (bitGrid 0x2015)) roomy 0 8 30
+    ∷ case (wholePlane (bitGrid 0x2015)) roomy theIndices
     (5 ∷ 0 ∷ 1 ∷ 5 ∷ 4 ∷ 0 ∷ 4 ∷ 2 ∷ 0 ∷ 4 ∷ 6 ∷ 2 ∷ 5 ∷ 1 ∷ 3 ∷ 5 ∷ 3 ∷ 7 ∷ 7 ∷ 3 ∷ 2 ∷ 7 ∷ 2 ∷ 6 ∷ 6 ∷ 4 ∷ 5 ∷ 6 ∷ 5 ∷ 7 ∷ [])
-    -- a cell where another order of the normal's terms gives other bits
-    ∷ case (calls (point 2 2 2) 8 listed lowest (point 1 1 1) false) roomy (positionOf 0) (0x3EDB6DB7 ∷ 0x3EDB6DB7 ∷ 0x3EDB6DB7 ∷ [])
-    ∷ case (calls (point 2 2 2) 8 listed lowest (point 1 1 1) false) roomy (normalOf 0) (0xBDD0FACA ∷ 0xBDD0FACA ∷ 0x3EA72F04 ∷ [])
     -- what the lent lists hold after Ball: the first numbers written, the rest kept; in the map the cells' entries alone
     ∷ case (whole ball) roomy theBuffers (ballPositions ++ (ballNormals ++ (ballCells ++ (ballStrides ++ (ballMap ++ ballIndices)))))
     -- a cell that is no surface cell has the null vertex in the map; the points of the box that are no cell, and those outside, keep theirs
-    ∷ case (threes ones lowest (point 1 1 1)) (marked 0 0 0 0 28 0) theBuffers (nullVertex ∷ replicate 27 77)
+    ∷ case (threes ones lowest (point 1 1 1)) (marked 0 0 0 0 28 0) theBuffers (4294967295 ∷ replicate 27 77)
     -- "Answers 1 to 7 change nothing."
     ∷ case (calls (point 0 3 3) 27 ball lowest (point 2 2 2) false) roomy theBuffers (contents roomy)
     ∷ case (threes ball lowest (point 3 2 2)) roomy theBuffers (contents roomy)
@@ -237,13 +243,13 @@ cases =
     ∷ []
 
 -- what a computed test opens: every definition of the rules, and the arithmetic below them
-opened : Unit {0}
+unfoldable pub opened : Unit {0}
 unfolding answer roomAnswer badDimensions badBox badLength beyond badLayer badDistance written afterwards run upTo keep many some joined place placed fraction pointBetween crossingPoint crossingPoints summed crossings centroid position normal rowCells layerCells cells layerVertices vertices firstVertex cellEntry mapEntry owned changes cellEdges layerEdges edges shorter faceCells layerIndices indices layerPoints points changingEdges add sub mul div lt ofInt round size units odd neg sum span climb trailingZeros toBits pieces
 opened = tt
 
 -- ---- the test, and from it each entry
 
-same : List ℕ → List ℕ → Bool
+unfoldable pub same : List ℕ → List ℕ → Bool
 same [] [] = true
 same [] (y ∷ ys) = false
 same (x ∷ xs) [] = false
@@ -256,10 +262,10 @@ same-equal [] (y ∷ ys) t = absurd t
 same-equal (x ∷ xs) [] t = absurd t
 same-equal (x ∷ xs) (y ∷ ys) t = ap₂ {C = List ℕ} (λ u us. u ∷ us) (eqb→eq x y (and-l (eqb x y) (same xs ys) t)) (same-equal xs ys (and-r (eqb x y) (same xs ys) t))
 
-passes : Case → Bool
+unfoldable pub passes : Case → Bool
 passes k = same (got (k .asked) (k .call) (k .lent)) (k .wanted)
 
-every : List Case → Bool
+unfoldable pub every : List Case → Bool
 every [] = true
 every (k ∷ ks) = passes k && every ks
 
@@ -267,7 +273,7 @@ all-pass : T (every cases)
 unfolding every passes same opened
 all-pass = tt
 
-entry-of : (other : Case) (ks : List Case) → T (every ks) → (k : ℕ) → k < length ks → Holds (getD ks k other)
+pub entry-of : (other : Case) (ks : List Case) → T (every ks) → (k : ℕ) → k < length ks → Holds (getD ks k other)
 unfolding every passes
 entry-of other [] t k h = absurd (not-suc-le-zero h)
 entry-of other (c ∷ ks) t zero h = same-equal (got (c .asked) (c .call) (c .lent)) (c .wanted) (and-l (passes c) (every ks) t)

@@ -1,5 +1,5 @@
 -- Laws about the definitions, which need no code: lists and counts, the edges and their four cells, vertex numbers, cutting; indexes, the P cases
--- of document 01, crossings, locality, and pieces that are accepted.
+-- of document 01, vectors of the Rust, crossings, locality, and pieces that are accepted.
 pub mod Tests
 pub mod Lists
 pub mod Some
@@ -14,6 +14,7 @@ pub mod Seen
 pub mod Cutting
 pub mod Indexes
 pub mod Cases
+pub mod Vectors
 pub mod Crossings
 pub mod Inside
 pub mod Locality

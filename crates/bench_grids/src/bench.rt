@@ -1,27 +1,28 @@
 // One bench grid: the lists are marked, the library is called, and what it answered is printed with what became of the marks.
 ghost use Prim.Native.Nat.{_≤_};
-use crate::map;
 use crate::said;
+use grid::Block;
 use grid::Extent;
+use grid::MaxPlane;
 use surface_nets::Answer;
 
 // What is asked, but for the grid and the lent lists.
-pub struct Call {
-    pub dims: Extent,
-    pub low: Extent,
-    pub high: Extent,
-    pub max_plane: bool,
+pub(crate) struct Call {
+    pub(crate) dims: Extent,
+    pub(crate) low: Extent,
+    pub(crate) high: Extent,
+    pub(crate) max_plane: bool,
 }
 
 // How much of three of the lists is lent; the others are lent whole.
-pub struct Room {
-    pub positions: usize,
-    pub map: usize,
-    pub indices: usize,
+pub(crate) struct Room {
+    pub(crate) positions: usize,
+    pub(crate) map: usize,
+    pub(crate) indices: usize,
 }
 
 // What is printed besides the answer and the counts.
-pub enum Show {
+pub(crate) enum Show {
     Counts,
     Mesh,
     Indices,
@@ -71,11 +72,22 @@ fn written(number: u32, count: u64) -> usize
     count as usize
 }
 
+// The map's entries that are no cell's hold their marks, and after a refusal all do.
 fn is_map_kept(list: &[u32], call: Call, number: u32) -> bool {
     if number != 0 {
         return marks::words_kept(list, 0, MAP);
     }
-    map::map_kept(list, call, MAP)
+    let k = Block {
+        dims: call.dims,
+        low: call.low,
+        high: call.high,
+        max_plane: MaxPlane {
+            x: call.max_plane,
+            y: call.max_plane,
+            z: call.max_plane,
+        },
+    };
+    marks::map_kept(list, k, MAP)
 }
 
 // The lists hold marks past what an answer 0 writes, and a refusal left them all.
@@ -168,7 +180,7 @@ fn mesh(
     )
 }
 
-pub fn case(name: &[u8], sdf: &[f32], call: Call, room: Room, what: Show) {
+pub(crate) fn case(name: &[u8], sdf: &[f32], call: Call, room: Room, what: Show) {
     let mut positions = [0.0f32; 27];
     let mut normals = [0.0f32; 27];
     let mut cells = [0u32; 27];

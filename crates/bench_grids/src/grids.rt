@@ -1,26 +1,26 @@
 // The bench grids. All but the cells have dimensions 3, 3, 3.
 
 // 2^100, the largest magnitude that is let in, and the next float up.
-pub const CAP: f32 = 1267650600228229401496703205376.0;
+pub(crate) const CAP: f32 = 1267650600228229401496703205376.0;
 
-pub const ABOVE_CAP: f32 = 1267650751343956853325350043648.0;
+pub(crate) const ABOVE_CAP: f32 = 1267650751343956853325350043648.0;
 
 // 1.0 everywhere but at the middle, (1,1,1).
-pub fn ball(middle: f32) -> [f32; 27] {
+pub(crate) fn ball(middle: f32) -> [f32; 27] {
     let mut sdf = [1.0f32; 27];
     sdf[13] = middle;
     sdf
 }
 
 // Ball, its last distance left out.
-pub fn ball_of_26() -> [f32; 26] {
+pub(crate) fn ball_of_26() -> [f32; 26] {
     let mut sdf = [1.0f32; 26];
     sdf[13] = -1.0;
     sdf
 }
 
 // Ball, with another distance at one place.
-pub fn ball_with(place: usize, distance: f32) -> [f32; 27] {
+pub(crate) fn ball_with(place: usize, distance: f32) -> [f32; 27] {
     let mut sdf = ball(-1.0);
     if place < 27 {
         sdf[place] = distance;
@@ -29,7 +29,7 @@ pub fn ball_with(place: usize, distance: f32) -> [f32; 27] {
 }
 
 // -1.0 where the pattern has a bit for the index, and 1.0 elsewhere.
-pub fn signs(pattern: u32) -> [f32; 27] {
+pub(crate) fn signs(pattern: u32) -> [f32; 27] {
     let mut sdf = [1.0f32; 27];
     let mut rest = pattern;
     let mut i = 0usize;
@@ -44,6 +44,6 @@ pub fn signs(pattern: u32) -> [f32; 27] {
 }
 
 // One cell: the corners at x = 0 have `low`, those at x = 1 `high`.
-pub fn along_x(low: f32, high: f32) -> [f32; 8] {
+pub(crate) fn along_x(low: f32, high: f32) -> [f32; 8] {
     [low, high, low, high, low, high, low, high]
 }

@@ -2,7 +2,6 @@
 // The published Rust prints the same lines (oracle/oracle/examples/bench_grids.rs); `stdout` holds those, held against document 01.
 mod bench;
 mod grids;
-mod map;
 mod said;
 
 use bench::Call;

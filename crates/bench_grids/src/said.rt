@@ -2,11 +2,11 @@
 use libc::STDOUT_FILENO;
 use surface_nets::Answer;
 
-pub fn text(s: &[u8]) {
+pub(crate) fn text(s: &[u8]) {
     io::write_all(STDOUT_FILENO, s);
 }
 
-pub fn head() {
+pub(crate) fn head() {
     text(
         b"# Document 01's bench grids, meshed by the proved library. Floats are given by their bits.\n",
     );
@@ -59,7 +59,7 @@ fn rest(is_kept: bool, is_done: bool) {
     }
 }
 
-pub fn answer(label: &[u8], a: Answer, is_kept: bool) {
+pub(crate) fn answer(label: &[u8], a: Answer, is_kept: bool) {
     name(label);
     counted(b"answer ", a.number as u64);
     counted(b", V ", a.vertex_count);
@@ -68,7 +68,7 @@ pub fn answer(label: &[u8], a: Answer, is_kept: bool) {
 }
 
 // The first `count` numbers of a list.
-pub fn words(label: &[u8], list: &[u32], count: usize) {
+pub(crate) fn words(label: &[u8], list: &[u32], count: usize) {
     text(label);
     let mut j = 0;
     while j < list.len() && j < count {
@@ -89,7 +89,7 @@ fn float(x: f32) {
 }
 
 // The v-th three floats of a list.
-pub fn point(label: &[u8], list: &[f32], v: usize) {
+pub(crate) fn point(label: &[u8], list: &[f32], v: usize) {
     text(label);
     let mut j = 0;
     while j < list.len() {

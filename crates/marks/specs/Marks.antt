@@ -1,12 +1,13 @@
 -- Marks: what a lent number holds before a call, one more for each next number, so that a number changed by mistake is seen.
 -- The list of marks, when marks are kept, and a float's bits, by which floats are compared. Definitions only. Assumes nothing.
 use Prim.Native.Nat.{ℕ, zero, suc, _+_, _%_}
-use mathlib.Core.Bool.{Bool, true, false, _&&_, cond}
+use mathlib.Core.Bool.{Bool, true, false, not, _&&_, _||_, cond}
 use mathlib.Core.List.{List, [], _∷_}
-use lib.Dec.{eqb}
+use lib.Dec.{eqb, ltb}
 use lib.IntN.{pos}
 use lib.ListN.{length}
 use lib.Ieee.{Float, fin, binary32, add, isNan, toBits}
+use Rattle.rules.specs.Grid.{GridPoint, Box, pointAt, isCell}
 
 -- ---- the marks
 
@@ -37,18 +38,27 @@ bitsOf x = cond (isNan x) 2143289344 (toBits binary32 x)
 
 -- ---- marks kept
 
--- past the first `from` places each element of the first list is the same as the one at its place of the second, up to the end of either list
-unfoldable pub keptFrom : {A : Type 0} → (A → A → Bool) → ℕ → List A → List A → Bool
-keptFrom same from [] ms = true
-keptFrom same from (x ∷ xs) [] = true
-keptFrom same zero (x ∷ xs) (m ∷ ms) = same x m && keptFrom same zero xs ms
-keptFrom same (suc from) (x ∷ xs) (m ∷ ms) = keptFrom same from xs ms
+-- each element of the first list is the same as the one at its place of the second, up to the end of either list, but for the places that are
+-- skipped; the first has the place n
+unfoldable pub keptBut : {A : Type 0} → (A → A → Bool) → (ℕ → Bool) → ℕ → List A → List A → Bool
+keptBut same skipped n [] ms = true
+keptBut same skipped n (x ∷ xs) [] = true
+keptBut same skipped n (x ∷ xs) (m ∷ ms) = (skipped n || same x m) && keptBut same skipped (suc n) xs ms
 
+-- from the place `from` on
 abbrev pub keptWords : ℕ → ℕ → List ℕ → Bool
-keptWords from first xs = keptFrom eqb from xs (wordMarks first (length xs))
+keptWords from first xs = keptBut eqb (λ j. ltb j from) 0 xs (wordMarks first (length xs))
 
 abbrev pub sameBits : Float → Float → Bool
 sameBits x m = eqb (bitsOf x) (bitsOf m)
 
 abbrev pub keptFloats : ℕ → Float → List Float → Bool
-keptFloats from first xs = keptFrom sameBits from xs (floatMarks first (length xs))
+keptFloats from first xs = keptBut sameBits (λ j. ltb j from) 0 xs (floatMarks first (length xs))
+
+-- whether the point at an index of a grid is the lowest corner of a cell of the box: in dimensions with a 0 there is no such point
+unfoldable pub cellAt : GridPoint → Box → ℕ → Bool
+cellAt dims b j = not (eqb (dims .x) 0) && (not (eqb (dims .y) 0) && isCell b (pointAt dims j))
+
+-- at each index that is no cell's
+abbrev pub keptMap : GridPoint → Box → ℕ → List ℕ → Bool
+keptMap dims b first xs = keptBut eqb (cellAt dims b) 0 xs (wordMarks first (length xs))

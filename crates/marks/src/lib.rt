@@ -1,8 +1,15 @@
 // Marks for test programs: what every lent number holds before a call, one more for each next number, so that a number changed by mistake is
-// seen. A list is filled with marks, and is asked whether it kept them. Floats are compared by their bits.
+// seen. A list is filled with marks, and is asked whether it kept them. Floats are compared by their bits. `stored` compares a list with stored
+// numbers, bit for bit.
+pub mod stored;
+
 ghost use mathlib.Core.Path.{_≡_};
 ghost use lib.ListN.{length};
-ghost use Rattle.marks.specs.Marks.{bitsOf, wordMarks, floatMarks, keptWords, keptFloats};
+ghost use Rattle.rules.specs.Grid.{below};
+ghost use Rattle.grid.specs.Block.{point, boxOf};
+ghost use Rattle.marks.specs.Marks.{bitsOf, wordMarks, floatMarks, keptWords, keptFloats, cellAt, keptMap};
+use grid::Block;
+use grid::scan::either;
 
 // The bits of a float: one pattern for every not-a-number.
 pub fn bits(x: f32) -> u32
@@ -67,6 +74,54 @@ pub fn floats_kept(list: &[f32], from: usize, first: f32) -> bool
             return false;
         }
         mark = mark + 1.0;
+        j += 1;
+    }
+    true
+}
+
+// ---- every entry of a cell map that is no cell's is its mark
+
+fn is_within(low: u32, n: u64, high: u32) -> bool
+    ensures { λ r. ⌜ r ≡ below low high n ⌝ }
+{
+    if n < low as u64 {
+        return false;
+    }
+    n < high as u64
+}
+
+// Whether the point at this index of the grid is the lowest corner of a cell of the box: from min to max - 1 on each axis.
+fn is_cell(k: Block, index: u64) -> bool
+    ensures { λ r. ⌜ r ≡ cellAt (point (k .dims)) (boxOf k) index ⌝ }
+{
+    let x = k.dims.x as u64;
+    let y = k.dims.y as u64;
+    if x == 0 {
+        return false;
+    }
+    if y == 0 {
+        return false;
+    }
+    let row = index / x;
+    if !is_within(k.low.x, index % x, k.high.x) {
+        return false;
+    }
+    if !is_within(k.low.y, row % y, k.high.y) {
+        return false;
+    }
+    is_within(k.low.z, row / y, k.high.z)
+}
+
+pub fn map_kept(map: &[u32], k: Block, first: u32) -> bool
+    ensures { λ r. ⌜ r ≡ keptMap (point (k .dims)) (boxOf k) first (now (map .entry)) ⌝ }
+{
+    let mut mark = first;
+    let mut j = 0;
+    while j < map.len() {
+        if !either(is_cell(k, j as u64), map[j] == mark) {
+            return false;
+        }
+        mark = std::num::wrapping_add_u32(mark, 1);
         j += 1;
     }
     true

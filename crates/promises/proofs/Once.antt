@@ -38,6 +38,14 @@ use Rattle.marks.proofs.words_kept.Kinds as words-kept-kinds
 use Rattle.marks.proofs.words_kept.Reads as words-kept
 use Rattle.marks.proofs.floats_kept.Kinds as floats-kept-kinds
 use Rattle.marks.proofs.floats_kept.Reads as floats-kept
+use Rattle.marks.proofs.map_kept.Kinds as map-kept-kinds
+use Rattle.marks.proofs.map_kept.Reads as map-kept
+use Rattle.marks.proofs.stored.word.Kinds as stored-word-kinds
+use Rattle.marks.proofs.stored.word.Reads as stored-word
+use Rattle.marks.proofs.stored.words_are.Kinds as words-are-kinds
+use Rattle.marks.proofs.stored.words_are.Reads as words-are
+use Rattle.marks.proofs.stored.floats_are.Kinds as floats-are-kinds
+use Rattle.marks.proofs.stored.floats_are.Reads as floats-are
 use Rattle.judge.proofs.answer_for.Kinds as answer-for-kinds
 use Rattle.judge.proofs.answer_for.Reads as answer-for
 use Rattle.step.proofs.mesh_cell.Kinds as mesh-cell-kinds
@@ -106,6 +114,18 @@ words-kept-once κs a o o' l l' = let s = l ∙ sym l' in λ i. record { result 
 
 pub floats-kept-once : OneOutcome 1 floats-kept-kinds.ps floats-kept-kinds.r floats-kept.Learnt
 floats-kept-once κs a o o' l l' = let s = l ∙ sym l' in λ i. record { result = s i; last = o .last }
+
+pub map-kept-once : OneOutcome 1 map-kept-kinds.ps map-kept-kinds.r map-kept.Learnt
+map-kept-once κs a o o' l l' = let s = l ∙ sym l' in λ i. record { result = s i; last = o .last }
+
+pub stored-word-once : OneOutcome 1 stored-word-kinds.ps stored-word-kinds.r stored-word.Learnt
+stored-word-once κs a o o' l l' = let s = l ∙ sym l' in λ i. record { result = s i; last = o .last }
+
+pub words-are-once : OneOutcome 2 words-are-kinds.ps words-are-kinds.r words-are.Learnt
+words-are-once κs a o o' l l' = let s = l ∙ sym l' in λ i. record { result = s i; last = o .last }
+
+pub floats-are-once : OneOutcome 2 floats-are-kinds.ps floats-are-kinds.r floats-are.Learnt
+floats-are-once κs a o o' l l' = let s = l ∙ sym l' in λ i. record { result = s i; last = o .last }
 
 pub mark-words-once : OneOutcome 1 mark-words-kinds.ps mark-words-kinds.r mark-words.Learnt
 mark-words-once κs a o o' l l' = let s = l ∙ sym l' in λ i. record { result = tt; last = (s i, (tt, tt)) }

@@ -10,7 +10,7 @@ use crate::tally::Differs;
 use surface_nets::Answer;
 
 // What came of a call: it was compared, or the file ends in it, or it is not as the layout says.
-pub enum Replayed {
+pub(crate) enum Replayed {
     Compared(Differs),
     Cut,
     Malformed,
@@ -178,7 +178,7 @@ fn replay_asked(fd: i32, a: Asked) -> Replayed {
 }
 
 // The file's next call.
-pub fn replay(fd: i32) -> Replayed {
+pub(crate) fn replay(fd: i32) -> Replayed {
     match stored::read_head(fd) {
         Head::Cut => Replayed::Cut,
         Head::Malformed => Replayed::Malformed,

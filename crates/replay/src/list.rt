@@ -1,20 +1,9 @@
 // Lists of stored numbers: little-endian words of 32 bits, the next of an open file.
-
-fn join(a: u8, b: u8, c: u8, d: u8) -> u32 {
-    (a as u32) + 256 * (b as u32) + 65536 * (c as u32) + 16777216 * (d as u32)
-}
-
-// The number at place j, and 0 past the end.
-pub fn number(stored: &[u8], j: usize) -> u32 {
-    if stored.len() / 4 <= j {
-        return 0;
-    }
-    let at = 4 * j;
-    join(stored[at], stored[at + 1], stored[at + 2], stored[at + 3])
-}
+use marks::stored;
+use marks::stored::word;
 
 // Reads the file's next n numbers; no if it does not hold them all, or the room does not.
-pub fn read(fd: i32, n: usize, room: &mut [u8]) -> bool {
+pub(crate) fn read(fd: i32, n: usize, room: &mut [u8]) -> bool {
     if room.len() / 4 < n {
         return false;
     }
@@ -31,56 +20,27 @@ fn distance(bits: u32) -> f32 {
 }
 
 // The stored distances; places past them get 0.0, which are not lent.
-pub fn take_distances(grid: &mut [f32], stored: &[u8]) {
+pub(crate) fn take_distances(grid: &mut [f32], stored: &[u8]) {
     let mut j = 0;
     while j < grid.len() {
-        grid[j] = distance(number(stored, j));
+        grid[j] = distance(word(stored, j));
         j += 1;
     }
-}
-
-// The list begins with the n stored numbers, bit for bit.
-fn floats_are(list: &[f32], stored: &[u8], n: usize) -> bool {
-    let mut j = 0usize;
-    while j < n {
-        if list.len() <= j {
-            return false;
-        }
-        if marks::bits(list[j]) != number(stored, j) {
-            return false;
-        }
-        j += 1;
-    }
-    true
-}
-
-fn words_are(list: &[u32], stored: &[u8], n: usize) -> bool {
-    let mut j = 0usize;
-    while j < n {
-        if list.len() <= j {
-            return false;
-        }
-        if list[j] != number(stored, j) {
-            return false;
-        }
-        j += 1;
-    }
-    true
 }
 
 // The list begins with the file's next n numbers. They are read in any case.
-pub fn floats_agree(fd: i32, list: &[f32], n: usize) -> bool {
-    let mut stored = [0u8; 2048];
-    if !read(fd, n, &mut stored) {
+pub(crate) fn floats_agree(fd: i32, list: &[f32], n: usize) -> bool {
+    let mut bytes = [0u8; 2048];
+    if !read(fd, n, &mut bytes) {
         return false;
     }
-    floats_are(list, &stored, n)
+    stored::floats_are(list, &bytes, n)
 }
 
-pub fn words_agree(fd: i32, list: &[u32], n: usize) -> bool {
-    let mut stored = [0u8; 2048];
-    if !read(fd, n, &mut stored) {
+pub(crate) fn words_agree(fd: i32, list: &[u32], n: usize) -> bool {
+    let mut bytes = [0u8; 2048];
+    if !read(fd, n, &mut bytes) {
         return false;
     }
-    words_are(list, &stored, n)
+    stored::words_are(list, &bytes, n)
 }

@@ -10,6 +10,7 @@ mod stored;
 mod tally;
 
 use call::Replayed;
+use marks::stored::word;
 use tally::Outcome;
 
 // Whether the file goes on.
@@ -42,7 +43,7 @@ fn replay_open(fd: i32) -> Outcome {
     if !list::read(fd, 1, &mut first) {
         return Outcome::Cut(0);
     }
-    replay(fd, list::number(&first, 0))
+    replay(fd, word(&first, 0))
 }
 
 fn replay_file(name: &[u8]) {

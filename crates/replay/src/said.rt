@@ -3,11 +3,11 @@ use crate::tally::Outcome;
 use crate::tally::Tally;
 use libc::STDOUT_FILENO;
 
-pub fn text(s: &[u8]) {
+pub(crate) fn text(s: &[u8]) {
     io::write_all(STDOUT_FILENO, s);
 }
 
-pub fn head() {
+pub(crate) fn head() {
     text(
         b"# Stored answers of the published Rust, replayed through the proved library: the answer, V, I and every number of the six\n",
     );
@@ -19,7 +19,7 @@ pub fn head() {
     );
 }
 
-pub fn name(s: &[u8]) {
+pub(crate) fn name(s: &[u8]) {
     text(s);
     text(b": ");
 }
@@ -63,7 +63,7 @@ fn done(calls: u32, t: Tally) {
     }
 }
 
-pub fn outcome(o: Outcome) {
+pub(crate) fn outcome(o: Outcome) {
     match o {
         Outcome::Cut(n) => after(b"cut short", n),
         Outcome::Malformed(n) => after(b"malformed", n),

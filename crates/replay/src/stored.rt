@@ -1,38 +1,38 @@
 // A stored call, read from an open file: what is asked, and what it must answer.
-use crate::list::number;
 use crate::list::read;
 use grid::Extent;
+use marks::stored::word;
 
 // What stands before the distances; `grid` is their number.
-pub struct Asked {
-    pub dims: Extent,
-    pub low: Extent,
-    pub high: Extent,
-    pub max_plane: bool,
-    pub grid: usize,
+pub(crate) struct Asked {
+    pub(crate) dims: Extent,
+    pub(crate) low: Extent,
+    pub(crate) high: Extent,
+    pub(crate) max_plane: bool,
+    pub(crate) grid: usize,
 }
 
 // What stands after the distances: the length of each lent list, and what is answered. The lists as they must be follow.
-pub struct Expected {
-    pub positions: usize,
-    pub normals: usize,
-    pub cells: usize,
-    pub strides: usize,
-    pub map: usize,
-    pub indices: usize,
-    pub answer: u32,
-    pub vertex_count: u32,
-    pub index_count: u32,
+pub(crate) struct Expected {
+    pub(crate) positions: usize,
+    pub(crate) normals: usize,
+    pub(crate) cells: usize,
+    pub(crate) strides: usize,
+    pub(crate) map: usize,
+    pub(crate) indices: usize,
+    pub(crate) answer: u32,
+    pub(crate) vertex_count: u32,
+    pub(crate) index_count: u32,
 }
 
 // Malformed: a max plane that is neither 0 nor 1, or a list that is too long.
-pub enum Head {
+pub(crate) enum Head {
     Call(Asked),
     Cut,
     Malformed,
 }
 
-pub enum Tail {
+pub(crate) enum Tail {
     Answer(Expected),
     Cut,
     Malformed,
@@ -44,9 +44,9 @@ const LONGEST_LIST: u32 = 512;
 
 fn corner(head: &[u8], x: usize, y: usize, z: usize) -> Extent {
     Extent {
-        x: number(head, x),
-        y: number(head, y),
-        z: number(head, z),
+        x: word(head, x),
+        y: word(head, y),
+        z: word(head, z),
     }
 }
 
@@ -55,20 +55,20 @@ fn asked_in(head: &[u8]) -> Asked {
         dims: corner(head, 0, 1, 2),
         low: corner(head, 3, 4, 5),
         high: corner(head, 6, 7, 8),
-        max_plane: number(head, 9) == 1,
-        grid: number(head, 10) as usize,
+        max_plane: word(head, 9) == 1,
+        grid: word(head, 10) as usize,
     }
 }
 
-pub fn read_head(fd: i32) -> Head {
+pub(crate) fn read_head(fd: i32) -> Head {
     let mut head = [0u8; 44];
     if !read(fd, 11, &mut head) {
         return Head::Cut;
     }
-    if 1 < number(&head, 9) {
+    if 1 < word(&head, 9) {
         return Head::Malformed;
     }
-    if LONGEST_GRID < number(&head, 10) {
+    if LONGEST_GRID < word(&head, 10) {
         return Head::Malformed;
     }
     Head::Call(asked_in(&head))
@@ -76,15 +76,15 @@ pub fn read_head(fd: i32) -> Head {
 
 fn expected_in(tail: &[u8]) -> Expected {
     Expected {
-        positions: number(tail, 0) as usize,
-        normals: number(tail, 1) as usize,
-        cells: number(tail, 2) as usize,
-        strides: number(tail, 3) as usize,
-        map: number(tail, 4) as usize,
-        indices: number(tail, 5) as usize,
-        answer: number(tail, 6),
-        vertex_count: number(tail, 7),
-        index_count: number(tail, 8),
+        positions: word(tail, 0) as usize,
+        normals: word(tail, 1) as usize,
+        cells: word(tail, 2) as usize,
+        strides: word(tail, 3) as usize,
+        map: word(tail, 4) as usize,
+        indices: word(tail, 5) as usize,
+        answer: word(tail, 6),
+        vertex_count: word(tail, 7),
+        index_count: word(tail, 8),
     }
 }
 
@@ -92,7 +92,7 @@ fn expected_in(tail: &[u8]) -> Expected {
 fn too_long(tail: &[u8]) -> bool {
     let mut j = 0usize;
     while j < 6 {
-        if LONGEST_LIST < number(tail, j) {
+        if LONGEST_LIST < word(tail, j) {
             return true;
         }
         j += 1;
@@ -100,7 +100,7 @@ fn too_long(tail: &[u8]) -> bool {
     false
 }
 
-pub fn read_tail(fd: i32) -> Tail {
+pub(crate) fn read_tail(fd: i32) -> Tail {
     let mut tail = [0u8; 36];
     if !read(fd, 9, &mut tail) {
         return Tail::Cut;

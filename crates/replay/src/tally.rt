@@ -1,7 +1,7 @@
 // What came of each call, counted.
 
 // The first thing in which a call and its stored answer differ.
-pub enum Differs {
+pub(crate) enum Differs {
     Nowhere,
     Answer,
     Vertices,
@@ -14,29 +14,29 @@ pub enum Differs {
     IndexList,
 }
 
-pub struct Tally {
-    pub agreed: u64,
-    pub disagreed: u64,
-    pub answer: u64,
-    pub vertices: u64,
-    pub indices: u64,
-    pub positions: u64,
-    pub normals: u64,
-    pub cells: u64,
-    pub strides: u64,
-    pub map: u64,
-    pub index_list: u64,
+pub(crate) struct Tally {
+    pub(crate) agreed: u64,
+    pub(crate) disagreed: u64,
+    pub(crate) answer: u64,
+    pub(crate) vertices: u64,
+    pub(crate) indices: u64,
+    pub(crate) positions: u64,
+    pub(crate) normals: u64,
+    pub(crate) cells: u64,
+    pub(crate) strides: u64,
+    pub(crate) map: u64,
+    pub(crate) index_list: u64,
 }
 
 // How a file ended: cut short or malformed after so many calls, with numbers left over, or with all its calls made.
-pub enum Outcome {
+pub(crate) enum Outcome {
     Cut(u32),
     Malformed(u32),
     LeftOver,
     Done(u32, Tally),
 }
 
-pub const NONE: Tally = Tally {
+pub(crate) const NONE: Tally = Tally {
     agreed: 0,
     disagreed: 0,
     answer: 0,
@@ -54,7 +54,7 @@ fn more(n: u64) -> u64 {
     std::num::wrapping_add_u64(n, 1)
 }
 
-pub fn counted(before: Tally, d: Differs) -> Tally {
+pub(crate) fn counted(before: Tally, d: Differs) -> Tally {
     let mut t = before;
     t.disagreed = more(t.disagreed);
     match d {

@@ -5,7 +5,7 @@ pub mod files;
 ghost use mathlib.Core.Path.{_≡_};
 ghost use Rattle.rules.specs.Call.{answer, afterwards, room};
 ghost use Rattle.pass.specs.Reading.{buffers};
-ghost use Rattle.surface_nets.specs.Reading.{callMade};
+ghost use Rattle.surface_nets.specs.Reading.{callMade, Binary32};
 ghost use Rattle.bed.specs.Boundary.{extent, said};
 use grid::Extent;
 
@@ -34,6 +34,7 @@ pub extern "C" fn bed_surface_nets(
 ) -> u32
     ensures { λ r. ⌜ said r (now («vertex_count» .exit)) (now («index_count» .exit)) ≡ answer (callMade (now (sdf .entry)) (extent «dim_x» «dim_y» «dim_z») (extent «min_x» «min_y» «min_z») (extent «max_x» «max_y» «max_z») «max_plane») (room (buffers (now (positions .entry)) (now (normals .entry)) (now (cells .entry)) (now (strides .entry)) (now («stride_to_index» .entry)) (now (indices .entry)))) ⌝ }
     ensures { λ r. ⌜ buffers (now (positions .exit)) (now (normals .exit)) (now (cells .exit)) (now (strides .exit)) (now («stride_to_index» .exit)) (now (indices .exit)) ≡ afterwards (callMade (now (sdf .entry)) (extent «dim_x» «dim_y» «dim_z») (extent «min_x» «min_y» «min_z») (extent «max_x» «max_y» «max_z») «max_plane») (buffers (now (positions .entry)) (now (normals .entry)) (now (cells .entry)) (now (strides .entry)) (now («stride_to_index» .entry)) (now (indices .entry))) ⌝ }
+    ensures { λ r. ⌜ Binary32 (now (sdf .entry)) ⌝ }
 {
     let dims = Extent {
         x: dim_x,

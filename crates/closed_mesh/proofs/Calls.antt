@@ -16,7 +16,7 @@ moved p e y = subst (λ (k : Input). examined (k .sdf) (k .dims) (k .low) (k .hi
 -- ---- surface_nets and is_enclosed
 
 pub mesh-is : (o : Mesh) → o .result .number ≡ 0 → Meshed (meshInput o) (meshPlane o) (meshAnswer o) (meshEntry o) (meshExit o)
-mesh-is o done = record { said = o .learnt .0; left = o .learnt .1; done = done }
+mesh-is o done = record { said = o .learnt .0; left = o .learnt .1 .0; done = done }
 
 pub surface-nets-closed : (t : Test) (o : Mesh) → testInput t ≡ meshInput o → t .result ≡ answers 0 true → o .result .number ≡ 0
     → Even (links (take (meshAnswer o .indices) (meshExit o .indices)))
@@ -25,7 +25,7 @@ surface-nets-closed t o same yes' done = mesh-closed-yes (mesh-is o done) (moved
 -- ---- bed_surface_nets and bed_is_enclosed
 
 pub bed-mesh-is : (o : BedMesh) → o .result ≡ 0 → Meshed (bedMeshInput o) (bedMeshPlane o) (bedMeshAnswer o) (bedMeshEntry o) (bedMeshExit o)
-bed-mesh-is o done = record { said = o .learnt .0; left = o .learnt .1; done = done }
+bed-mesh-is o done = record { said = o .learnt .0; left = o .learnt .1 .0; done = done }
 
 pub bed-surface-nets-closed : (t : BedTest) (o : BedMesh) → bedTestInput t ≡ bedMeshInput o → bedTested t ≡ answers 0 true → o .result ≡ 0
     → Even (links (take (bedMeshAnswer o .indices) (bedMeshExit o .indices)))

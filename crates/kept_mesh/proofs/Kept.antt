@@ -1,5 +1,5 @@
--- What a call of document 01 writes under answer 0 is a mesh that the writer of request 2 accepts, wherever the file has room and the counts fit 32 bits;
--- and what is read back from that file has the same bits. From the laws of the call and of the file. Assumes nothing.
+-- What a call of document 01 writes under answer 0 is a mesh that the writer of request 2 accepts, wherever the file has room and there are fewer than
+-- 2^32 triangles; and what is read back from that file has the same bits. From the laws of the call and of the file. Assumes nothing.
 use Prim.Native.Nat.{ℕ, _+_, _*_, _/_, _%_, _^_, _≤_, _<_}
 use native.Mathlib.Omega.{arith}
 use mathlib.Core.Bool.{false, not}
@@ -14,7 +14,7 @@ use lib.Ieee.Scale.{finite}
 use lib.ListN.{length, getD, take, drop}
 use lib.Seq.{take-at, getD-take}
 use Rattle.rules.specs.Lists.{some, over}
-use Rattle.rules.specs.Grid.{GridPoint, inBox, value}
+use Rattle.rules.specs.Grid.{GridPoint}
 use Rattle.rules.specs.Cell.{Vector, position, normal}
 use Rattle.rules.specs.Vertices.{vertices, vertexPosition, vertexNormal}
 use Rattle.rules.specs.Faces.{indices}
@@ -33,9 +33,9 @@ use Rattle.mesh_file.proofs.Searching.{none-some}
 use Rattle.mesh_file.proofs.RoundTrip.{AllFit, Writable}
 use Rattle.mesh_file.proofs.Settled.{room-writes, bytes-counted, read-after-write, same-after-write}
 use Rattle.promises.specs.Served.{Served, Done}
-use Rattle.promises.proofs.Done.{done-accepts, done-counts, done-writes}
-use Rattle.promises.proofs.Runs.{Run, gridOf, dimsOf, lowOf, highOf, planeOf, served, BedRun, bedGrid, bedDims, bedLow, bedHigh, bedPlane, bedServed}
-use Rattle.promises.proofs.ClosedMesh.{ClosedMesh, closed-mesh, Binary32, values-held}
+use Rattle.promises.proofs.Done.{done-counts, done-few, done-writes}
+use Rattle.promises.proofs.Runs.{Run, served, BedRun, bedServed}
+use Rattle.promises.proofs.ClosedMesh.{ClosedMesh, closed-mesh}
 use Rattle.kept_mesh.specs.Parts.{meshOf}
 
 -- ---- three numbers for each vertex
@@ -122,11 +122,11 @@ module _ (u : Served) (done : Done u) where
 
 -- ---- the law
 
--- the premise of closed-mesh: the distances in the box are values of binary32, as those of any f32 grid are
-module _ (u : Served) (values32 : (p : GridPoint) → T (inBox (u .call .box) p) → T (fits binary32 (value (u .call .grid) p))) (done : Done u)
-    (few : u .says .vertices < 2 ^ 32) (fewer : u .says .indices / 3 < 2 ^ 32) where
+-- V is at most 2^30 by condition 1. A premise on the triangles stays: a cell gives up to six, so that a grid of 2^30 points of alternating signs has some
+-- 6·2^30, which the writer refuses with 30.
+module _ (u : Served) (done : Done u) (fewer : u .says .indices / 3 < 2 ^ 32) where
   closed : ClosedMesh u
-  closed = closed-mesh u values32 done
+  closed = closed-mesh u done
 
   finite-kept : (some notFinite (meshOf u .positions) ≡ false) × (some notFinite (meshOf u .normals) ≡ false)
   finite-kept = (
@@ -146,7 +146,7 @@ module _ (u : Served) (values32 : (p : GridPoint) → T (inBox (u .call .box) p)
       record {
         lists =
             lengths-good (length (meshOf u .positions)) (length (meshOf u .normals)) (length (meshOf u .indices))
-            (omega (arith, positions-length u done, normals-length u done, in-threes u done, triangles-kept u done));
+            (omega (arith, positions-length u done, normals-length u done, in-threes u done, triangles-kept u done, done-few u done));
         indices = none-some (noVertex (file.vertexCount (meshOf u))) 0 (meshOf u .indices) (λ i l. lt-leb (file.vertexCount (meshOf u)) (getD (meshOf u .indices) i 0) (index-kept u done i l));
         floats = or-none (some notFinite (meshOf u .positions)) (some notFinite (meshOf u .normals)) (finite-kept .0) (finite-kept .1);
         positions-fit = positions-fit u done;
@@ -177,13 +177,24 @@ module _ (u : Served) (values32 : (p : GridPoint) → T (inBox (u .call .box) p)
     pub kept-same : meshIn left (u .says .vertices) (u .says .indices / 3) ≡ meshOf u
     kept-same = ap₂ (meshIn left) (sym (vertices-kept u done)) (sym (triangles-kept u done)) ∙ same-after-write (meshOf u) kept-writable f enough
 
--- ---- of surface_nets, and of bed_surface_nets
+-- ---- of every call that answers 0
 
--- the premise is one on the grid
-pub surface-nets-kept : (u : Run) → Binary32 (gridOf u) → Done (served u) → served u .says .vertices < 2 ^ 32 → served u .says .indices / 3 < 2 ^ 32 → Writable (meshOf (served u))
-surface-nets-kept u h done =
-    kept-writable (served u) (values-held (gridOf u) (dimsOf u) (lowOf u) (highOf u) (planeOf u) h (done-accepts (served u) done .length)) done
+-- all of it: V vertices, I / 3 triangles, and a lent file with room for them
+pub record KeptMesh (u : Served) : Type 0 where
+  pub writable : Writable (meshOf u)
+  pub answered : (f : List ℕ) → 32 * (u .says .vertices + u .says .indices / 3 + 1) ≤ length f
+      → writer.writing (meshOf u) (length f) ≡ writer.wrote 0 (32 * (u .says .vertices + u .says .indices / 3 + 1))
+  pub reads : (f : List ℕ) → 32 * (u .says .vertices + u .says .indices / 3 + 1) ≤ length f
+      → readOf (take (file.fileLength (meshOf u)) (writer.written (meshOf u) f)) ≡ whole (u .says .vertices) (u .says .indices / 3)
+  pub same : (f : List ℕ) → 32 * (u .says .vertices + u .says .indices / 3 + 1) ≤ length f
+      → meshIn (take (file.fileLength (meshOf u)) (writer.written (meshOf u) f)) (u .says .vertices) (u .says .indices / 3) ≡ meshOf u
 
-pub bed-surface-nets-kept : (u : BedRun) → Binary32 (bedGrid u) → Done (bedServed u) → bedServed u .says .vertices < 2 ^ 32 → bedServed u .says .indices / 3 < 2 ^ 32 → Writable (meshOf (bedServed u))
-bed-surface-nets-kept u h done =
-    kept-writable (bedServed u) (values-held (bedGrid u) (bedDims u) (bedLow u) (bedHigh u) (bedPlane u) h (done-accepts (bedServed u) done .length)) done
+pub kept-mesh : (u : Served) → Done u → u .says .indices / 3 < 2 ^ 32 → KeptMesh u
+kept-mesh u done fewer =
+    record { writable = kept-writable u done fewer; answered = kept-answered u done fewer; reads = kept-reads u done fewer; same = kept-same u done fewer }
+
+pub surface-nets-kept : (u : Run) → Done (served u) → served u .says .indices / 3 < 2 ^ 32 → KeptMesh (served u)
+surface-nets-kept u = kept-mesh (served u)
+
+pub bed-surface-nets-kept : (u : BedRun) → Done (bedServed u) → bedServed u .says .indices / 3 < 2 ^ 32 → KeptMesh (bedServed u)
+bed-surface-nets-kept u = kept-mesh (bedServed u)

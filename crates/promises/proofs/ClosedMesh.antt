@@ -2,7 +2,6 @@
 -- done has written, in the lists afterwards. From under-caps of each vertex. Assumes nothing.
 use Prim.Native.Nat.{ℕ, _+_, _*_, _<_}
 use native.Mathlib.Omega.{arith}
-use mathlib.Core.Bool.{Bool, not}
 use mathlib.Core.List.{List, map}
 use mathlib.Core.Path.{sym, subst}
 use lib.Dec.{T}
@@ -12,7 +11,7 @@ use Rattle.rules.specs.Grid.{GridPoint, index, inBox, value}
 use Rattle.rules.specs.Lists.{over}
 use Rattle.rules.specs.Cell.{Vector}
 use Rattle.rules.specs.Vertices.{vertices, vertexPosition, vertexNormal}
-use Rattle.rules.specs.Call.{Call, Buffers, badLength, vertexCount, flatPoints, flatVectors, written}
+use Rattle.rules.specs.Call.{Call, Buffers, vertexCount, flatPoints, flatVectors, written}
 use Rattle.rules.proofs.Lists.{all-at, by-threes}
 use Rattle.rules.proofs.Indexes.{index-below}
 use Rattle.rules.proofs.Inside.{vertices-all}
@@ -21,10 +20,8 @@ use Rattle.rules.proofs.Seen.{ThreeAt, three-at, three-over, length-points, len
 use Rattle.cube.proofs.Corners.{Finite}
 use Rattle.cube.proofs.ClosedCell.{InCell}
 use Rattle.cube.proofs.UnderCaps.{UnderCaps, under-caps}
-use Rattle.grid.specs.declared.Extent.{Extent}
-use Rattle.surface_nets.specs.Reading.{callMade}
 use Rattle.promises.specs.Served.{Served, Done}
-use Rattle.promises.proofs.Runs.{Run, gridOf, dimsOf, lowOf, highOf, planeOf, served, BedRun, bedGrid, bedDims, bedLow, bedHigh, bedPlane, bedServed}
+use Rattle.promises.proofs.Runs.{Run, served, BedRun, bedServed}
 use Rattle.promises.proofs.Done.{done-accepts, done-counts, done-writes}
 
 -- ---- three numbers for each vertex
@@ -86,30 +83,21 @@ pub record ClosedMesh (u : Served) : Type 0 where
   -- "every number written is finite"
   pub finite : (i : ℕ) → i < 3 * u .says .vertices → Finite (getD (u .after .positions) i nan) × Finite (getD (u .after .normals) i nan)
 
-pub closed-mesh : (u : Served) → ((p : GridPoint) → T (inBox (u .call .box) p) → T (fits binary32 (value (u .call .grid) p))) → Done u → ClosedMesh u
-closed-mesh u values32 done = record { inside = λ v a k l. sound (3 * v + a) (omega arith) .inside; finite = λ i k. (sound i k .position, sound i k .normal) }
+pub closed-mesh : (u : Served) → Done u → ClosedMesh u
+closed-mesh u done = record { inside = λ v a k l. sound (3 * v + a) (omega arith) .inside; finite = λ i k. (sound i k .position, sound i k .normal) }
   where
+    -- condition 3 lets each point of the box stand in the grid, whose numbers are binary32 values
+    values32 : (p : GridPoint) → T (inBox (u .call .box) p) → T (fits binary32 (value (u .call .grid) p))
+    values32 p t = u .numbers (index (u .call .grid .dims) p) (index-below (u .call .grid .dims) (u .call .box) (u .call .size) p (done-accepts u done .length) t)
+
     sound : (i : ℕ) → i < 3 * u .says .vertices → Sound (u .after) i
     sound i k =
         subst (λ (s : Buffers). Sound s i) (sym (done-writes u done))
         (written-sound (u .call) (u .before) (done-accepts u done) values32 i (omega (arith, done-counts u done .0)))
 
--- the premise for a grid: its numbers are values of binary32. The contract's arguments do not say that they are, since owning an f32 slice tells its
--- length alone; but no f32 has any other value, so that the premise shuts out no call.
-abbrev pub Binary32 : List Float → Type 0
-Binary32 grid = (i : ℕ) → i < length grid → T (fits binary32 (getD grid i nan))
+-- of every call of surface_nets, and of bed_surface_nets, that answers 0
+pub surface-nets-closed : (u : Run) → Done (served u) → ClosedMesh (served u)
+surface-nets-closed u = closed-mesh (served u)
 
--- so are the distances at the points of a box that condition 3 lets pass
-pub values-held : (grid : List Float) (dims low high : Extent) (plane : Bool) → let c : Call = callMade grid dims low high plane in Binary32 grid → T (not (badLength (c .grid .dims) (c .box) (length grid)))
-    → (p : GridPoint) → T (inBox (c .box) p) → T (fits binary32 (value (c .grid) p))
-values-held grid dims low high plane h ok p t =
-    let c : Call = callMade grid dims low high plane in
-    h (index (c .grid .dims) p) (index-below (c .grid .dims) (c .box) (length grid) p ok t)
-
-pub surface-nets-closed : (u : Run) → Binary32 (gridOf u) → Done (served u) → ClosedMesh (served u)
-surface-nets-closed u h done =
-    closed-mesh (served u) (values-held (gridOf u) (dimsOf u) (lowOf u) (highOf u) (planeOf u) h (done-accepts (served u) done .length)) done
-
-pub bed-surface-nets-closed : (u : BedRun) → Binary32 (bedGrid u) → Done (bedServed u) → ClosedMesh (bedServed u)
-bed-surface-nets-closed u h done =
-    closed-mesh (bedServed u) (values-held (bedGrid u) (bedDims u) (bedLow u) (bedHigh u) (bedPlane u) h (done-accepts (bedServed u) done .length)) done
+pub bed-surface-nets-closed : (u : BedRun) → Done (bedServed u) → ClosedMesh (bedServed u)
+bed-surface-nets-closed u = closed-mesh (bedServed u)

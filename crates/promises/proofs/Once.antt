@@ -151,7 +151,7 @@ mesh-box-once κs a o o' l l' =
 pub surface-nets-once : OneOutcome 7 surface-nets-kinds.ps surface-nets-kinds.r surface-nets.Learnt
 surface-nets-once κs a o o' l l' =
     let s = l .0 ∙ sym (l' .0) in
-    let b = l .1 ∙ sym (l' .1) in
+    let b = l .1 .0 ∙ sym (l' .1 .0) in
     λ i.
     record {
       result = record { number = s i .number; «vertex_count» = s i .vertices; «index_count» = s i .indices };
@@ -162,7 +162,7 @@ surface-nets-once κs a o o' l l' =
 pub bed-surface-nets-once : OneOutcome 9 bed-surface-nets-kinds.ps bed-surface-nets-kinds.r bed-surface-nets.Learnt
 bed-surface-nets-once κs a o o' l l' =
     let s = l .0 ∙ sym (l' .0) in
-    let b = l .1 ∙ sym (l' .1) in
+    let b = l .1 .0 ∙ sym (l' .1 .0) in
     λ i.
     record {
       result = s i .number;

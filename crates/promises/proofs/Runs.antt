@@ -52,7 +52,8 @@ served u =
       says = answerOf (u .outcome .result);
       after = buffers (last .0) (last .1 .0) (last .1 .1 .0) (last .1 .1 .1 .0) (last .1 .1 .1 .1 .0) (last .1 .1 .1 .1 .1 .0);
       answered = u .fits .0;
-      left = u .fits .1;
+      left = u .fits .1 .0;
+      numbers = u .fits .1 .1;
     }
 
 -- ---- bed_surface_nets
@@ -90,5 +91,6 @@ bedServed u =
       says = said (u .outcome .result) (last .1 .1 .1 .1 .1 .1 .0) (last .1 .1 .1 .1 .1 .1 .1 .0);
       after = buffers (last .0) (last .1 .0) (last .1 .1 .0) (last .1 .1 .1 .0) (last .1 .1 .1 .1 .0) (last .1 .1 .1 .1 .1 .0);
       answered = u .fits .0;
-      left = u .fits .1;
+      left = u .fits .1 .0;
+      numbers = u .fits .1 .1;
     }

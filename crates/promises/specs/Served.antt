@@ -1,14 +1,17 @@
 -- A call of document 01 with what came of it, as the public contracts say it, and the faces that are read back from what it wrote.
 -- Definitions only. Assumes nothing.
+use Prim.Native.Nat.{ℕ, _<_}
 use mathlib.Core.Path.{_≡_}
 use mathlib.Core.List.{List}
+use lib.Dec.{T}
+use lib.Ieee.{binary32, fits}
 use lib.ListN.{take}
 use Rattle.rules.specs.Faces.{edges}
 use Rattle.rules.specs.Call.{Call, Buffers, Answer, answer, afterwards, room}
 use Rattle.rules.specs.Cutting.{Piece, Face, facesSeen}
 
--- what went in, the lent lists as they were, the answer with V and I, and the lent lists afterwards: the two equations are those of the
--- contracts of surface_nets and bed_surface_nets
+-- what went in, the lent lists as they were, the answer with V and I, and the lent lists afterwards; the last three are what the
+-- contracts of surface_nets and bed_surface_nets say: the two equations, and that the grid's numbers are binary32 values
 pub record Served : Type 0 where
   pub call : Call
   pub before : Buffers
@@ -16,6 +19,7 @@ pub record Served : Type 0 where
   pub after : Buffers
   pub answered : says ≡ answer call (room before)
   pub left : after ≡ afterwards call before
+  pub numbers : (i : ℕ) → i < call .size → T (fits binary32 (call .grid .dist i))
 
 -- answer 0
 abbrev pub Done : Served → Type 0

@@ -1,7 +1,10 @@
 -- The call's arguments as the rules have them. Definitions only. Assumes nothing.
+use Prim.Native.Nat.{ℕ, _<_}
 use mathlib.Core.Bool.{Bool}
 use mathlib.Core.List.{List}
-use lib.Ieee.{Float}
+use lib.Dec.{T}
+use lib.Ieee.{Float, nan, binary32, fits}
+use lib.ListN.{length, getD}
 use Rattle.rules.specs.Call.{Call}
 use Rattle.grid.specs.declared.Extent.{Extent}
 use Rattle.grid.specs.declared.Block.{Block}
@@ -13,3 +16,7 @@ blockOf dims low high plane = record { dims = dims; low = low; high = high; «ma
 
 abbrev pub callMade : List Float → Extent → Extent → Extent → Bool → Call
 callMade grid dims low high plane = callOf grid (blockOf dims low high plane)
+
+-- each number of a list is a value of binary32, as those of every f32 list are
+abbrev pub Binary32 : List Float → Type 0
+Binary32 l = (i : ℕ) → i < length l → T (fits binary32 (getD l i nan))

@@ -4,7 +4,7 @@ ghost use mathlib.Core.Path.{_≡_};
 ghost use Rattle.rules.specs.Call.{answer, afterwards, room};
 ghost use Rattle.judge.specs.Reading.{answerOf};
 ghost use Rattle.pass.specs.Reading.{buffers};
-ghost use Rattle.surface_nets.specs.Reading.{callMade};
+ghost use Rattle.surface_nets.specs.Reading.{callMade, Binary32};
 use grid::Block;
 use grid::Extent;
 use grid::MaxPlane;
@@ -28,6 +28,7 @@ pub fn surface_nets(
 ) -> Answer
     ensures { λ r. ⌜ answerOf r ≡ answer (callMade (now (sdf .entry)) dims low high «max_plane») (room (buffers (now (positions .entry)) (now (normals .entry)) (now (cells .entry)) (now (strides .entry)) (now («stride_to_index» .entry)) (now (indices .entry)))) ⌝ }
     ensures { λ r. ⌜ buffers (now (positions .exit)) (now (normals .exit)) (now (cells .exit)) (now (strides .exit)) (now («stride_to_index» .exit)) (now (indices .exit)) ≡ afterwards (callMade (now (sdf .entry)) dims low high «max_plane») (buffers (now (positions .entry)) (now (normals .entry)) (now (cells .entry)) (now (strides .entry)) (now («stride_to_index» .entry)) (now (indices .entry))) ⌝ }
+    ensures { λ r. ⌜ Binary32 (now (sdf .entry)) ⌝ }
 {
     let k = Block {
         dims,

@@ -5,7 +5,7 @@ use native.Mathlib.Omega.{arith}
 use Rattle.rules.specs.Call.{Call, Buffers, Answer, answer, room}
 use Rattle.rules.proofs.Locality.{when-done, when-refused}
 use Rattle.pass.specs.Reading.{buffers}
-use Rattle.surface_nets.specs.Reading.{blockOf, callMade}
+use Rattle.surface_nets.specs.Reading.{blockOf, callMade, Binary32}
 use Rattle.surface_nets.proofs.Done.{done-inside, done-roomy}
 use borrow.Author.Needs.{needs}
 use Rattle.surface_nets.proofs.surface_nets.Statement.{statement}
@@ -29,6 +29,10 @@ lists-of s = let a = s .args in buffers (a .positions .now) (a .normals .now) (a
 number : (c : tie.After-answer-for) → c .answer-for .result .number ≡ answer (call-of (entry-of c)) (room (lists-of (entry-of c))) .number
 number c = ap (λ (t : Answer). t .number) (c .answer-for .ensures)
 
+-- each number of the grid is a value of its type, which nothing changes
+numbers : (c : tie.After-answer-for) → Binary32 (entry-of c .args .sdf .now)
+numbers c i l = c .before .before .before .before .before .before .before .shared-slice-known .given i
+
 -- ---- the needs
 
 answer-for-requires : tie.Need-answer-for-requires
@@ -38,7 +42,7 @@ returns : tie.Need-returns
 returns c =
     let p = c .before in
     let s = entry-of p in
-    (p .answer-for .ensures, sym (when-refused (call-of s) (lists-of s) (above-zero (λ e. c .if1 .taken (number p ∙ e)))))
+    (p .answer-for .ensures, (sym (when-refused (call-of s) (lists-of s) (above-zero (λ e. c .if1 .taken (number p ∙ e)))), numbers p))
 
 mesh-box-requires : tie.Need-mesh-box-requires
 mesh-box-requires c κs =
@@ -71,7 +75,7 @@ returns-2 c =
     let m = c .before .before .before .before .before .before .before .before .before .before .before .before in
     let q = m .before .before .before .before .before .before .before in
     let s = entry-of (q .before) in
-    (q .before .answer-for .ensures, m .mesh-box .ensures ∙ sym (when-done (call-of s) (lists-of s) (sym (number (q .before)) ∙ q .if1 .left)))
+    (q .before .answer-for .ensures, (m .mesh-box .ensures ∙ sym (when-done (call-of s) (lists-of s) (sym (number (q .before)) ∙ q .if1 .left)), numbers (q .before)))
 
 pub surface-nets-spec : {M : Type 1} → statement M
 surface-nets-spec =

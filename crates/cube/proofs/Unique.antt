@@ -1,9 +1,13 @@
 -- Two outcomes that fit a public function's contract are equal: for each, over the contract itself (OneResult). Assumes nothing.
-use mathlib.Core.Path.{_≡_, _∙_, sym, ap}
+use mathlib.Core.Path.{_≡_, refl, _∙_, sym, ap}
+use mathlib.Core.Option.{Option, none, some}
 use Prim.Native.Nat.{ℕ}
+use lib.Ieee.{Float}
 use Rattle.rules.specs.Cell.{Vector}
-use Rattle.cube.specs.Reading.{vector}
+use Rattle.cube.specs.Reading.{vector, fractionOf}
 use Rattle.cube.specs.declared.point.Point.{Point}
+use Rattle.cube.specs.declared.crossing.Crossing.{Crossing}
+use Rattle.cube.specs.declared.crossing.Crossing.the-variants.{No, At}
 use Rattle.cube.specs.declared.centroid.Crossings.{Crossings}
 use Rattle.cube.proofs.OneResult.{OneResult}
 use Rattle.cube.proofs.point.Point.add.Kinds as add-kinds
@@ -48,6 +52,19 @@ same-vector l l' = vector-injective (l ∙ sym l')
 same-crossings : {c c' : Crossings} → c .sum ≡ c' .sum → c .count ≡ c' .count → c ≡ c'
 same-crossings p q = λ i. record { sum = p i; count = q i }
 
+-- ---- an edge's answer is its fraction, or none
+
+abbrev withFraction : Option Float → Crossing
+withFraction none = No
+withFraction (some f) = At f
+
+back : (c : Crossing) → withFraction (fractionOf c) ≡ c
+back No = refl
+back (At f) = refl
+
+pub fraction-injective : (c c' : Crossing) → fractionOf c ≡ fractionOf c' → c ≡ c'
+fraction-injective c c' e = sym (back c) ∙ (ap withFraction e ∙ back c')
+
 -- ---- the functions
 
 pub add-once : OneResult 0 add-kinds.ps add-kinds.r add.Learnt
@@ -72,7 +89,7 @@ pub negative-once : OneResult 0 negative-kinds.ps negative-kinds.r negative.Lear
 negative-once κs a z z' e e' l l' = l ∙ sym l'
 
 pub estimate-surface-edge-intersection-once : OneResult 0 estimate-surface-edge-intersection-kinds.ps estimate-surface-edge-intersection-kinds.r estimate-surface-edge-intersection.Learnt
-estimate-surface-edge-intersection-once κs a z z' e e' l l' = l ∙ sym l'
+estimate-surface-edge-intersection-once κs a z z' e e' l l' = fraction-injective z z' (l ∙ sym l')
 
 pub sum-of-edge-intersections-once : OneResult 1 sum-of-edge-intersections-kinds.ps sum-of-edge-intersections-kinds.r sum-of-edge-intersections.Learnt
 sum-of-edge-intersections-once κs a z z' e e' l l' = same-crossings (same-vector (l .0) (l' .0)) (l .1 ∙ sym (l' .1))

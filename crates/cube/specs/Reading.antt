@@ -1,7 +1,8 @@
--- How the code's values are read as the rules' own: a point as a vector, an edge's answer by the values at its ends. Definitions only.
+-- How the code's values are read as the rules' own: a point as a vector, an edge's answer as no crossing or its fraction. Definitions only.
 -- Assumes nothing.
 use Prim.Native.Nat.{ℕ}
 use mathlib.Core.Bool.{Bool, true, false}
+use mathlib.Core.Option.{Option, none, some}
 use lib.Ieee.{Float, unlike}
 use lib.ListN.{getD}
 use Rattle.rules.specs.Grid.{GridPoint}
@@ -22,10 +23,15 @@ gridPoint x y z = record { x = x; y = y; z = z }
 abbrev pub edgeAt : ℕ → CubeEdge
 edgeAt e = getD cubeEdges e (cubeEdge 0 0)
 
-abbrev pub pickCrossing : Bool → Float → Crossing
-pickCrossing true f = At f
-pickCrossing false f = No
+-- document 01, "an edge answers no crossing, or a crossing with its fraction": what each case of the code's enum says
+abbrev pub fractionOf : Crossing → Option Float
+fractionOf No = none
+fractionOf (At f) = some f
+
+abbrev pub pickFraction : Bool → Float → Option Float
+pickFraction true f = some f
+pickFraction false f = none
 
 -- "Edge a-b crosses if exactly one end is negative": with its fraction, and otherwise no crossing
-abbrev pub crossingOf : Float → Float → Crossing
-crossingOf da db = pickCrossing (unlike (negative da) (negative db)) (fraction da db)
+abbrev pub crossingOf : Float → Float → Option Float
+crossingOf da db = pickFraction (unlike (negative da) (negative db)) (fraction da db)

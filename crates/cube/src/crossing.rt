@@ -1,7 +1,7 @@
 // Whether the surface crosses an edge, from the values at its two ends, and where.
 ghost use mathlib.Core.Path.{_≡_};
 ghost use Rattle.rules.specs.Cell.{negative};
-ghost use Rattle.cube.specs.Reading.{crossingOf};
+ghost use Rattle.cube.specs.Reading.{fractionOf, crossingOf};
 
 // An edge answers no crossing, or a crossing with its fraction of the way from the first end to the second.
 pub enum Crossing {
@@ -18,7 +18,7 @@ pub fn negative(d: f32) -> bool
 
 // "Edge a-b crosses if exactly one end is negative. Fraction f = da / (da - db)"
 pub fn estimate_surface_edge_intersection(value1: f32, value2: f32) -> Crossing
-    ensures { λ r. ⌜ r ≡ crossingOf value1 value2 ⌝ }
+    ensures { λ r. ⌜ fractionOf r ≡ crossingOf value1 value2 ⌝ }
 {
     if negative(value1) == negative(value2) {
         return Crossing::No;

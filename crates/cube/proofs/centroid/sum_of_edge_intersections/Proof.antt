@@ -89,18 +89,19 @@ loop-again c =
     let inv = at-loop .loop .inv in
     let from = at-ends .before .first-end .ensures .0 in
     let to = at-ends .second-end .ensures .0 in
+    let found = at-call .estimate-surface-edge-intersection .result in
     let told = at-call .estimate-surface-edge-intersection .ensures in (
       omega arith,
       ⊎-elim (λ w. omega arith) (λ w. omega arith) (c .match .came),
       ⊎-elim
-          (λ w. sum-turn (crosses d) (cubeEdge 0 0) (crossingPoint d) zeroVector cubeEdges e false h (inv .2) (not-crossed d (edgeAt e) from to told (w .1 .given .1)) (ap vector (w .2)))
-          (λ w. let found = crossed d (edgeAt e) from to told (w .1 .given .0 .0) (w .1 .given .1) in
-          sum-turn (crosses d) (cubeEdge 0 0) (crossingPoint d) zeroVector cubeEdges e true h (inv .2) (found .0)
-          (ap vector (w .5) ∙ (w .4 .ensures ∙ ap (plus (vector (at-loop .loop .sum))) (w .3 .ensures ∙ found .1))))
+          (λ w. sum-turn (crosses d) (cubeEdge 0 0) (crossingPoint d) zeroVector cubeEdges e false h (inv .2) (not-crossed d (edgeAt e) found from to told (w .1 .given .1)) (ap vector (w .2)))
+          (λ w. let at = crossed d (edgeAt e) found from to told (w .1 .given .0 .0) (w .1 .given .1) in
+          sum-turn (crosses d) (cubeEdge 0 0) (crossingPoint d) zeroVector cubeEdges e true h (inv .2) (at .0)
+          (ap vector (w .5) ∙ (w .4 .ensures ∙ ap (plus (vector (at-loop .loop .sum))) (w .3 .ensures ∙ at .1))))
           (c .match .came),
       ⊎-elim
-          (λ w. many-turn (crosses d) (cubeEdge 0 0) cubeEdges e false h (inv .3) (not-crossed d (edgeAt e) from to told (w .1 .given .1)) (w .3 ∙ sym (add-zero _)))
-          (λ w. many-turn (crosses d) (cubeEdge 0 0) cubeEdges e true h (inv .3) (crossed d (edgeAt e) from to told (w .1 .given .0 .0) (w .1 .given .1) .0) (w .6))
+          (λ w. many-turn (crosses d) (cubeEdge 0 0) cubeEdges e false h (inv .3) (not-crossed d (edgeAt e) found from to told (w .1 .given .1)) (w .3 ∙ sym (add-zero _)))
+          (λ w. many-turn (crosses d) (cubeEdge 0 0) cubeEdges e true h (inv .3) (crossed d (edgeAt e) found from to told (w .1 .given .0 .0) (w .1 .given .1) .0) (w .6))
           (c .match .came),
     )
 

@@ -5,13 +5,13 @@ use mathlib.Core.Bool.{Bool, not, Bool·beq}
 use lib.Ieee.{Float}
 use borrow.Author.Needs.{needs}
 use Rattle.rules.specs.Cell.{fraction}
-use Rattle.cube.specs.Reading.{pickCrossing}
+use Rattle.cube.specs.Reading.{pickFraction}
 use Rattle.cube.proofs.crossing.estimate_surface_edge_intersection.Statement.{statement}
 use Rattle.cube.proofs.crossing.estimate_surface_edge_intersection.Tie as tie
 
 -- the answer, by the two signs as the calls answered them
-told : {a b m n t : Bool} (f : Float) → a ≡ m → b ≡ n → Bool·beq a b ≡ t → pickCrossing (not t) f ≡ pickCrossing (not (Bool·beq m n)) f
-told f p q r = ap (λ (s : Bool). pickCrossing (not s) f) (sym r ∙ ap₂ Bool·beq p q)
+told : {a b m n t : Bool} (f : Float) → a ≡ m → b ≡ n → Bool·beq a b ≡ t → pickFraction (not t) f ≡ pickFraction (not (Bool·beq m n)) f
+told f p q r = ap (λ (s : Bool). pickFraction (not s) f) (sym r ∙ ap₂ Bool·beq p q)
 
 negative-requires : tie.Need-negative-requires
 negative-requires c κs = search needs

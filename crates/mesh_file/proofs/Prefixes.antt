@@ -8,18 +8,17 @@ use mathlib.Core.List.{List}
 use lib.ListN.{length, take, length-take}
 use Rattle.rules.proofs.Tests.{less-or-not}
 use Rattle.mesh_file.specs.Mesh.{Mesh}
-use Rattle.mesh_file.specs.Reading.{stepAt, seen, reading, whole, refused, after, readOf, readAnswer, readingIn, filledIn}
-use Rattle.mesh_record.specs.declared.Step.the-variants.{Vertex, Triangle}
+use Rattle.mesh_file.specs.Reading.{foundAt, seen, reading, whole, refused, after, readOf, readAnswer, readingIn, filledIn}
 use Rattle.mesh_record.proofs.Told.{vertex-told, triangle-told}
 use Rattle.mesh_file.proofs.History.{whole-records}
 use Rattle.mesh_file.proofs.Accepted.{whole-length}
 use Rattle.mesh_file.proofs.Steps.{vertex-step, triangle-step, vertex-before, triangle-before, reads-vertices, reads-triangles, reads-cut}
 
 module _ (f : List ℕ) (v t : ℕ) (e : readOf f ≡ whole v t) (n : ℕ) where
-  vertex-again : (j : ℕ) → j < v → 32 * j + 32 ≤ n → stepAt (take n f) (32 * j) (seen j 0) ≡ Vertex
+  vertex-again : (j : ℕ) → j < v → 32 * j + 32 ≤ n → foundAt (take n f) (32 * j) (seen j 0) .kind ≡ 1
   vertex-again j l h = vertex-step (take n f) (32 * j) (seen j 0) (vertex-before f n (32 * j) (seen j 0) h (vertex-told f (32 * j) (seen j 0) (whole-records f v t e .0 .vertices j l)))
 
-  triangle-again : (j : ℕ) → j < t → 32 * (v + j) + 32 ≤ n → stepAt (take n f) (32 * (v + j)) (seen v j) ≡ Triangle
+  triangle-again : (j : ℕ) → j < t → 32 * (v + j) + 32 ≤ n → foundAt (take n f) (32 * (v + j)) (seen v j) .kind ≡ 2
   triangle-again j l h =
       triangle-step (take n f) (32 * (v + j)) (seen v j) (triangle-before f n (32 * (v + j)) (seen v j) h (triangle-told f (32 * (v + j)) (seen v j) (whole-records f v t e .0 .triangles j l)))
 

@@ -14,9 +14,8 @@ use lib.Ieee.Bits.{ofBits-toBits, toBits-lt, is-true}
 use Rattle.rules.specs.Lists.{some}
 use Rattle.mesh_file.specs.Record.{wordAt, each}
 use Rattle.mesh_file.specs.Mesh.{Mesh, mesh, vertexCount, triangleCount, finite, AllFinite, bitsAt, vertexRecord, triangleRecord, closingRecord, fileOf, fileLength}
-use Rattle.mesh_file.specs.Reading.{finiteBits, threeFinite, stepAt, seen, whole, readOf, floatsAt, numbersAt, floatsOf, indicesOf, meshIn}
+use Rattle.mesh_file.specs.Reading.{finiteBits, threeFinite, foundAt, seen, whole, readOf, floatsAt, numbersAt, floatsOf, indicesOf, meshIn}
 use Rattle.mesh_file.specs.Writing.{badLists, noVertex, badIndices, notFinite, badFloats}
-use Rattle.mesh_record.specs.declared.Step.the-variants.{Vertex, Triangle, Closed}
 use Rattle.mesh_record.proofs.Laying.{each-length}
 use Rattle.mesh_record.proofs.Recording.{record-length}
 use Rattle.mesh_record.proofs.Either.{or-left, or-right}
@@ -146,7 +145,7 @@ module _ (m : Mesh) (w : Writable m) where
 
   -- ---- its records
 
-  vertex-good : (k : ℕ) → k < vertexCount m → stepAt (fileOf m) (32 * k) (seen k 0) ≡ Vertex
+  vertex-good : (k : ℕ) → k < vertexCount m → foundAt (fileOf m) (32 * k) (seen k 0) .kind ≡ 1
   vertex-good k l =
       let g = lengths in
       let s = g .same in
@@ -165,7 +164,7 @@ module _ (m : Mesh) (w : Writable m) where
             (rw (three-finite (m .positions) (w .positions-fit) positions-finite k a, three-finite (m .normals) (w .normals-fit) normals-finite k b) refl);
       })
 
-  triangle-good : (k : ℕ) → k < triangleCount m → stepAt (fileOf m) (32 * (vertexCount m + k)) (seen (vertexCount m) k) ≡ Triangle
+  triangle-good : (k : ℕ) → k < triangleCount m → foundAt (fileOf m) (32 * (vertexCount m + k)) (seen (vertexCount m) k) .kind ≡ 2
   triangle-good k l =
       let n = file-length m in
       let h = triangle-holds k l in
@@ -181,7 +180,7 @@ module _ (m : Mesh) (w : Writable m) where
         below = rw (h .w₁, h .w₂, h .w₃) (rw (a, b, c) refl);
       })
 
-  closing-good : stepAt (fileOf m) (32 * (vertexCount m + triangleCount m)) (seen (vertexCount m) (triangleCount m)) ≡ Closed
+  closing-good : foundAt (fileOf m) (32 * (vertexCount m + triangleCount m)) (seen (vertexCount m) (triangleCount m)) .kind ≡ 3
   closing-good =
       let n = file-length m in
       let h = closing-holds in

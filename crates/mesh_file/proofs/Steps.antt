@@ -11,13 +11,11 @@ use lib.Dec.{ltb}
 use lib.ListN.{length, take, length-take}
 use lib.Seq.{getD-take}
 use Rattle.mesh_file.specs.Record.{wordAt}
-use Rattle.mesh_file.specs.Reading.{wordsAt, badSum, badKind, badZero, badCounts, badIndex, badFloat, badEnd, goodStep, stepAt, seen, reading, whole, refused, counted, after, readOf}
+use Rattle.mesh_file.specs.Reading.{wordsAt, badSum, badKind, badZero, badCounts, badIndex, badFloat, badEnd, Found, foundAt, seen, reading, whole, refused, counted, after, readOf}
 use Rattle.mesh_record.specs.declared.Seen.{Seen}
-use Rattle.mesh_record.specs.declared.Step.{Step}
-use Rattle.mesh_record.specs.declared.Step.the-variants.{Vertex, Triangle, Closed}
-use Rattle.mesh_record.proofs.OneStep.{step-cut}
+use Rattle.mesh_record.proofs.OneStep.{found-cut}
 use Rattle.mesh_file.proofs.Progressing.{after-next, after-none, read-is}
-use Rattle.mesh_record.proofs.Told.{NoFault, good-step, Sum, VertexTold, TriangleTold, ClosingTold}
+use Rattle.mesh_record.proofs.Told.{NoFault, good-found, Sum, VertexTold, TriangleTold, ClosingTold}
 
 -- ---- one record
 
@@ -25,7 +23,7 @@ good-sum : (f : List ℕ) (at : ℕ) → Sum f at → badSum (wordsAt f at) ≡ 
 unfolding badSum
 good-sum f at e = ap not (eq-eqb _ _ e)
 
-pub vertex-step : (f : List ℕ) (at : ℕ) (s : Seen) → VertexTold f at s → stepAt f at s ≡ Vertex
+pub vertex-step : (f : List ℕ) (at : ℕ) (s : Seen) → VertexTold f at s → foundAt f at s .kind ≡ 1
 unfolding badKind badZero badCounts badIndex badFloat badEnd
 vertex-step f at s g =
     let k = g .kind in
@@ -39,9 +37,9 @@ vertex-step f at s g =
       float = rw (k, g .floats) refl;
       last = rw k refl;
     } in
-    good-step f at s (g .room) n ∙ ap goodStep k
+    ap (λ (x : Found). x .kind) (good-found f at s (g .room) n) ∙ k
 
-pub triangle-step : (f : List ℕ) (at : ℕ) (s : Seen) → TriangleTold f at s → stepAt f at s ≡ Triangle
+pub triangle-step : (f : List ℕ) (at : ℕ) (s : Seen) → TriangleTold f at s → foundAt f at s .kind ≡ 2
 unfolding badKind badZero badCounts badIndex badFloat badEnd
 triangle-step f at s g =
     let k = g .kind in
@@ -55,9 +53,9 @@ triangle-step f at s g =
       float = rw k refl;
       last = rw k refl;
     } in
-    good-step f at s (g .room) n ∙ ap goodStep k
+    ap (λ (x : Found). x .kind) (good-found f at s (g .room) n) ∙ k
 
-pub closing-step : (f : List ℕ) (at : ℕ) (s : Seen) → ClosingTold f at s → stepAt f at s ≡ Closed
+pub closing-step : (f : List ℕ) (at : ℕ) (s : Seen) → ClosingTold f at s → foundAt f at s .kind ≡ 3
 unfolding badKind badZero badCounts badIndex badFloat badEnd
 closing-step f at s g =
     let k = g .kind in
@@ -73,29 +71,29 @@ closing-step f at s g =
       float = rw k refl;
       last = rw (k, le-ltb (at + 32) (length f) (omega arith)) refl;
     } in
-    good-step f at s h n ∙ ap goodStep k
+    ap (λ (x : Found). x .kind) (good-found f at s h n) ∙ k
 
 -- ---- many records
 
 module _ (f : List ℕ) where
-  pub reads-vertices : (v : ℕ) → ((j : ℕ) → j < v → stepAt f (32 * j) (seen j 0) ≡ Vertex) → after f v ≡ reading v 0
+  pub reads-vertices : (v : ℕ) → ((j : ℕ) → j < v → foundAt f (32 * j) (seen j 0) .kind ≡ 1) → after f v ≡ reading v 0
   reads-vertices zero h = after-none f
   reads-vertices (suc v) h =
-      after-next f v v 0 (reads-vertices v (λ j l. h j (omega arith))) ∙ ap (λ (x : Step). counted x v 0) (h v (omega arith))
+      after-next f v v 0 (reads-vertices v (λ j l. h j (omega arith))) ∙ rw (h v (omega arith)) refl
 
-  pub reads-triangles : (v t : ℕ) → after f v ≡ reading v 0 → ((j : ℕ) → j < t → stepAt f (32 * (v + j)) (seen v j) ≡ Triangle) → after f (v + t) ≡ reading v t
+  pub reads-triangles : (v t : ℕ) → after f v ≡ reading v 0 → ((j : ℕ) → j < t → foundAt f (32 * (v + j)) (seen v j) .kind ≡ 2) → after f (v + t) ≡ reading v t
   reads-triangles v zero e h = ap (after f) (add-zero v) ∙ e
   reads-triangles v (suc t) e h =
-      ap (after f) (add-suc v t) ∙ (after-next f (v + t) v t (reads-triangles v t e (λ j l. h j (omega arith))) ∙ ap (λ (x : Step). counted x v t) (h t (omega arith)))
+      ap (after f) (add-suc v t) ∙ (after-next f (v + t) v t (reads-triangles v t e (λ j l. h j (omega arith))) ∙ rw (h t (omega arith)) refl)
 
-  pub reads-whole : (v t : ℕ) → ((j : ℕ) → j < v → stepAt f (32 * j) (seen j 0) ≡ Vertex) → ((j : ℕ) → j < t → stepAt f (32 * (v + j)) (seen v j) ≡ Triangle)
-      → stepAt f (32 * (v + t)) (seen v t) ≡ Closed → 32 * (v + t) ≤ length f → readOf f ≡ whole v t
+  pub reads-whole : (v t : ℕ) → ((j : ℕ) → j < v → foundAt f (32 * j) (seen j 0) .kind ≡ 1) → ((j : ℕ) → j < t → foundAt f (32 * (v + j)) (seen v j) .kind ≡ 2)
+      → foundAt f (32 * (v + t)) (seen v t) .kind ≡ 3 → 32 * (v + t) ≤ length f → readOf f ≡ whole v t
   reads-whole v t a b c h =
-      read-is f (v + t) (whole v t) tt h (after-next f (v + t) v t (reads-triangles v t (reads-vertices v a) b) ∙ ap (λ (x : Step). counted x v t) c)
+      read-is f (v + t) (whole v t) tt h (after-next f (v + t) v t (reads-triangles v t (reads-vertices v a) b) ∙ rw c refl)
 
   -- good records, and then the end of the file inside one
   pub reads-cut : (k v t : ℕ) → after f k ≡ reading v t → 32 * k ≤ length f → length f < 32 * k + 32 → readOf f ≡ refused 21
-  reads-cut k v t e h l = read-is f k (refused 21) tt h (after-next f k v t e ∙ ap (λ (x : Step). counted x v t) (step-cut f (32 * k) (seen v t) l))
+  reads-cut k v t e h l = read-is f k (refused 21) tt h (after-next f k v t e ∙ ap (λ (x : Found). counted x v t) (found-cut f (32 * k) (seen v t) l))
 
 -- ---- a shorter beginning
 

@@ -3,16 +3,14 @@
 use Prim.Native.Nat.{ℕ, zero, suc, _+_, _*_, _/_, _<_}
 use mathlib.Core.Bool.{Bool, _||_, cond}
 use mathlib.Core.List.{List, [], _∷_}
-use lib.Dec.{T, ltb}
+use lib.Dec.{T, ltb, eqb}
 use lib.ListN.{length}
 use lib.Ieee.{Float, binary32, ofBits}
 use Rattle.rules.specs.Lists.{over}
-unfoldable pub use Rattle.mesh_record.specs.Faults.{badSum, badKind, badZero, badCounts, badIndex, badFloat, badEnd, faultOf, stepAt}
-pub use Rattle.mesh_record.specs.Faults.{wordsAt, cut, allZero, finiteBits, threeFinite, goodStep, stepOf, seen}
+unfoldable pub use Rattle.mesh_record.specs.Faults.{badSum, badKind, badZero, badCounts, badIndex, badFloat, badEnd, faultOf, foundAt}
+pub use Rattle.mesh_record.specs.Faults.{wordsAt, cut, allZero, finiteBits, threeFinite, Found, good, faulty, numbersOf, foundOf, seen}
 use Rattle.mesh_file.specs.Record.{wordAt, each}
 use Rattle.mesh_file.specs.Mesh.{Mesh, mesh}
-use Rattle.mesh_record.specs.declared.Step.{Step}
-use Rattle.mesh_record.specs.declared.Step.the-variants.{Vertex, Triangle, Closed, Refused}
 use Rattle.mesh_file.specs.declared.Read.{Read}
 
 -- ---- the whole file
@@ -23,14 +21,15 @@ pub data Progress : Type 0 where
   whole : ℕ → ℕ → Progress
   refused : ℕ → Progress
 
-abbrev pub counted : Step → ℕ → ℕ → Progress
-counted Vertex v t = reading (suc v) t
-counted Triangle v t = reading v (suc t)
-counted Closed v t = whole v t
-counted (Refused n) v t = refused n
+-- what a record adds: a vertex, a triangle, the end, or its fault
+abbrev pub counted : Found → ℕ → ℕ → Progress
+counted x v t =
+    cond (eqb (x .kind) 1) (reading (suc v) t)
+    (cond (eqb (x .kind) 2) (reading v (suc t))
+    (cond (eqb (x .kind) 3) (whole v t) (refused (x .fault))))
 
 abbrev pub further : List ℕ → ℕ → Progress → Progress
-further f k (reading v t) = counted (stepAt f (32 * k) (seen v t)) v t
+further f k (reading v t) = counted (foundAt f (32 * k) (seen v t)) v t
 further f k (whole v t) = whole v t
 further f k (refused n) = refused n
 

@@ -6,7 +6,7 @@ mod writer;
 ghost use mathlib.Core.Path.{_≡_};
 ghost use lib.ListN.{length, drop};
 ghost use Rattle.mesh_file.specs.Mesh.{mesh};
-ghost use Rattle.mesh_file.specs.Reading.{stepAt, readAnswer, checked, readOf, readingIn, filledIn};
+ghost use Rattle.mesh_file.specs.Reading.{numbersOf, foundAt, readAnswer, checked, readOf, readingIn, filledIn};
 ghost use Rattle.mesh_file.specs.Writing.{writing, written};
 use lists::fill_floats;
 use lists::fill_indices;
@@ -116,7 +116,7 @@ impl<'a> Reader<'a> {
 
     // The record at its place, after so many vertices and triangles.
     pub fn next(self, seen: Seen) -> Step
-        ensures { λ s. ⌜ s ≡ stepAt (now (self .entry .src)) (self .entry .at) seen ⌝ }
+        ensures { λ s. ⌜ numbersOf s ≡ foundAt (now (self .entry .src)) (self .entry .at) seen ⌝ }
     {
         step_at(self.src, self.at, seen)
     }

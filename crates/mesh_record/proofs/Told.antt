@@ -1,18 +1,18 @@
 -- What a record that is not refused tells, kind by kind: its sum, its zeros, its counts, its indices, its floats. Assumes nothing.
 use Prim.Native.Nat.{ℕ, zero, suc, _+_, _≤_}
 use native.Mathlib.Omega.{arith}
-use mathlib.Core.Path.{_≡_, refl, sym, _∙_, subst}
+use mathlib.Core.Path.{_≡_, refl, sym, subst}
+use mathlib.Core.Logic.{inl, inr}
 use mathlib.Core.Bool.{Bool, true, false, not, _&&_, _||_, cond}
 use mathlib.Core.List.{List, [], _∷_}
 use borrow.Author.Tests.{eq-eqb, eqb-true, ltb-false, le-ltb, not-false}
 use lib.Dec.{ltb, eqb}
 use lib.ListN.{length}
 use Rattle.mesh_record.specs.Record.{wordAt, sumOf}
-use Rattle.mesh_record.specs.Faults.{wordsAt, badSum, badKind, allZero, badZero, badCounts, badIndex, threeFinite, badFloat, badEnd, faultOf, goodStep, stepOf, stepAt}
+use Rattle.mesh_record.specs.Faults.{wordsAt, badSum, badKind, allZero, badZero, badCounts, badIndex, threeFinite, badFloat, badEnd, faultOf, Found, good, faulty, Known, foundOf, foundAt}
 use Rattle.mesh_record.specs.declared.Words.{Words}
 use Rattle.mesh_record.specs.declared.Seen.{Seen}
-use Rattle.mesh_record.specs.declared.Step.the-variants.{Vertex, Triangle, Closed, Refused}
-use Rattle.mesh_record.proofs.OneStep.{Good, good-whole}
+use Rattle.mesh_record.proofs.OneStep.{kind-whole}
 use Rattle.mesh_record.proofs.Either.{or-left, or-right}
 
 -- ---- tests that passed and failed
@@ -62,59 +62,43 @@ pub fault-none : (w : Words) (s : Seen) (more : Bool) → NoFault w s more → f
 unfolding faultOf
 fault-none w s more n = rw (n .sum, n .kind, n .zero, n .counts, n .index, n .float, n .last) refl
 
--- ---- a good step
+-- ---- a good record
 
-good-of : (fault kind : ℕ) → Good (stepOf fault kind) → (fault ≡ 0) × (stepOf fault kind ≡ goodStep kind)
-good-of fault kind = go (eqb fault 0) refl
+kind-of : (fault kind k : ℕ) → foundOf fault kind .kind ≡ suc k → (fault ≡ 0) × (kind ≡ suc k)
+kind-of fault kind k = go (eqb fault 0) refl
   where
-    go : (b : Bool) → eqb fault 0 ≡ b → Good (cond b (goodStep kind) (Refused fault)) → (fault ≡ 0) × (cond b (goodStep kind) (Refused fault) ≡ goodStep kind)
-    go true e g = (eqb-true fault 0 e, refl)
-    go false e g = absurd g
+    go : (b : Bool) → eqb fault 0 ≡ b → cond b (good kind) (faulty fault) .kind ≡ suc k → (fault ≡ 0) × (kind ≡ suc k)
+    go true e g = (eqb-true fault 0 e, g)
+    go false e g = absurd (omega (arith, g))
 
-pub record GoodRecord (f : List ℕ) (at : ℕ) (s : Seen) : Type 0 where
+pub record GoodRecord (f : List ℕ) (at : ℕ) (s : Seen) (k : ℕ) : Type 0 where
   pub room : at + 32 ≤ length f
+  pub kind : wordAt f at ≡ k
   pub faultless : NoFault (wordsAt f at) s (ltb (at + 32) (length f))
-  pub step : stepAt f at s ≡ goodStep (wordAt f at)
 
-pub good-record : (f : List ℕ) (at : ℕ) (s : Seen) → Good (stepAt f at s) → GoodRecord f at s
-unfolding stepAt
-good-record f at s g =
-    let h = good-whole f at s g in
+pub good-record : (f : List ℕ) (at : ℕ) (s : Seen) (k : ℕ) → foundAt f at s .kind ≡ suc k → GoodRecord f at s (suc k)
+unfolding foundAt
+good-record f at s k g =
+    let h = kind-whole f at s k g in
     let c : ltb (length f) (at + 32) ≡ false = le-ltb (length f) (at + 32) h in
     let n = faultOf (wordsAt f at) s (ltb (at + 32) (length f)) in
-    let p = good-of n (wordAt f at) (subst (λ (b : Bool). Good (cond b (Refused 21) (stepOf n (wordAt f at)))) c g) in
-    record { room = h; faultless = no-fault (wordsAt f at) s (ltb (at + 32) (length f)) (p .0); step = rw c (p .1) }
+    let p = kind-of n (wordAt f at) k (subst (λ (b : Bool). cond b (faulty 21) (foundOf n (wordAt f at)) .kind ≡ suc k) c g) in
+    record { room = h; kind = p .1; faultless = no-fault (wordsAt f at) s (ltb (at + 32) (length f)) (p .0) }
 
-pub good-step : (f : List ℕ) (at : ℕ) (s : Seen) → at + 32 ≤ length f → NoFault (wordsAt f at) s (ltb (at + 32) (length f)) → stepAt f at s ≡ goodStep (wordAt f at)
-unfolding stepAt
-good-step f at s h n = rw (le-ltb (length f) (at + 32) h) (rw (fault-none (wordsAt f at) s (ltb (at + 32) (length f)) n) refl)
+pub good-found : (f : List ℕ) (at : ℕ) (s : Seen) → at + 32 ≤ length f → NoFault (wordsAt f at) s (ltb (at + 32) (length f)) → foundAt f at s ≡ good (wordAt f at)
+unfolding foundAt
+good-found f at s h n = rw (le-ltb (length f) (at + 32) h) (rw (fault-none (wordsAt f at) s (ltb (at + 32) (length f)) n) refl)
 
 -- ---- kinds
 
-vertex-kind : (k : ℕ) → goodStep k ≡ Vertex → k ≡ 1
-vertex-kind k = go (eqb k 1) refl (eqb k 2) refl
-  where
-    go : (a : Bool) → eqb k 1 ≡ a → (b : Bool) → eqb k 2 ≡ b → cond a Vertex (cond b Triangle Closed) ≡ Vertex → k ≡ 1
-    go true e b q h = eqb-true k 1 e
-    go false e true q h = let z : _≡_ {A = ℕ} 0 1 = cc in absurd (omega arith)
-    go false e false q h = let z : _≡_ {A = ℕ} 0 1 = cc in absurd (omega arith)
-
-triangle-kind : (k : ℕ) → goodStep k ≡ Triangle → k ≡ 2
-triangle-kind k = go (eqb k 1) refl (eqb k 2) refl
-  where
-    go : (a : Bool) → eqb k 1 ≡ a → (b : Bool) → eqb k 2 ≡ b → cond a Vertex (cond b Triangle Closed) ≡ Triangle → k ≡ 2
-    go true e b q h = let z : _≡_ {A = ℕ} 0 1 = cc in absurd (omega arith)
-    go false e true q h = eqb-true k 2 q
-    go false e false q h = let z : _≡_ {A = ℕ} 0 1 = cc in absurd (omega arith)
-
-closed-kind : (k t : ℕ) → goodStep k ≡ Closed → badKind k t ≡ false → k ≡ 3
+pub known-kind : (k t : ℕ) → badKind k t ≡ false → Known k
 unfolding badKind
-closed-kind k t = go (eqb k 1) refl (eqb k 2) refl
+known-kind k t = go (eqb k 1) refl (eqb k 2) refl
   where
-    go : (a : Bool) → eqb k 1 ≡ a → (b : Bool) → eqb k 2 ≡ b → cond a Vertex (cond b Triangle Closed) ≡ Closed → (a && not (eqb t 0)) || (not a && not b && not (eqb k 3)) ≡ false → k ≡ 3
-    go true e b q h n = let z : _≡_ {A = ℕ} 0 1 = cc in absurd (omega arith)
-    go false e true q h n = let z : _≡_ {A = ℕ} 0 1 = cc in absurd (omega arith)
-    go false e false q h n = eqb-true k 3 (not-false (eqb k 3) n)
+    go : (a : Bool) → eqb k 1 ≡ a → (b : Bool) → eqb k 2 ≡ b → (a && not (eqb t 0)) || (not a && not b && not (eqb k 3)) ≡ false → Known k
+    go true e b q n = inl (eqb-true k 1 e)
+    go false e true q n = inr (inl (eqb-true k 2 q))
+    go false e false q n = inr (inr (eqb-true k 3 (not-false (eqb k 3) n)))
 
 -- a vertex comes before all triangles
 vertex-first : (k t : ℕ) → k ≡ 1 → badKind k t ≡ false → t ≡ 0
@@ -138,11 +122,11 @@ pub record VertexTold (f : List ℕ) (at : ℕ) (s : Seen) : Type 0 where
   pub first : s .triangles ≡ 0
   pub floats : threeFinite (wordAt f (at + 4)) (wordAt f (at + 8)) (wordAt f (at + 12)) && threeFinite (wordAt f (at + 16)) (wordAt f (at + 20)) (wordAt f (at + 24)) ≡ true
 
-pub vertex-told : (f : List ℕ) (at : ℕ) (s : Seen) → stepAt f at s ≡ Vertex → VertexTold f at s
+pub vertex-told : (f : List ℕ) (at : ℕ) (s : Seen) → foundAt f at s .kind ≡ 1 → VertexTold f at s
 unfolding badFloat
 vertex-told f at s e =
-    let g = good-record f at s (subst Good (sym e) tt) in
-    let k = vertex-kind (wordAt f at) (sym (g .step) ∙ e) in
+    let g = good-record f at s 0 e in
+    let k = g .kind in
     record {
       room = g .room;
       kind = k;
@@ -158,11 +142,11 @@ pub record TriangleTold (f : List ℕ) (at : ℕ) (s : Seen) : Type 0 where
   pub zeros : allZero 0 (wordAt f (at + 16)) (wordAt f (at + 20)) (wordAt f (at + 24)) ≡ true
   pub below : ltb (wordAt f (at + 4)) (s .vertices) && ltb (wordAt f (at + 8)) (s .vertices) && ltb (wordAt f (at + 12)) (s .vertices) ≡ true
 
-pub triangle-told : (f : List ℕ) (at : ℕ) (s : Seen) → stepAt f at s ≡ Triangle → TriangleTold f at s
+pub triangle-told : (f : List ℕ) (at : ℕ) (s : Seen) → foundAt f at s .kind ≡ 2 → TriangleTold f at s
 unfolding badZero badIndex
 triangle-told f at s e =
-    let g = good-record f at s (subst Good (sym e) tt) in
-    let k = triangle-kind (wordAt f at) (sym (g .step) ∙ e) in
+    let g = good-record f at s 1 e in
+    let k = g .kind in
     record {
       room = g .room;
       kind = k;
@@ -179,11 +163,11 @@ pub record ClosingTold (f : List ℕ) (at : ℕ) (s : Seen) : Type 0 where
   pub vertices : wordAt f (at + 4) ≡ s .vertices
   pub triangles : wordAt f (at + 8) ≡ s .triangles
 
-pub closing-told : (f : List ℕ) (at : ℕ) (s : Seen) → stepAt f at s ≡ Closed → ClosingTold f at s
+pub closing-told : (f : List ℕ) (at : ℕ) (s : Seen) → foundAt f at s .kind ≡ 3 → ClosingTold f at s
 unfolding badZero badCounts badEnd
 closing-told f at s e =
-    let g = good-record f at s (subst Good (sym e) tt) in
-    let k = closed-kind (wordAt f at) (s .triangles) (sym (g .step) ∙ e) (g .faultless .kind) in
+    let g = good-record f at s 2 e in
+    let k = g .kind in
     let t = eq-eqb (wordAt f at) 3 k in
     let c : eqb (wordAt f (at + 4)) (s .vertices) && eqb (wordAt f (at + 8)) (s .triangles) ≡ true = not-false _ (second-false (eqb (wordAt f at) 3) _ t (g .faultless .counts)) in
     let h = g .room in

@@ -1,6 +1,8 @@
--- Document 02, request 2: the faults of one record, "in one record the lowest number", and the step that a record is. Definitions only.
+-- Document 02, request 2: the faults of one record, "in one record the lowest number", and what reading finds at a place. Definitions only.
 -- Assumes nothing.
 use Prim.Native.Nat.{ℕ, _+_}
+use mathlib.Core.Path.{_≡_}
+use mathlib.Core.Logic.{_⊎_}
 use mathlib.Core.Bool.{Bool, true, false, not, _||_, _&&_, cond}
 use mathlib.Core.List.{List, [], _∷_}
 use lib.Dec.{ltb, eqb}
@@ -86,15 +88,34 @@ faultOf w s more =
 
 -- ---- one record
 
-abbrev pub goodStep : ℕ → Step
-goodStep kind = cond (eqb kind 1) Vertex (cond (eqb kind 2) Triangle Closed)
+-- what reading finds at a place, in the request's numbers: a good record's kind, 1 to 3, and fault 0; or kind 0 and the number of the fault
+pub record Found : Type 0 where
+  pub kind : ℕ
+  pub fault : ℕ
 
-abbrev pub stepOf : ℕ → ℕ → Step
-stepOf fault kind = cond (eqb fault 0) (goodStep kind) (Refused fault)
+abbrev pub good : ℕ → Found
+good kind = record { kind = kind; fault = 0 }
+
+abbrev pub faulty : ℕ → Found
+faulty fault = record { kind = 0; fault = fault }
+
+-- those numbers for each case of the code's enum
+abbrev pub numbersOf : Step → Found
+numbersOf Vertex = good 1
+numbersOf Triangle = good 2
+numbersOf Closed = good 3
+numbersOf (Refused n) = faulty n
+
+-- "Vertex: 1", "Triangle: 2", "Closing: 3"
+abbrev pub Known : ℕ → Type 0
+Known kind = (kind ≡ 1) ⊎ ((kind ≡ 2) ⊎ (kind ≡ 3))
+
+abbrev pub foundOf : ℕ → ℕ → Found
+foundOf fault kind = cond (eqb fault 0) (good kind) (faulty fault)
 
 -- what reading finds at a place of a file, after so many vertices and triangles
-unfoldable pub stepAt : List ℕ → ℕ → Seen → Step
-stepAt f at s = cond (cut f at) (Refused 21) (stepOf (faultOf (wordsAt f at) s (ltb (at + 32) (length f))) (wordAt f at))
+unfoldable pub foundAt : List ℕ → ℕ → Seen → Found
+foundAt f at s = cond (cut f at) (faulty 21) (foundOf (faultOf (wordsAt f at) s (ltb (at + 32) (length f))) (wordAt f at))
 
 abbrev pub seen : ℕ → ℕ → Seen
 seen v t = record { vertices = v; triangles = t }

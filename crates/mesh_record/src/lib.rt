@@ -7,7 +7,7 @@ ghost use lib.Dec.{eqb, ltb};
 ghost use lib.ListN.{length};
 ghost use Rattle.rules.specs.Lists.{joined};
 ghost use Rattle.mesh_record.specs.Record.{bytesOf, wordAt, sumOf, recordOf, laid};
-ghost use Rattle.mesh_record.specs.Faults.{wordsAt, badSum, badKind, allZero, badZero, badCounts, badIndex, finiteBits, threeFinite, badFloat, badEnd, faultOf, stepOf, stepAt};
+ghost use Rattle.mesh_record.specs.Faults.{wordsAt, badSum, badKind, allZero, badZero, badCounts, badIndex, finiteBits, threeFinite, badFloat, badEnd, faultOf, numbersOf, Known, foundOf, foundAt};
 
 // The eight words of a record.
 pub struct Words {
@@ -186,7 +186,8 @@ fn fault_of(w: Words, seen: Seen, more: bool) -> u32
 // ---- one record at a place
 
 fn kind_found(kind: u32, fault: u32) -> Step
-    ensures { λ r. ⌜ r ≡ stepOf fault kind ⌝ }
+    requires { ⌜ (fault ≡ 0 → Known kind) ⌝ }
+    ensures { λ r. ⌜ numbersOf r ≡ foundOf fault kind ⌝ }
 {
     if fault != 0 {
         return Step::Refused(fault);
@@ -201,7 +202,7 @@ fn kind_found(kind: u32, fault: u32) -> Step
 }
 
 pub fn step_at(src: &[u8], at: usize, seen: Seen) -> Step
-    ensures { λ r. ⌜ r ≡ stepAt (now (src .entry)) at seen ⌝ }
+    ensures { λ r. ⌜ numbersOf r ≡ foundAt (now (src .entry)) at seen ⌝ }
 {
     if src.len() < at {
         return Step::Refused(21);

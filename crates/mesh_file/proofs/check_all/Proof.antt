@@ -3,12 +3,11 @@
 use borrow.Author.Needs.{needs}
 use native.Mathlib.Omega.{arith}
 use Prim.Native.Nat.{_+_, _-_, _≤_}
-use mathlib.Core.Path.{sym, ap, _∙_, subst}
+use mathlib.Core.Path.{sym, ap, _∙_}
 use mathlib.Core.Logic.{⊎-elim}
 use lib.ListN.{length}
-use Rattle.mesh_file.specs.Reading.{after, checked}
-use Rattle.mesh_record.proofs.OneStep.{Good, good-whole}
-use Rattle.mesh_file.proofs.Progressing.{SoFar, vertex-next, triangle-next, closed-read, refused-read}
+use Rattle.mesh_file.specs.Reading.{numbersOf, after, checked}
+use Rattle.mesh_file.proofs.Progressing.{SoFar, good-whole, vertex-next, triangle-next, closed-read, refused-read}
 use Rattle.mesh_file.proofs.check_all.Statement.{statement}
 use Rattle.mesh_file.proofs.check_all.Tie as tie
 
@@ -41,7 +40,7 @@ enum-told-3 : tie.Need-enum-told-3 Inv-loop μ-loop
 enum-told-3 c = search needs
 
 returns : tie.Need-returns Inv-loop μ-loop
-returns c = ap checked (sym (closed-read _ _ _ _ (c .before .before .before .loop .inv) (sym (c .enum-told3 .given .1) ∙ c .before .before .step-at .ensures)))
+returns c = ap checked (sym (closed-read _ _ _ _ (c .before .before .before .loop .inv) (sym (ap numbersOf (c .enum-told3 .given .1)) ∙ c .before .before .step-at .ensures)))
 
 enum-known-n : tie.Need-enum-known-n Inv-loop μ-loop
 enum-known-n c = search needs
@@ -50,7 +49,7 @@ refusal-requires : tie.Need-refusal-requires Inv-loop μ-loop
 refusal-requires c κs = search needs
 
 returns-2 : tie.Need-returns-2 Inv-loop μ-loop
-returns-2 c = c .refusal .ensures ∙ ap checked (sym (refused-read _ _ _ _ _ (c .before .before .before .before .before .loop .inv) (sym (c .before .before .n .given .1) ∙ c .before .before .before .before .step-at .ensures)))
+returns-2 c = c .refusal .ensures ∙ ap checked (sym (refused-read _ _ _ _ _ (c .before .before .before .before .before .loop .inv) (sym (ap numbersOf (c .before .before .n .given .1)) ∙ c .before .before .before .before .step-at .ensures)))
 
 add-at : tie.Need-add-at Inv-loop μ-loop
 add-at c = omega arith
@@ -60,14 +59,14 @@ loop-less c =
     let s = c .before .step-at .ensures in
     let a = c .before .before .before .before .args .src .now in
     let l = c .before .before .loop in
-    let h : l .at + 32 ≤ length a = ⊎-elim (λ w. good-whole _ _ _ (subst Good (sym (w .1 .given .1) ∙ s) tt)) (λ w. good-whole _ _ _ (subst Good (sym (w .1 .given .1) ∙ s) tt)) (c .match .came) in
+    let h : l .at + 32 ≤ length a = ⊎-elim (λ w. good-whole _ _ _ _ 0 (sym (ap numbersOf (w .1 .given .1)) ∙ s)) (λ w. good-whole _ _ _ _ 1 (sym (ap numbersOf (w .1 .given .1)) ∙ s)) (c .match .came) in
     omega arith
 
 loop-again : tie.Need-loop-again Inv-loop μ-loop
 loop-again c =
     let s = c .before .step-at .ensures in
     let i = c .before .before .loop .inv in
-    ⊎-elim (λ w. rw (w .2, w .3) (vertex-next _ _ _ _ i (sym (w .1 .given .1) ∙ s))) (λ w. rw (w .2, w .3) (triangle-next _ _ _ _ i (sym (w .1 .given .1) ∙ s))) (c .match .came)
+    ⊎-elim (λ w. rw (w .2, w .3) (vertex-next _ _ _ _ i (sym (ap numbersOf (w .1 .given .1)) ∙ s))) (λ w. rw (w .2, w .3) (triangle-next _ _ _ _ i (sym (ap numbersOf (w .1 .given .1)) ∙ s))) (c .match .came)
 
 pub check-all-spec : {M : Type 1} → statement M
 check-all-spec =

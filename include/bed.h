@@ -192,12 +192,13 @@ uint32_t bed_is_enclosed(
  * closing record: 3, the number of vertices, the number of triangles, four zeros. Nothing follows it. A
  * file that was written whole is accepted; every shorter beginning of it is refused with BED_FILE_CUT. */
 
-/* What reading or writing a mesh file answers. The reader goes record by record and the first fault
- * answers, in one record the lowest number; BED_FILE_ROOM comes last of all. The writer tries
- * BED_FILE_LISTS, BED_FILE_INDEX, BED_FILE_NOT_FINITE and BED_FILE_ROOM, in this order. On every answer
- * but BED_FILE_DONE nothing at all is changed but the counts, which are then 0. */
+/* What checking, reading or writing a mesh file answers. The reader goes record by record and the first
+ * fault answers, in one record the lowest number; BED_FILE_ROOM comes last of all. The writer looks at the
+ * lists as a whole and tries BED_FILE_LISTS, BED_FILE_INDEX, BED_FILE_NOT_FINITE and BED_FILE_ROOM, in
+ * this order; it refuses for nothing else. On every answer but BED_FILE_DONE nothing at all is changed but
+ * the counts, which are then 0. */
 enum bed_file_answer {
-    /* The mesh was read, or the file was written. */
+    /* The mesh was read, the file was written, or it was checked and is good. */
     BED_FILE_DONE = 0,
     /* The file ends before its closing record does: it was cut off, or is empty. */
     BED_FILE_CUT = 21,
@@ -209,7 +210,8 @@ enum bed_file_answer {
     BED_FILE_ZERO = 24,
     /* The closing record's counts are not those of the records before it. */
     BED_FILE_COUNTS = 25,
-    /* A triangle has an index that is not below the number of vertices. */
+    /* An index is not below the number of vertices: reading, of those before it, which are all there can
+     * be. */
     BED_FILE_INDEX = 26,
     /* A position or normal is infinite or not a number. */
     BED_FILE_NOT_FINITE = 27,
@@ -228,8 +230,9 @@ enum bed_file_answer {
  *   positions        three floats a vertex.
  *   normals          three floats a vertex, as many as positions.
  *   indices          three vertex numbers a triangle.
- * After bed_surface_nets these are the first 3 V, 3 V and I numbers of its lists: pass those lengths and
- * not the lists' own. Such a mesh is refused only for want of room, or with 2^32 triangles or more.
+ * After an answer BED_DONE of bed_surface_nets these are the first 3 V, 3 V and I numbers of its lists:
+ * pass those lengths and not the lists' own. Such a mesh is refused with BED_FILE_LISTS if it has 2^32
+ * triangles or more, and else only with BED_FILE_ROOM.
  *
  * Lent for writing:
  *   file             room for the file: 32 * (vertices + triangles + 1) bytes are enough.
@@ -258,7 +261,7 @@ uint32_t bed_write_mesh(
  *   positions        room for three floats a vertex.
  *   normals          room for three floats a vertex.
  *   indices          room for three vertex numbers a triangle.
- * A file of n bytes has fewer than n / 32 vertices and triangles together.
+ * A file of n bytes has fewer than n / 32 vertices and triangles together; bed_check_mesh tells how many.
  *
  * Out, on every answer:
  *   vertex_count     the number of vertices read,  both 0 on every answer but BED_FILE_DONE, so also
@@ -276,6 +279,24 @@ uint32_t bed_read_mesh(
     float *positions, size_t positions_len,
     float *normals, size_t normals_len,
     uint32_t *indices, size_t indices_len,
+    uint64_t *vertex_count, uint64_t *triangle_count);
+
+/* Checks a file and counts its mesh, with no list lent: what to lend to bed_read_mesh. It answers what
+ * bed_read_mesh answers on the same bytes where there is room, so never BED_FILE_ROOM; 3 * vertex_count
+ * floats for positions and for normals and 3 * triangle_count indices are room enough.
+ *
+ * In:
+ *   file             the bytes of the file, all of them and no more.
+ *
+ * Out, on every answer:
+ *   vertex_count     the number of vertices,  both 0 on every answer but BED_FILE_DONE.
+ *   triangle_count   the number of triangles:
+ *
+ * The counts may not overlap the file or each other; their pointers are aligned and never null. The file's
+ * pointer may be null only where its length is 0.
+ */
+uint32_t bed_check_mesh(
+    const uint8_t *file, size_t file_len,
     uint64_t *vertex_count, uint64_t *triangle_count);
 
 #ifdef __cplusplus

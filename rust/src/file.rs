@@ -1,7 +1,7 @@
 //! Mesh files over lent bytes: nothing is opened or allocated, and what is not written is kept.
 
 use crate::environment::DefaultEnvironment;
-use crate::raw::{bed_read_mesh, bed_write_mesh};
+use crate::raw::{bed_check_mesh, bed_read_mesh, bed_write_mesh};
 use std::fmt;
 
 /// How many vertices and triangles a file held.
@@ -153,6 +153,23 @@ pub fn read_mesh(
             normals.len(),
             indices.as_mut_ptr(),
             indices.len(),
+            &mut counts.vertices,
+            &mut counts.triangles,
+        )
+    };
+    FileRefusal::of(answer, counts)
+}
+
+/// Checks a whole file and counts its mesh, with nothing lent: what to lend to [`read_mesh`], three numbers a
+/// vertex and a triangle. It is refused as [`read_mesh`] is, but never with [`FileRefusal::Room`].
+pub fn check_mesh(file: &[u8]) -> Result<FileCounts, FileRefusal> {
+    let _environment = DefaultEnvironment::enter();
+    let mut counts = FileCounts::default();
+    // SAFETY: the pointer and the length come from a slice; the counts are apart from it and from each other.
+    let answer = unsafe {
+        bed_check_mesh(
+            file.as_ptr(),
+            file.len(),
             &mut counts.vertices,
             &mut counts.triangles,
         )

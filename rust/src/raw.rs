@@ -92,4 +92,16 @@ extern "C" {
         vertex_count: *mut u64,
         triangle_count: *mut u64,
     ) -> u32;
+
+    /// Checks a file and counts its mesh, and returns the answer number: 0 or 21 to 28.
+    ///
+    /// # Safety
+    ///
+    /// As for [`bed_surface_nets`].
+    pub fn bed_check_mesh(
+        file: *const u8,
+        file_len: usize,
+        vertex_count: *mut u64,
+        triangle_count: *mut u64,
+    ) -> u32;
 }

@@ -1,7 +1,8 @@
 //! Mesh files through the wrapper: Ball there and back, cut at every length, and a refusal of each kind.
 
 use bed::{
-    file_len, read_mesh, surface_nets, write_mesh, FileCounts, FileRefusal, SurfaceNetsBuffer,
+    check_mesh, file_len, read_mesh, surface_nets, write_mesh, FileCounts, FileRefusal,
+    SurfaceNetsBuffer,
 };
 
 /// Document 01's Ball, meshed: 8 vertices, 6 triangles.
@@ -33,6 +34,7 @@ fn refusal(file: &[u8]) -> FileRefusal {
         (positions, normals, indices),
         ([7.0; 99], [7.0; 99], [7; 99])
     );
+    assert_eq!(check_mesh(file), Err(refused));
     refused
 }
 
@@ -66,6 +68,7 @@ fn ball_comes_back_with_the_same_bits() {
             triangles: 6
         })
     );
+    assert_eq!(check_mesh(&file), counts);
     assert_eq!(bits(&positions[..24]), bits(mesh.positions.as_flattened()));
     assert_eq!(bits(&normals[..24]), bits(mesh.normals.as_flattened()));
     assert_eq!(indices[..18], mesh.indices);

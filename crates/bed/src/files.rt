@@ -1,9 +1,9 @@
 // Mesh files for C and Rust (document 02, request 2): thin functions over mesh_file. The file is lent memory; include/bed.h says the rest.
 ghost use mathlib.Core.Path.{_≡_};
 ghost use lib.ListN.{length};
-ghost use Rattle.mesh_file.specs.Mesh.{mesh};
+ghost use Rattle.mesh_file.specs.Mesh.{mesh, Held};
 ghost use Rattle.mesh_file.specs.Writing.{writing, written};
-ghost use Rattle.mesh_file.specs.Reading.{readOf, readingIn, filledIn};
+ghost use Rattle.mesh_file.specs.Reading.{Bytes, readOf, checked, readingIn, filledIn};
 
 #[no_mangle]
 pub extern "C" fn bed_write_mesh(
@@ -16,6 +16,7 @@ pub extern "C" fn bed_write_mesh(
     ensures { λ r. ⌜ r ≡ writing (mesh (now (positions .entry)) (now (normals .entry)) (now (indices .entry))) (length (now (file .entry))) .answer ⌝ }
     ensures { λ _. ⌜ now (file .exit) ≡ written (mesh (now (positions .entry)) (now (normals .entry)) (now (indices .entry))) (now (file .entry)) ⌝ }
     ensures { λ _. ⌜ now («byte_count» .exit) ≡ writing (mesh (now (positions .entry)) (now (normals .entry)) (now (indices .entry))) (length (now (file .entry))) .bytes ⌝ }
+    ensures { λ _. ⌜ Held (mesh (now (positions .entry)) (now (normals .entry)) (now (indices .entry))) ⌝ }
 {
     let wrote = mesh_file::write_mesh(positions, normals, indices, file);
     *byte_count = wrote.bytes as u64;
@@ -36,9 +37,28 @@ pub extern "C" fn bed_read_mesh(
         ≡ filledIn (now (file .entry)) (readOf (now (file .entry))) (mesh (now (positions .entry)) (now (normals .entry)) (now (indices .entry))) ⌝ }
     ensures { λ _. ⌜ now («vertex_count» .exit) ≡ readingIn (readOf (now (file .entry))) (mesh (now (positions .entry)) (now (normals .entry)) (now (indices .entry))) .vertices ⌝ }
     ensures { λ _. ⌜ now («triangle_count» .exit) ≡ readingIn (readOf (now (file .entry))) (mesh (now (positions .entry)) (now (normals .entry)) (now (indices .entry))) .triangles ⌝ }
+    ensures { λ _. ⌜ Bytes (now (file .entry)) ⌝ }
 {
     let read = mesh_file::read_mesh(file, positions, normals, indices);
     *vertex_count = read.vertices as u64;
     *triangle_count = read.triangles as u64;
     read.answer
+}
+
+// The answer and the counts of a whole file, with no list lent: what to lend for `bed_read_mesh`.
+#[no_mangle]
+pub extern "C" fn bed_check_mesh(
+    file: &[u8],
+    vertex_count: &mut u64,
+    triangle_count: &mut u64,
+) -> u32
+    ensures { λ r. ⌜ r ≡ checked (readOf (now (file .entry))) .answer ⌝ }
+    ensures { λ _. ⌜ now («vertex_count» .exit) ≡ checked (readOf (now (file .entry))) .vertices ⌝ }
+    ensures { λ _. ⌜ now («triangle_count» .exit) ≡ checked (readOf (now (file .entry))) .triangles ⌝ }
+    ensures { λ _. ⌜ Bytes (now (file .entry)) ⌝ }
+{
+    let found = mesh_file::check_file(file);
+    *vertex_count = found.vertices as u64;
+    *triangle_count = found.triangles as u64;
+    found.answer
 }

@@ -11,6 +11,7 @@ use contract.Lifetimes.{Lfts}
 use contract.Monad.{Fun, fact, factI, fact-use}
 use denote.Triple.Entry.{Args, Res}
 use denote.Triple.Clauses.{Ended, Clauses, Lasts, atExit}
+use Rattle.mesh_record.proofs.OneStep.{numbers-injective}
 use Rattle.mesh_file.proofs.Reader.new as new
 use Rattle.mesh_file.proofs.Reader.moved as moved
 use Rattle.mesh_file.proofs.Reader.next as next
@@ -44,7 +45,7 @@ module _ {M : Type 1} (𝓤 : URA M) (H : Heap 𝓤) (A : Atoms 𝓤) (mem : Mem
 
   -- the step of the record at the place
   pub next-once : OneOutcome 𝓤 next.ended (next.clauses 𝓤 H A mem run)
-  next-once κs a g o o' = both 𝓤 _ _ _ (λ l l'. let s = l ∙ sym l' in λ i. record { result = s i; last = o .last })
+  next-once κs a g o o' = both 𝓤 _ _ _ (λ l l'. let s = numbers-injective (o .result) (o' .result) (l ∙ sym l') in λ i. record { result = s i; last = o .last })
 
   -- the answer and the counts of all records from the place on
   pub check-once : OneOutcome 𝓤 check.ended (check.clauses 𝓤 H A mem run)

@@ -1,2 +1,3 @@
--- The mesh of a call, as it is handed on to the writer.
+-- The mesh of a call, as it is handed on to the writer; and calls of the writer, the reader and the checker of files with what came of them.
 pub mod Parts
+pub mod Filed

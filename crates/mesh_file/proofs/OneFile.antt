@@ -12,13 +12,13 @@ use lib.Ieee.{Float, nan, binary32, ofBits, toBits}
 use lib.Ieee.Bits.{toBits-ofBits}
 use Rattle.mesh_file.specs.Record.{wordAt, each}
 use Rattle.mesh_file.specs.Mesh.{mesh, vertexCount, triangleCount, bitsAt, vertexRecord, triangleRecord, closingRecord, fileOf}
-use Rattle.mesh_file.specs.Reading.{finiteBits, allZero, seen, whole, readOf, floatsAt, numbersAt, floatsOf, indicesOf, meshIn, FiniteFloats}
+use Rattle.mesh_file.specs.Reading.{Bytes, finiteBits, allZero, seen, whole, readOf, floatsAt, numbersAt, floatsOf, indicesOf, meshIn, FiniteFloats}
 use Rattle.mesh_record.proofs.OneWord.{finite-is-number}
 use Rattle.mesh_record.proofs.Laying.{each-length}
 use Rattle.mesh_record.proofs.Told.{both-left, both-right, vertex-told, triangle-told, closing-told}
 use Rattle.mesh_file.proofs.History.{whole-records}
 use Rattle.mesh_file.proofs.Accepted.{whole-length, positions-finite, normals-finite}
-use Rattle.mesh_file.proofs.Parts.{part, Bytes, word-below, record-of-bytes, each-at, each-of-parts, each-same, each-split}
+use Rattle.mesh_file.proofs.Parts.{part, word-below, record-of-bytes, each-at, each-of-parts, each-same, each-split}
 
 -- the word of a float that was read from a finite word is that word
 bits-back : (w : ℕ) → w < 2 ^ 32 → T (finiteBits w) → toBits binary32 (ofBits binary32 w) ≡ w

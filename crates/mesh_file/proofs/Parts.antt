@@ -11,6 +11,7 @@ use lib.ListN.{length, getD, take, drop, length-drop}
 use lib.Seq.{take-append-le, drop-append-le, drop-append-add, take-all, take-add, drop-drop, drop-cons, getD-take, getD-drop, take-length}
 use Rattle.rules.specs.Lists.{joined}
 use Rattle.mesh_file.specs.Record.{bytesOf, wordAt, sumOf, recordOf, each}
+use Rattle.mesh_file.specs.Reading.{Bytes}
 use Rattle.mesh_record.proofs.Laying.{each-length}
 use Rattle.mesh_file.proofs.History.{last-or-before}
 
@@ -126,10 +127,6 @@ module _ (k a b c d e g : ℕ) where
   word-28 = word-of-bytes (sumOf (k ∷ a ∷ b ∷ c ∷ d ∷ e ∷ g ∷ [])) (total-below (k ∷ a ∷ b ∷ c ∷ d ∷ e ∷ g ∷ []))
 
 -- ---- bytes
-
--- every byte is below 256
-abbrev pub Bytes : List ℕ → Type 0
-Bytes f = (i : ℕ) → i < length f → getD f i 0 < 256
 
 byte-digits : (a b c d : ℕ) → a < 256 → b < 256 → c < 256 → d < 256 → (x : ℕ) → x ≡ a + 256 * b + 65536 * c + 16777216 * d
     → (x % 256 ≡ a) × (x / 256 % 256 ≡ b) × (x / 65536 % 256 ≡ c) × (x / 16777216 % 256 ≡ d)

@@ -14,7 +14,7 @@ use Rattle.rules.specs.Lists.{some}
 use Rattle.rules.proofs.Lists.{by-threes}
 use Rattle.mesh_file.specs.Record.{wordAt, each}
 use Rattle.mesh_file.specs.Mesh.{vertexCount, finite, fileLength}
-use Rattle.mesh_file.specs.Reading.{FiniteFloats, seen, whole, readOf, floatsAt, numbersAt, floatsOf, indicesOf, meshIn}
+use Rattle.mesh_file.specs.Reading.{Bytes, FiniteFloats, seen, whole, readOf, floatsAt, numbersAt, floatsOf, indicesOf, meshIn}
 use Rattle.mesh_file.specs.Writing.{noVertex, notFinite, writeAnswer, written}
 use Rattle.mesh_record.proofs.Laying.{each-length}
 use Rattle.mesh_record.proofs.Either.{or-none}
@@ -23,7 +23,7 @@ use Rattle.mesh_file.proofs.Searching.{none-some}
 use Rattle.mesh_record.proofs.Told.{both-left, both-right, triangle-told, closing-told}
 use Rattle.mesh_file.proofs.History.{whole-records}
 use Rattle.mesh_file.proofs.Accepted.{positions-finite, normals-finite}
-use Rattle.mesh_file.proofs.Parts.{Bytes, word-below, each-at}
+use Rattle.mesh_file.proofs.Parts.{word-below, each-at}
 use Rattle.mesh_file.proofs.OneFile.{read-vertices, accepted-is-written}
 use Rattle.mesh_file.proofs.RoundTrip.{Writable}
 use Rattle.mesh_file.proofs.Settled.{room-writes, bytes-written}

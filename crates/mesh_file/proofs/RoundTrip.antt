@@ -9,10 +9,11 @@ use borrow.Author.Tests.{leb-false, lt-ltb}
 use lib.Dec.{T}
 use lib.ListN.{length, getD, length-append}
 use lib.Seq.{take-all}
-use lib.Ieee.{Float, nan, binary32, fits, ofBits}
+use lib.Ieee.{Float, nan, binary32, ofBits}
 use lib.Ieee.Bits.{ofBits-toBits, toBits-lt, is-true}
 use Rattle.rules.specs.Lists.{some}
 use Rattle.mesh_file.specs.Record.{wordAt, each}
+pub use Rattle.mesh_file.specs.Mesh.{AllFit}
 use Rattle.mesh_file.specs.Mesh.{Mesh, mesh, vertexCount, triangleCount, finite, AllFinite, bitsAt, vertexRecord, triangleRecord, closingRecord, fileOf, fileLength}
 use Rattle.mesh_file.specs.Reading.{finiteBits, threeFinite, foundAt, seen, whole, readOf, floatsAt, numbersAt, floatsOf, indicesOf, meshIn}
 use Rattle.mesh_file.specs.Writing.{badLists, noVertex, badIndices, notFinite, badFloats}
@@ -23,10 +24,6 @@ use Rattle.mesh_file.proofs.Searching.{none-at, all-finite}
 use Rattle.mesh_file.proofs.Answering.{Lengths, good-lengths}
 use Rattle.mesh_file.proofs.Steps.{vertex-step, triangle-step, closing-step, reads-whole}
 use Rattle.mesh_file.proofs.Parts.{part, part-left, part-right, each-part, each-of-parts, each-same, three-at, Holds, holds}
-
--- every number is one that an f32 holds: so it is in any lent slice
-abbrev pub AllFit : List Float → Type 0
-AllFit xs = (i : ℕ) → i < length xs → T (fits binary32 (getD xs i nan))
 
 -- a mesh that the writer does not refuse with 30, 26 or 27
 pub record Writable (m : Mesh) : Type 0 where
@@ -199,13 +196,13 @@ module _ (m : Mesh) (w : Writable m) where
 
   -- ---- its numbers
 
-  positions-length : length (m .positions) ≡ 3 * vertexCount m
+  pub positions-length : length (m .positions) ≡ 3 * vertexCount m
   positions-length = let g = lengths in let h = g .threes in omega arith
 
-  normals-length : length (m .normals) ≡ 3 * vertexCount m
+  pub normals-length : length (m .normals) ≡ 3 * vertexCount m
   normals-length = let g = lengths in let h = g .threes in let s = g .same in omega arith
 
-  indices-length : length (m .indices) ≡ 3 * triangleCount m
+  pub indices-length : length (m .indices) ≡ 3 * triangleCount m
   indices-length = let g = lengths in let h = g .sixes in omega arith
 
   three-floats : (xs : List Float) → AllFit xs → (k : ℕ) → 3 * k + 3 ≤ length xs → (at : ℕ) → wordAt (fileOf m) at ≡ bitsAt xs (3 * k) → wordAt (fileOf m) (at + 4) ≡ bitsAt xs (3 * k + 1)

@@ -1,15 +1,21 @@
 -- What the two public contracts settle: the bytes that the writer leaves, reading them back, and the reader's answer where there is room.
 -- Assumes nothing.
-use Prim.Native.Nat.{ℕ, _≤_}
-use mathlib.Core.Path.{_≡_, refl, ap, _∙_}
-use mathlib.Core.Bool.{false}
+use Prim.Native.Nat.{ℕ, _*_, _≤_}
+use native.Mathlib.Omega.{arith}
+use mathlib.Core.Path.{_≡_, refl, sym, ap, _∙_}
+use mathlib.Core.Bool.{Bool, true, false, cond}
 use mathlib.Core.List.{List}
-use borrow.Author.Tests.{le-ltb, ne-eqb}
+use borrow.Author.Tests.{le-ltb, ne-eqb, eqb-true}
+use lib.Dec.{eqb}
 use lib.ListN.{length, take, drop}
 use lib.Seq.{take-at, drop-at}
-use Rattle.mesh_file.specs.Mesh.{Mesh, vertexCount, triangleCount, fileOf, fileLength}
-use Rattle.mesh_file.specs.Reading.{whole, readOf, readAnswer, shortRoom, readingIn, meshIn, overMesh, filledIn}
-use Rattle.mesh_file.specs.Writing.{writeAnswer, wrote, writing, written}
+use Rattle.mesh_file.specs.Mesh.{Mesh, vertexCount, triangleCount, Held, fileOf, fileLength}
+use Rattle.mesh_file.specs.Reading.{Progress, reading, whole, refused, readOf, readAnswer, checked, shortRoom, readingIn, meshIn, overMesh, filledIn}
+use Rattle.mesh_file.specs.Writing.{badLists, badIndices, badFloats, writeAnswer, wrote, writing, written}
+use Rattle.mesh_file.specs.declared.Read.{Read}
+use Rattle.mesh_record.proofs.Either.{or-none}
+use Rattle.mesh_record.proofs.Told.{cond-zero}
+use Rattle.mesh_file.proofs.History.{accepted}
 use Rattle.mesh_file.proofs.RoundTrip.{Writable, file-length, written-reads, written-same}
 
 -- ---- the writer
@@ -17,6 +23,23 @@ use Rattle.mesh_file.proofs.RoundTrip.{Writable, file-length, written-r
 pub room-writes : (m : Mesh) → Writable m → (room : ℕ) → fileLength m ≤ room → writeAnswer m room ≡ 0
 unfolding writeAnswer
 room-writes m w room h = rw (w .lists, w .indices, w .floats) (rw (le-ltb room (fileLength m) h) refl)
+
+-- the answer 0 says that nothing was refused
+pub answered-zero : (m : Mesh) (room : ℕ) → writing m room .answer ≡ 0 → writeAnswer m room ≡ 0
+unfolding writing
+answered-zero m room = go (eqb (writeAnswer m room) 0) refl
+  where
+    go : (b : Bool) → eqb (writeAnswer m room) 0 ≡ b → cond b (wrote 0 (fileLength m)) (wrote (writeAnswer m room) 0) .answer ≡ 0 → writeAnswer m room ≡ 0
+    go true q e = eqb-true (writeAnswer m room) 0 q
+    go false q e = e
+
+pub zero-writable : (m : Mesh) → Held m → (room : ℕ) → writeAnswer m room ≡ 0 → Writable m
+unfolding writeAnswer
+zero-writable m held room e =
+    let e₁ = cond-zero (badLists m) 29 _ e in
+    let e₂ = cond-zero (badIndices m) 25 _ (e₁ .1) in
+    let e₃ = cond-zero (badFloats m) 26 _ (e₂ .1) in
+    record { lists = e₁ .0; indices = e₂ .0; floats = e₃ .0; positions-fit = held .0; normals-fit = held .1 }
 
 module _ (m : Mesh) (f : List ℕ) (e : writeAnswer m (length f) ≡ 0) where
   -- the written bytes are the definition's, and those past them are kept
@@ -65,3 +88,27 @@ module _ (f : List ℕ) (v t : ℕ) (s : Mesh) (e : readOf f ≡ whole v t) (roo
 
   pub room-fills : filledIn f (readOf f) s ≡ overMesh (meshIn f v t) s
   room-fills = rw e (rw room refl)
+
+-- lists as long as the counts ask
+pub room-enough : (v t : ℕ) (s : Mesh) → 3 * v ≤ length (s .positions) → 3 * v ≤ length (s .normals) → 3 * t ≤ length (s .indices) → shortRoom v t s ≡ false
+room-enough v t s a b c =
+    or-none _ _ (le-ltb (length (s .positions)) (3 * v) a) (or-none _ _ (le-ltb (length (s .normals)) (3 * v) b) (le-ltb (length (s .indices)) (3 * t) c))
+
+no-short : (v t : ℕ) (s : Mesh) → readingIn (whole v t) s .answer ≡ 0 → shortRoom v t s ≡ false
+no-short v t s = go (shortRoom v t s)
+  where
+    go : (b : Bool) → cond b (readAnswer 29 0 0) (readAnswer 0 v t) .answer ≡ 0 → b ≡ false
+    go true e = absurd (omega (arith, e))
+    go false e = refl
+
+same-as-checked : (p : Progress) (s : Mesh) → readingIn p s .answer ≡ 0 → readingIn p s ≡ checked p
+same-as-checked (reading v t) s e = refl
+same-as-checked (whole v t) s e = rw (no-short v t s e) refl
+same-as-checked (refused n) s e = refl
+
+-- the answer 0 says that the file is whole and that there was room
+pub read-done : (f : List ℕ) (s : Mesh) (r : Read) → r ≡ readingIn (readOf f) s → r .answer ≡ 0 → (readOf f ≡ whole (r .vertices) (r .triangles)) × (shortRoom (r .vertices) (r .triangles) s ≡ false)
+read-done f s r e z =
+    let z′ : readingIn (readOf f) s .answer ≡ 0 = ap (λ (x : Read). x .answer) (sym e) ∙ z in
+    let w = accepted f r (e ∙ same-as-checked (readOf f) s z′) z in
+    (w, no-short (r .vertices) (r .triangles) s (ap (λ (p : Progress). readingIn p s .answer) (sym w) ∙ z′))

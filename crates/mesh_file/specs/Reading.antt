@@ -4,7 +4,7 @@ use Prim.Native.Nat.{ℕ, zero, suc, _+_, _*_, _/_, _<_}
 use mathlib.Core.Bool.{Bool, _||_, cond}
 use mathlib.Core.List.{List, [], _∷_}
 use lib.Dec.{T, ltb, eqb}
-use lib.ListN.{length}
+use lib.ListN.{length, getD}
 use lib.Ieee.{Float, binary32, ofBits}
 use Rattle.rules.specs.Lists.{over}
 unfoldable pub use Rattle.mesh_record.specs.Faults.{badSum, badKind, badZero, badCounts, badIndex, badFloat, badEnd, faultOf, foundAt}
@@ -12,6 +12,10 @@ pub use Rattle.mesh_record.specs.Faults.{wordsAt, cut, allZero, finiteBits, thr
 use Rattle.mesh_file.specs.Record.{wordAt, each}
 use Rattle.mesh_file.specs.Mesh.{Mesh, mesh}
 use Rattle.mesh_file.specs.declared.Read.{Read}
+
+-- every byte is below 256. It is true of every list of u8, and the contracts hand it on
+abbrev pub Bytes : List ℕ → Type 0
+Bytes f = (i : ℕ) → i < length f → getD f i 0 < 256
 
 -- ---- the whole file
 

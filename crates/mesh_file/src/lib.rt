@@ -5,8 +5,8 @@ mod writer;
 
 ghost use mathlib.Core.Path.{_≡_};
 ghost use lib.ListN.{length, drop};
-ghost use Rattle.mesh_file.specs.Mesh.{mesh};
-ghost use Rattle.mesh_file.specs.Reading.{numbersOf, foundAt, readAnswer, checked, readOf, readingIn, filledIn};
+ghost use Rattle.mesh_file.specs.Mesh.{mesh, Held};
+ghost use Rattle.mesh_file.specs.Reading.{Bytes, numbersOf, foundAt, readAnswer, checked, readOf, readingIn, filledIn};
 ghost use Rattle.mesh_file.specs.Writing.{writing, written};
 use lists::fill_floats;
 use lists::fill_indices;
@@ -142,6 +142,7 @@ pub fn check_file(file: &[u8]) -> Read
 pub fn write_mesh(positions: &[f32], normals: &[f32], indices: &[u32], file: &mut [u8]) -> Wrote
     ensures { λ r. ⌜ r ≡ writing (mesh (now (positions .entry)) (now (normals .entry)) (now (indices .entry))) (length (now (file .entry))) ⌝ }
     ensures { λ _. ⌜ now (file .exit) ≡ written (mesh (now (positions .entry)) (now (normals .entry)) (now (indices .entry))) (now (file .entry)) ⌝ }
+    ensures { λ _. ⌜ Held (mesh (now (positions .entry)) (now (normals .entry)) (now (indices .entry))) ⌝ }
 {
     if bad_lengths(positions.len(), normals.len(), indices.len()) {
         return not_written(30);
@@ -179,6 +180,7 @@ pub fn read_mesh(
     ensures { λ r. ⌜ r ≡ readingIn (readOf (now (file .entry))) (mesh (now (positions .entry)) (now (normals .entry)) (now (indices .entry))) ⌝ }
     ensures { λ _. ⌜ mesh (now (positions .exit)) (now (normals .exit)) (now (indices .exit))
         ≡ filledIn (now (file .entry)) (readOf (now (file .entry))) (mesh (now (positions .entry)) (now (normals .entry)) (now (indices .entry))) ⌝ }
+    ensures { λ _. ⌜ Bytes (now (file .entry)) ⌝ }
 {
     let checked = check_file(file);
     let answer = checked.answer;

@@ -1,5 +1,6 @@
 // Reads the mesh file that each argument names, or standard input where there is none, and prints one line for it: its counts, the
-// number that it is refused with, or that it is longer than 65,536 bytes (document 02, request 2).
+// number that it is refused with, or that it is longer than 65,536 bytes (document 02, request 2). Where its output cannot be written it
+// says so on the error stream and stops: a program has no exit status of its own to say it with.
 ghost use mathlib.Core.Path.{_≡_};
 ghost use Prim.Native.Nat.{_≤_};
 ghost use lib.ListN.{length};
@@ -52,57 +53,75 @@ fn answer_for(file: &[u8]) -> mesh_file::Read
     mesh_file::read_mesh(file, &mut positions, &mut normals, &mut indices)
 }
 
-fn print(text: &[u8]) {
-    io::write_all(STDOUT_FILENO, text);
+// Each function below answers whether all that it had to print was written.
+fn print(text: &[u8]) -> bool {
+    io::write_all(STDOUT_FILENO, text)
 }
 
-fn print_answer(read: mesh_file::Read) {
-    if read.answer == 0 {
-        print(b"vertices ");
-        io::print_decimal(STDOUT_FILENO, read.vertices as u64);
-        print(b" triangles ");
-        io::print_decimal(STDOUT_FILENO, read.triangles as u64);
-    } else {
-        print(b"refused ");
-        io::print_decimal(STDOUT_FILENO, read.answer as u64);
+fn print_number(text: &[u8], n: u64) -> bool {
+    if !print(text) {
+        return false;
     }
-    print(b"\n");
+    io::print_decimal(STDOUT_FILENO, n)
 }
 
-fn report(fd: i32) {
+fn print_answer(read: mesh_file::Read) -> bool {
+    if read.answer != 0 {
+        if !print_number(b"refused ", read.answer as u64) {
+            return false;
+        }
+        return print(b"\n");
+    }
+    if !print_number(b"vertices ", read.vertices as u64) {
+        return false;
+    }
+    if !print_number(b" triangles ", read.triangles as u64) {
+        return false;
+    }
+    print(b"\n")
+}
+
+fn report(fd: i32) -> bool {
     let mut file = [0u8; 65537];
     let got = read_all(fd, &mut file);
     if got.failed {
-        print(b"cannot read\n");
-        return;
+        return print(b"cannot read\n");
     }
     let n = got.bytes;
     if n > 65536 {
-        print(b"too long\n");
-        return;
+        return print(b"too long\n");
     }
-    print_answer(answer_for(&file[..n]));
+    print_answer(answer_for(&file[..n]))
 }
 
-fn report_argument(i: usize) {
+fn report_argument(i: usize) -> bool {
     let mut path = io::buffer();
     let n = os::arg(i, &mut path);
     let fd = os::open_read(&path[..n]);
     if fd < 0 {
-        print(b"cannot open\n");
-        return;
+        return print(b"cannot open\n");
     }
-    report(fd);
+    let written = report(fd);
     libc::close(fd);
+    written
+}
+
+fn tell_not_written() {
+    os::fail(b"mesh_info: cannot write");
 }
 
 fn main() {
     let arguments = os::arg_count();
     if arguments < 2 {
-        report(STDIN_FILENO);
+        if !report(STDIN_FILENO) {
+            tell_not_written();
+        }
         return;
     }
     for i in 1..arguments {
-        report_argument(i);
+        if !report_argument(i) {
+            tell_not_written();
+            return;
+        }
     }
 }

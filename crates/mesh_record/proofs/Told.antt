@@ -33,7 +33,8 @@ both-right false false h = h
 
 -- ---- no fault
 
-cond-zero : (b : Bool) (n x : ℕ) → cond b (suc n) x ≡ 0 → (b ≡ false) × (x ≡ 0)
+-- a chain of tests that gives 0 has passed each
+pub cond-zero : (b : Bool) (n x : ℕ) → cond b (suc n) x ≡ 0 → (b ≡ false) × (x ≡ 0)
 cond-zero true n x e = absurd (omega arith)
 cond-zero false n x e = (refl, e)
 

@@ -3,7 +3,7 @@
 
 use crate::marked::Marked;
 use crate::reading::{self, Mesh};
-use bed::raw::{bed_read_mesh, bed_write_mesh};
+use bed::raw::{bed_check_mesh, bed_read_mesh, bed_write_mesh};
 
 const WORD: u32 = 0x4D41_524B;
 const BYTE: u8 = 0xA5;
@@ -76,6 +76,25 @@ pub fn read(file: &[u8], room: Room) -> Outcome {
             && positions.holds(&mesh.positions)
             && normals.holds(&mesh.normals)
             && indices.holds(&mesh.indices),
+    }
+}
+
+/// The check, which lends nothing: the reading's answer, room apart, and the counts.
+pub fn check(file: &[u8]) -> Outcome {
+    let (answer, mesh) = match reading::read(file) {
+        Err(answer) => (answer, Mesh::default()),
+        Ok(mesh) => (0, mesh),
+    };
+    let mut counts = Marked::of(2, COUNT);
+    let [vertices, triangles] = counts.lent() else {
+        unreachable!("two were lent")
+    };
+    // SAFETY: the pointer and the length come from one slice; the counts are apart from it and each other.
+    let got = unsafe { bed_check_mesh(file.as_ptr(), file.len(), vertices, triangles) };
+    let wanted = [mesh.positions.len(), mesh.indices.len()].map(|length| length as u64 / 3);
+    Outcome {
+        answer,
+        agrees: got == answer && counts.holds(&wanted),
     }
 }
 

@@ -23,6 +23,7 @@ const MESHES: u32 = 600;
 /// What a run must reach, in files read.
 const ENOUGH: u64 = 100_000;
 const READ_ANSWERS: [u32; 10] = [0, 21, 22, 23, 24, 25, 26, 27, 28, 29];
+const CHECK_ANSWERS: [u32; 9] = [0, 21, 22, 23, 24, 25, 26, 27, 28];
 const WRITE_ANSWERS: [u32; 5] = [0, 26, 27, 29, 30];
 
 /// The answers of one kind of calls, and how many did not agree.
@@ -66,6 +67,24 @@ impl Tally {
     }
 }
 
+/// What a kind of files or meshes came to: the reads or the writes, and the checks of the same files.
+#[derive(Default)]
+struct Tallies {
+    calls: Tally,
+    checks: Tally,
+}
+
+impl Tallies {
+    fn read(&mut self, file: &[u8], room: Room) {
+        self.calls.count(check::read(file, room));
+        self.checks.count(check::check(file));
+    }
+
+    fn write(&mut self, mesh: &Mesh, room: usize) {
+        self.calls.count(check::write(mesh, room));
+    }
+}
+
 /// A good mesh and its file, from which the calls of every kind are made.
 struct Good {
     mesh: Mesh,
@@ -75,7 +94,7 @@ struct Good {
 /// A kind of files or meshes: its name, and the calls made of one good file.
 struct Kind {
     name: &'static str,
-    calls: fn(&Good, &mut Random, &mut Tally),
+    calls: fn(&Good, &mut Random, &mut Tallies),
 }
 
 const READS: [Kind; 7] = [
@@ -120,9 +139,9 @@ const WRITES: [Kind; 2] = [
     },
 ];
 
-fn good_files(good: &Good, random: &mut Random, tally: &mut Tally) {
+fn good_files(good: &Good, random: &mut Random, tally: &mut Tallies) {
     for more in 0..4 {
-        tally.count(check::read(&good.file, Room::for_mesh(&good.mesh, more)));
+        tally.read(&good.file, Room::for_mesh(&good.mesh, more));
     }
     let by = 5 + random.between(1, 4) as usize;
     let shorten: [fn(&mut Room) -> &mut usize; 3] = [
@@ -134,28 +153,28 @@ fn good_files(good: &Good, random: &mut Random, tally: &mut Tally) {
         let mut room = Room::for_mesh(&good.mesh, 5);
         let length = list(&mut room);
         *length = length.saturating_sub(by);
-        tally.count(check::read(&good.file, room));
+        tally.read(&good.file, room);
     }
 }
 
-fn cut(good: &Good, random: &mut Random, tally: &mut Tally) {
+fn cut(good: &Good, random: &mut Random, tally: &mut Tallies) {
     let room = Room::for_mesh(&good.mesh, random.between(0, 9) as usize);
     for length in 0..good.file.len() {
-        tally.count(check::read(&good.file[..length], room));
+        tally.read(&good.file[..length], room);
     }
 }
 
-fn one_byte(good: &Good, random: &mut Random, tally: &mut Tally) {
+fn one_byte(good: &Good, random: &mut Random, tally: &mut Tallies) {
     let room = Room::for_mesh(&good.mesh, 3);
     let mut file = good.file.clone();
     for at in 0..file.len() {
         file[at] = good.file[at].wrapping_add(random.between(1, 255) as u8);
-        tally.count(check::read(&file, room));
+        tally.read(&file, room);
         file[at] = good.file[at];
     }
 }
 
-fn under_right_sum(good: &Good, random: &mut Random, tally: &mut Tally) {
+fn under_right_sum(good: &Good, random: &mut Random, tally: &mut Tallies) {
     for _ in 0..80 {
         let mut file = made::resealed(random, &good.file);
         if random.one_in(4) {
@@ -164,63 +183,64 @@ fn under_right_sum(good: &Good, random: &mut Random, tally: &mut Tally) {
         if random.one_in(6) {
             file.push(0);
         }
-        tally.count(check::read(&file, Room::for_mesh(&good.mesh, 9)));
+        tally.read(&file, Room::for_mesh(&good.mesh, 9));
     }
 }
 
-fn exchanged(good: &Good, random: &mut Random, tally: &mut Tally) {
+fn exchanged(good: &Good, random: &mut Random, tally: &mut Tallies) {
     for _ in 0..40 {
         let file = made::exchanged(random, &good.file);
-        tally.count(check::read(&file, Room::for_mesh(&good.mesh, 3)));
+        tally.read(&file, Room::for_mesh(&good.mesh, 3));
     }
 }
 
-fn longer(good: &Good, random: &mut Random, tally: &mut Tally) {
+fn longer(good: &Good, random: &mut Random, tally: &mut Tallies) {
     for more in [1, 2, 31, 32, 33, 64] {
         let behind = made::bytes(random, more);
         let again = &good.file[..more.min(good.file.len())];
         for behind in [&behind, again] {
             let file = [&good.file, behind].concat();
-            tally.count(check::read(&file, Room::for_mesh(&good.mesh, 3)));
+            tally.read(&file, Room::for_mesh(&good.mesh, 3));
         }
     }
 }
 
-fn noise(good: &Good, random: &mut Random, tally: &mut Tally) {
+fn noise(good: &Good, random: &mut Random, tally: &mut Tallies) {
     for _ in 0..10 {
         let length = random.between(0, 199) as usize;
         let file = made::bytes(random, length);
-        tally.count(check::read(&file, Room::for_mesh(&good.mesh, 3)));
+        tally.read(&file, Room::for_mesh(&good.mesh, 3));
     }
 }
 
-fn good_meshes(good: &Good, _: &mut Random, tally: &mut Tally) {
+fn good_meshes(good: &Good, _: &mut Random, tally: &mut Tallies) {
     let length = good.file.len();
     for room in [length, length + 1, length + 40, length - 1, length - 32, 0] {
-        tally.count(check::write(&good.mesh, room));
+        tally.write(&good.mesh, room);
     }
 }
 
-fn spoiled_meshes(good: &Good, random: &mut Random, tally: &mut Tally) {
+fn spoiled_meshes(good: &Good, random: &mut Random, tally: &mut Tallies) {
     for _ in 0..12 {
         let mesh = made::spoiled(random, &good.mesh);
         let room = random.pick(&[good.file.len() + 64, good.file.len(), 3]);
-        tally.count(check::write(&mesh, room));
+        tally.write(&mesh, room);
     }
 }
 
 /// Makes the calls of each kind for every good file and prints what they covered.
-fn run(kinds: &[Kind], goods: &[Good], random: &mut Random, name: &str) -> Tally {
-    let mut all = Tally::default();
+fn run(kinds: &[Kind], goods: &[Good], random: &mut Random, name: &str) -> Tallies {
+    let mut all = Tallies::default();
     for kind in kinds {
-        let mut tally = Tally::default();
+        let mut tally = Tallies::default();
         for good in goods {
             (kind.calls)(good, random, &mut tally);
         }
-        tally.print(kind.name);
-        all.add(&tally);
+        tally.calls.print(kind.name);
+        all.calls.add(&tally.calls);
+        all.checks.add(&tally.checks);
     }
-    all.print(name);
+    all.calls.print(name);
     all
 }
 
@@ -235,11 +255,17 @@ fn main() -> ExitCode {
             Good { mesh, file }
         })
         .collect();
-    let reads = run(&READS, &goods, &mut random, "all files read");
-    let writes = run(&WRITES, &goods, &mut random, "all meshes written");
-    let agree = reads.differing == 0 && writes.differing == 0;
+    let Tallies {
+        calls: reads,
+        checks,
+    } = run(&READS, &goods, &mut random, "all files read");
+    checks.print("the same files checked, with nothing lent");
+    let writes = run(&WRITES, &goods, &mut random, "all meshes written").calls;
+    let agree = reads.differing == 0 && checks.differing == 0 && writes.differing == 0;
     let enough = reads.calls() >= ENOUGH;
-    let complete = !reads.lacks(&READ_ANSWERS) && !writes.lacks(&WRITE_ANSWERS);
+    let complete = !reads.lacks(&READ_ANSWERS)
+        && !checks.lacks(&CHECK_ANSWERS)
+        && !writes.lacks(&WRITE_ANSWERS);
     if !enough {
         println!("too few files: {ENOUGH} are wanted");
     }

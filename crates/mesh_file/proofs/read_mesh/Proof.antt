@@ -19,25 +19,61 @@ check-file-requires : tie.Need-check-file-requires
 check-file-requires c κs = search needs
 
 returns : tie.Need-returns
-returns c = read-refused (c .before .before .before .before .before .before .args .file .now) (mesh (c .before .before .before .before .before .before .args .positions .now) (c .before .before .before .before .before .before .args .normals .now) (c .before .before .before .before .before .before .args .indices .now)) _ (c .before .check-file .ensures) (c .if1 .taken)
+returns c =
+    let s = c .before .before .before .before .before in
+    let a = s .before .args in
+    let m = mesh (a .positions .now) (a .normals .now) (a .indices .now) in
+    let f = c .before .check-file in
+    let e = read-refused (a .file .now) m _ (f .ensures) (c .if1 .taken) in
+    (e .0, (e .1, λ i l. omega (arith, s .shared-slice-known .given i)))
 
 refusal-requires : tie.Need-refusal-requires
 refusal-requires c κs = search needs
 
 returns-2 : tie.Need-returns-2
-returns-2 c = read-short (c .before .before .before .before .before .before .before .before .args .file .now) (mesh (c .before .before .before .before .before .before .before .before .args .positions .now) (c .before .before .before .before .before .before .before .before .args .normals .now) (c .before .before .before .before .before .before .before .before .args .indices .now)) _ (c .before .before .before .check-file .result .vertices) (c .before .before .before .check-file .result .triangles) (accepted (c .before .before .before .before .before .before .before .before .args .file .now) (c .before .before .before .check-file .result) (c .before .before .before .check-file .ensures) (c .before .before .if1 .left)) (or-first (ltb (length (c .before .before .before .before .before .before .before .before .args .positions .now)) (3 * c .before .before .before .check-file .result .vertices)) _ (lt-ltb (length (c .before .before .before .before .before .before .before .before .args .positions .now)) (3 * c .before .before .before .check-file .result .vertices) (omega (arith, c .before .if2 .taken)))) (c .refusal .ensures)
+returns-2 c =
+    let s = c .before .before .before .before .before .before .before in
+    let a = s .before .args in
+    let m = mesh (a .positions .now) (a .normals .now) (a .indices .now) in
+    let f = c .before .before .before .check-file in
+    let w = accepted (a .file .now) (f .result) (f .ensures) (c .before .before .if1 .left) in
+    let e =
+    read-short (a .file .now) m _ (f .result .vertices) (f .result .triangles) w
+    (or-first (ltb (length (a .positions .now)) (3 * f .result .vertices)) _ (lt-ltb (length (a .positions .now)) (3 * f .result .vertices) (omega (arith, c .before .if2 .taken))))
+    (c .refusal .ensures) in
+    (e .0, (e .1, λ i l. omega (arith, s .shared-slice-known .given i)))
 
 refusal-requires-2 : tie.Need-refusal-requires-2
 refusal-requires-2 c κs = search needs
 
 returns-3 : tie.Need-returns-3
-returns-3 c = read-short (c .before .before .before .before .before .before .before .before .before .args .file .now) (mesh (c .before .before .before .before .before .before .before .before .before .args .positions .now) (c .before .before .before .before .before .before .before .before .before .args .normals .now) (c .before .before .before .before .before .before .before .before .before .args .indices .now)) _ (c .before .before .before .before .check-file .result .vertices) (c .before .before .before .before .check-file .result .triangles) (accepted (c .before .before .before .before .before .before .before .before .before .args .file .now) (c .before .before .before .before .check-file .result) (c .before .before .before .before .check-file .ensures) (c .before .before .before .if1 .left)) (or-second (ltb (length (c .before .before .before .before .before .before .before .before .before .args .positions .now)) (3 * c .before .before .before .before .check-file .result .vertices)) _ (or-first (ltb (length (c .before .before .before .before .before .before .before .before .before .args .normals .now)) (3 * c .before .before .before .before .check-file .result .vertices)) _ (lt-ltb (length (c .before .before .before .before .before .before .before .before .before .args .normals .now)) (3 * c .before .before .before .before .check-file .result .vertices) (omega (arith, c .before .if3 .taken))))) (c .refusal2 .ensures)
+returns-3 c =
+    let s = c .before .before .before .before .before .before .before .before in
+    let a = s .before .args in
+    let m = mesh (a .positions .now) (a .normals .now) (a .indices .now) in
+    let f = c .before .before .before .before .check-file in
+    let w = accepted (a .file .now) (f .result) (f .ensures) (c .before .before .before .if1 .left) in
+    let e =
+    read-short (a .file .now) m _ (f .result .vertices) (f .result .triangles) w
+    (or-second (ltb (length (a .positions .now)) (3 * f .result .vertices)) _ (or-first (ltb (length (a .normals .now)) (3 * f .result .vertices)) _ (lt-ltb (length (a .normals .now)) (3 * f .result .vertices) (omega (arith, c .before .if3 .taken)))))
+    (c .refusal2 .ensures) in
+    (e .0, (e .1, λ i l. omega (arith, s .shared-slice-known .given i)))
 
 refusal-requires-3 : tie.Need-refusal-requires-3
 refusal-requires-3 c κs = search needs
 
 returns-4 : tie.Need-returns-4
-returns-4 c = read-short (c .before .before .before .before .before .before .before .before .before .before .args .file .now) (mesh (c .before .before .before .before .before .before .before .before .before .before .args .positions .now) (c .before .before .before .before .before .before .before .before .before .before .args .normals .now) (c .before .before .before .before .before .before .before .before .before .before .args .indices .now)) _ (c .before .before .before .before .before .check-file .result .vertices) (c .before .before .before .before .before .check-file .result .triangles) (accepted (c .before .before .before .before .before .before .before .before .before .before .args .file .now) (c .before .before .before .before .before .check-file .result) (c .before .before .before .before .before .check-file .ensures) (c .before .before .before .before .if1 .left)) (or-second (ltb (length (c .before .before .before .before .before .before .before .before .before .before .args .positions .now)) (3 * c .before .before .before .before .before .check-file .result .vertices)) _ (or-second (ltb (length (c .before .before .before .before .before .before .before .before .before .before .args .normals .now)) (3 * c .before .before .before .before .before .check-file .result .vertices)) _ (lt-ltb (length (c .before .before .before .before .before .before .before .before .before .before .args .indices .now)) (3 * c .before .before .before .before .before .check-file .result .triangles) (omega (arith, c .before .if4 .taken))))) (c .refusal3 .ensures)
+returns-4 c =
+    let s = c .before .before .before .before .before .before .before .before .before in
+    let a = s .before .args in
+    let m = mesh (a .positions .now) (a .normals .now) (a .indices .now) in
+    let f = c .before .before .before .before .before .check-file in
+    let w = accepted (a .file .now) (f .result) (f .ensures) (c .before .before .before .before .if1 .left) in
+    let e =
+    read-short (a .file .now) m _ (f .result .vertices) (f .result .triangles) w
+    (or-second (ltb (length (a .positions .now)) (3 * f .result .vertices)) _ (or-second (ltb (length (a .normals .now)) (3 * f .result .vertices)) _ (lt-ltb (length (a .indices .now)) (3 * f .result .triangles) (omega (arith, c .before .if4 .taken)))))
+    (c .refusal3 .ensures) in
+    (e .0, (e .1, λ i l. omega (arith, s .shared-slice-known .given i)))
 
 fill-floats-requires : tie.Need-fill-floats-requires
 fill-floats-requires c κs = let l = whole-length (c .before .before .before .before .before .before .before .before .before .before .args .file .now) (c .before .before .before .before .before .check-file .result .vertices) (c .before .before .before .before .before .check-file .result .triangles) (accepted (c .before .before .before .before .before .before .before .before .before .before .args .file .now) (c .before .before .before .before .before .check-file .result) (c .before .before .before .before .before .check-file .ensures) (c .before .before .before .before .if1 .left)) in
@@ -61,10 +97,18 @@ same-length-3 : tie.Need-same-length-3
 same-length-3 c = search needs
 
 returns-5 : tie.Need-returns-5
-returns-5 c = let a = c .before .before .before .before .before .before .before .before .before .before .before .before .before .before .before .before .before .before .before .before .before .args in
-    let r = c .before .before .before .before .before .before .before .before .before .before .before .before .before .before .before .before .check-file .result in
-    let w = (accepted (c .before .before .before .before .before .before .before .before .before .before .before .before .before .before .before .before .before .before .before .before .before .args .file .now) (c .before .before .before .before .before .before .before .before .before .before .before .before .before .before .before .before .check-file .result) (c .before .before .before .before .before .before .before .before .before .before .before .before .before .before .before .before .check-file .ensures) (c .before .before .before .before .before .before .before .before .before .before .before .before .before .before .before .if1 .left)) in
-    read-filled (c .before .before .before .before .before .before .before .before .before .before .before .before .before .before .before .before .before .before .before .before .before .args .file .now) (mesh (c .before .before .before .before .before .before .before .before .before .before .before .before .before .before .before .before .before .before .before .before .before .args .positions .now) (c .before .before .before .before .before .before .before .before .before .before .before .before .before .before .before .before .before .before .before .before .before .args .normals .now) (c .before .before .before .before .before .before .before .before .before .before .before .before .before .before .before .before .before .before .before .before .before .args .indices .now)) r _ _ _ (r .vertices) (r .triangles) w (or-none _ _ (le-ltb (length (c .before .before .before .before .before .before .before .before .before .before .before .before .before .before .before .before .before .before .before .before .before .args .positions .now)) (3 * c .before .before .before .before .before .before .before .before .before .before .before .before .before .before .before .before .check-file .result .vertices) (omega (arith, c .before .before .before .before .before .before .before .before .before .before .before .before .before .before .if2 .left))) (or-none _ _ (le-ltb (length (c .before .before .before .before .before .before .before .before .before .before .before .before .before .before .before .before .before .before .before .before .before .args .normals .now)) (3 * c .before .before .before .before .before .before .before .before .before .before .before .before .before .before .before .before .check-file .result .vertices) (omega (arith, c .before .before .before .before .before .before .before .before .before .before .before .before .before .if3 .left))) (le-ltb (length (c .before .before .before .before .before .before .before .before .before .before .before .before .before .before .before .before .before .before .before .before .before .args .indices .now)) (3 * c .before .before .before .before .before .before .before .before .before .before .before .before .before .before .before .before .check-file .result .triangles) (omega (arith, c .before .before .before .before .before .before .before .before .before .before .before .before .if4 .left))))) (c .before .before .before .before .before .before .before .before .before .before .before .before .before .before .before .before .check-file .ensures ∙ ap checked w) (c .before .before .before .before .before .before .before .before .before .before .fill-floats .ensures) (c .before .before .before .before .before .before .fill-floats2 .ensures) (c .before .before .fill-indices .ensures)
+returns-5 c =
+    let s = c .before .before .before .before .before .before .before .before .before .before .before .before .before .before .before .before .before .before .before .before in
+    let a = s .before .args in
+    let m = mesh (a .positions .now) (a .normals .now) (a .indices .now) in
+    let f = c .before .before .before .before .before .before .before .before .before .before .before .before .before .before .before .before .check-file in
+    let w = accepted (a .file .now) (f .result) (f .ensures) (c .before .before .before .before .before .before .before .before .before .before .before .before .before .before .before .if1 .left) in
+    let e =
+    read-filled (a .file .now) m (f .result) _ _ _ (f .result .vertices) (f .result .triangles) w
+    (or-none _ _ (le-ltb (length (a .positions .now)) (3 * f .result .vertices) (omega (arith, c .before .before .before .before .before .before .before .before .before .before .before .before .before .before .if2 .left))) (or-none _ _ (le-ltb (length (a .normals .now)) (3 * f .result .vertices) (omega (arith, c .before .before .before .before .before .before .before .before .before .before .before .before .before .if3 .left))) (le-ltb (length (a .indices .now)) (3 * f .result .triangles) (omega (arith, c .before .before .before .before .before .before .before .before .before .before .before .before .if4 .left)))))
+    (f .ensures ∙ ap checked w) (c .before .before .before .before .before .before .before .before .before .before .fill-floats .ensures)
+    (c .before .before .before .before .before .before .fill-floats2 .ensures) (c .before .before .fill-indices .ensures) in
+    (e .0, (e .1, λ i l. omega (arith, s .shared-slice-known .given i)))
 
 pub read-mesh-spec : {M : Type 1} → statement M
 read-mesh-spec =

@@ -20,7 +20,12 @@ not-written-requires : tie.Need-not-written-requires
 not-written-requires c κs = search needs
 
 returns : tie.Need-returns
-returns c = refused-30 (mesh (c .before .before .before .before .before .before .before .args .positions .now) (c .before .before .before .before .before .before .before .args .normals .now) (c .before .before .before .before .before .before .before .args .indices .now)) (c .before .before .before .before .before .before .before .args .file .now) _ (sym (c .before .before .bad-lengths .ensures) ∙ c .before .if1 .taken) (c .not-written .ensures)
+returns c =
+    let s = c .before .before .before .before .before in
+    let a = s .before .before .args in
+    let m = mesh (a .positions .now) (a .normals .now) (a .indices .now) in
+    let e = refused-30 m (a .file .now) _ (sym (c .before .before .bad-lengths .ensures) ∙ c .before .if1 .taken) (c .not-written .ensures) in
+    (e .0, (e .1, (λ i l. s .before .shared-slice-known .given i, λ i l. s .shared-slice-known2 .given i)))
 
 some-without-vertex-requires : tie.Need-some-without-vertex-requires
 some-without-vertex-requires c κs = search needs
@@ -29,7 +34,14 @@ not-written-requires-2 : tie.Need-not-written-requires-2
 not-written-requires-2 c κs = search needs
 
 returns-2 : tie.Need-returns-2
-returns-2 c = refused-26 (mesh (c .before .before .before .before .before .before .before .before .before .args .positions .now) (c .before .before .before .before .before .before .before .before .before .args .normals .now) (c .before .before .before .before .before .before .before .before .before .args .indices .now)) (c .before .before .before .before .before .before .before .before .before .args .file .now) _ (sym (c .before .before .before .before .bad-lengths .ensures) ∙ c .before .before .before .if1 .left) (sym (c .before .before .some-without-vertex .ensures) ∙ c .before .if2 .taken) (c .not-written2 .ensures)
+returns-2 c =
+    let s = c .before .before .before .before .before .before .before in
+    let a = s .before .before .args in
+    let m = mesh (a .positions .now) (a .normals .now) (a .indices .now) in
+    let e =
+    refused-26 m (a .file .now) _ (sym (c .before .before .before .before .bad-lengths .ensures) ∙ c .before .before .before .if1 .left)
+    (sym (c .before .before .some-without-vertex .ensures) ∙ c .before .if2 .taken) (c .not-written2 .ensures) in
+    (e .0, (e .1, (λ i l. s .before .shared-slice-known .given i, λ i l. s .shared-slice-known2 .given i)))
 
 some-not-finite-requires : tie.Need-some-not-finite-requires
 some-not-finite-requires c κs = search needs
@@ -38,7 +50,15 @@ not-written-requires-3 : tie.Need-not-written-requires-3
 not-written-requires-3 c κs = search needs
 
 returns-3 : tie.Need-returns-3
-returns-3 c = refused-27 (mesh (c .before .before .before .before .before .before .before .before .before .before .before .args .positions .now) (c .before .before .before .before .before .before .before .before .before .before .before .args .normals .now) (c .before .before .before .before .before .before .before .before .before .before .before .args .indices .now)) (c .before .before .before .before .before .before .before .before .before .before .before .args .file .now) _ (sym (c .before .before .before .before .before .before .bad-lengths .ensures) ∙ c .before .before .before .before .before .if1 .left) (sym (c .before .before .before .before .some-without-vertex .ensures) ∙ c .before .before .before .if2 .left) (or-first _ _ (sym (c .before .before .some-not-finite .ensures) ∙ c .before .if3 .taken)) (c .not-written3 .ensures)
+returns-3 c =
+    let s = c .before .before .before .before .before .before .before .before .before in
+    let a = s .before .before .args in
+    let m = mesh (a .positions .now) (a .normals .now) (a .indices .now) in
+    let e =
+    refused-27 m (a .file .now) _ (sym (c .before .before .before .before .before .before .bad-lengths .ensures) ∙ c .before .before .before .before .before .if1 .left)
+    (sym (c .before .before .before .before .some-without-vertex .ensures) ∙ c .before .before .before .if2 .left)
+    (or-first _ _ (sym (c .before .before .some-not-finite .ensures) ∙ c .before .if3 .taken)) (c .not-written3 .ensures) in
+    (e .0, (e .1, (λ i l. s .before .shared-slice-known .given i, λ i l. s .shared-slice-known2 .given i)))
 
 some-not-finite-requires-2 : tie.Need-some-not-finite-requires-2
 some-not-finite-requires-2 c κs = search needs
@@ -47,7 +67,16 @@ not-written-requires-4 : tie.Need-not-written-requires-4
 not-written-requires-4 c κs = search needs
 
 returns-4 : tie.Need-returns-4
-returns-4 c = refused-27 (mesh (c .before .before .before .before .before .before .before .before .before .before .before .before .before .args .positions .now) (c .before .before .before .before .before .before .before .before .before .before .before .before .before .args .normals .now) (c .before .before .before .before .before .before .before .before .before .before .before .before .before .args .indices .now)) (c .before .before .before .before .before .before .before .before .before .before .before .before .before .args .file .now) _ (sym (c .before .before .before .before .before .before .before .before .bad-lengths .ensures) ∙ c .before .before .before .before .before .before .before .if1 .left) (sym (c .before .before .before .before .before .before .some-without-vertex .ensures) ∙ c .before .before .before .before .before .if2 .left) (or-second (some notFinite (c .before .before .before .before .before .before .before .before .before .before .before .before .before .args .positions .now)) _ (sym (c .before .before .some-not-finite2 .ensures) ∙ c .before .if4 .taken)) (c .not-written4 .ensures)
+returns-4 c =
+    let s = c .before .before .before .before .before .before .before .before .before .before .before in
+    let a = s .before .before .args in
+    let m = mesh (a .positions .now) (a .normals .now) (a .indices .now) in
+    let e =
+    refused-27 m (a .file .now) _
+    (sym (c .before .before .before .before .before .before .before .before .bad-lengths .ensures) ∙ c .before .before .before .before .before .before .before .if1 .left)
+    (sym (c .before .before .before .before .before .before .some-without-vertex .ensures) ∙ c .before .before .before .before .before .if2 .left)
+    (or-second (some notFinite (a .positions .now)) _ (sym (c .before .before .some-not-finite2 .ensures) ∙ c .before .if4 .taken)) (c .not-written4 .ensures) in
+    (e .0, (e .1, (λ i l. s .before .shared-slice-known .given i, λ i l. s .shared-slice-known2 .given i)))
 
 add-bytes : tie.Need-add-bytes
 add-bytes c = omega arith
@@ -62,7 +91,17 @@ not-written-requires-5 : tie.Need-not-written-requires-5
 not-written-requires-5 c κs = search needs
 
 returns-5 : tie.Need-returns-5
-returns-5 c = refused-29 (mesh (c .before .before .before .before .before .before .before .before .before .before .before .before .before .before .args .positions .now) (c .before .before .before .before .before .before .before .before .before .before .before .before .before .before .args .normals .now) (c .before .before .before .before .before .before .before .before .before .before .before .before .before .before .args .indices .now)) (c .before .before .before .before .before .before .before .before .before .before .before .before .before .before .args .file .now) _ (sym (c .before .before .before .before .before .before .before .before .before .bad-lengths .ensures) ∙ c .before .before .before .before .before .before .before .before .if1 .left) (sym (c .before .before .before .before .before .before .before .some-without-vertex .ensures) ∙ c .before .before .before .before .before .before .if2 .left) (or-none _ _ (sym (c .before .before .before .before .before .some-not-finite .ensures) ∙ c .before .before .before .before .if3 .left) (sym (c .before .before .before .some-not-finite2 .ensures) ∙ c .before .before .if4 .left)) (c .before .if5 .taken) (c .not-written5 .ensures)
+returns-5 c =
+    let s = c .before .before .before .before .before .before .before .before .before .before .before .before in
+    let a = s .before .before .args in
+    let m = mesh (a .positions .now) (a .normals .now) (a .indices .now) in
+    let e =
+    refused-29 m (a .file .now) _
+    (sym (c .before .before .before .before .before .before .before .before .before .bad-lengths .ensures) ∙ c .before .before .before .before .before .before .before .before .if1 .left)
+    (sym (c .before .before .before .before .before .before .before .some-without-vertex .ensures) ∙ c .before .before .before .before .before .before .if2 .left)
+    (or-none _ _ (sym (c .before .before .before .before .before .some-not-finite .ensures) ∙ c .before .before .before .before .if3 .left) (sym (c .before .before .before .some-not-finite2 .ensures) ∙ c .before .before .if4 .left))
+    (c .before .if5 .taken) (c .not-written5 .ensures) in
+    (e .0, (e .1, (λ i l. s .before .shared-slice-known .given i, λ i l. s .shared-slice-known2 .given i)))
 
 write-vertices-requires : tie.Need-write-vertices-requires
 write-vertices-requires c κs = let g = good-lengths (length (c .before .before .before .before .before .before .before .before .before .before .before .before .before .before .args .positions .now)) (length (c .before .before .before .before .before .before .before .before .before .before .before .before .before .before .args .normals .now)) (length (c .before .before .before .before .before .before .before .before .before .before .before .before .before .before .args .indices .now)) (sym (c .before .before .before .before .before .before .before .before .before .bad-lengths .ensures) ∙ c .before .before .before .before .before .before .before .before .if1 .left) in
@@ -96,7 +135,18 @@ same-length : tie.Need-same-length
 same-length c = search needs
 
 returns-6 : tie.Need-returns-6
-returns-6 c = done (mesh (c .before .before .before .before .before .before .before .before .before .before .before .before .before .before .before .before .before .before .before .before .before .before .before .before .before .args .positions .now) (c .before .before .before .before .before .before .before .before .before .before .before .before .before .before .before .before .before .before .before .before .before .before .before .before .before .args .normals .now) (c .before .before .before .before .before .before .before .before .before .before .before .before .before .before .before .before .before .before .before .before .before .before .before .before .before .args .indices .now)) (c .before .before .before .before .before .before .before .before .before .before .before .before .before .before .before .before .before .before .before .before .before .before .before .before .before .args .file .now) _ (sym (c .before .before .before .before .before .before .before .before .before .before .before .before .before .before .before .before .before .before .before .before .bad-lengths .ensures) ∙ c .before .before .before .before .before .before .before .before .before .before .before .before .before .before .before .before .before .before .before .if1 .left) (sym (c .before .before .before .before .before .before .before .before .before .before .before .before .before .before .before .before .before .before .some-without-vertex .ensures) ∙ c .before .before .before .before .before .before .before .before .before .before .before .before .before .before .before .before .before .if2 .left) (or-none _ _ (sym (c .before .before .before .before .before .before .before .before .before .before .before .before .before .before .before .before .some-not-finite .ensures) ∙ c .before .before .before .before .before .before .before .before .before .before .before .before .before .before .before .if3 .left) (sym (c .before .before .before .before .before .before .before .before .before .before .before .before .before .before .some-not-finite2 .ensures) ∙ c .before .before .before .before .before .before .before .before .before .before .before .before .before .if4 .left)) (c .before .before .before .before .before .before .before .before .before .before .before .before .if5 .left) refl _ (file-laid (mesh (c .before .before .before .before .before .before .before .before .before .before .before .before .before .before .before .before .before .before .before .before .before .before .before .before .before .args .positions .now) (c .before .before .before .before .before .before .before .before .before .before .before .before .before .before .before .before .before .before .before .before .before .before .before .before .before .args .normals .now) (c .before .before .before .before .before .before .before .before .before .before .before .before .before .before .before .before .before .before .before .before .before .before .before .before .before .args .indices .now)) (c .before .before .before .before .before .before .before .before .before .before .before .before .before .before .before .before .before .before .before .before .before .before .before .before .before .args .file .now) _ _ _ (c .before .before .before .before .before .before .before .before .before .before .write-vertices .ensures) (c .before .before .before .before .before .before .write-triangles .ensures) (c .before .before .write-record .ensures))
+returns-6 c =
+    let s = c .before .before .before .before .before .before .before .before .before .before .before .before .before .before .before .before .before .before .before .before .before .before .before in
+    let a = s .before .before .args in
+    let m = mesh (a .positions .now) (a .normals .now) (a .indices .now) in
+    let e =
+    done m (a .file .now) _
+    (sym (c .before .before .before .before .before .before .before .before .before .before .before .before .before .before .before .before .before .before .before .before .bad-lengths .ensures) ∙ c .before .before .before .before .before .before .before .before .before .before .before .before .before .before .before .before .before .before .before .if1 .left)
+    (sym (c .before .before .before .before .before .before .before .before .before .before .before .before .before .before .before .before .before .before .some-without-vertex .ensures) ∙ c .before .before .before .before .before .before .before .before .before .before .before .before .before .before .before .before .before .if2 .left)
+    (or-none _ _ (sym (c .before .before .before .before .before .before .before .before .before .before .before .before .before .before .before .before .some-not-finite .ensures) ∙ c .before .before .before .before .before .before .before .before .before .before .before .before .before .before .before .if3 .left) (sym (c .before .before .before .before .before .before .before .before .before .before .before .before .before .before .some-not-finite2 .ensures) ∙ c .before .before .before .before .before .before .before .before .before .before .before .before .before .if4 .left))
+    (c .before .before .before .before .before .before .before .before .before .before .before .before .if5 .left) refl _
+    (file-laid m (a .file .now) _ _ _ (c .before .before .before .before .before .before .before .before .before .before .write-vertices .ensures) (c .before .before .before .before .before .before .write-triangles .ensures) (c .before .before .write-record .ensures)) in
+    (e .0, (e .1, (λ i l. s .before .shared-slice-known .given i, λ i l. s .shared-slice-known2 .given i)))
 
 pub write-mesh-spec : {M : Type 1} → statement M
 write-mesh-spec =

@@ -21,7 +21,7 @@ same-length-3 c = search needs
 returns : tie.Need-returns
 returns c =
     let e = c .before .before .before .before .before .before .read-mesh .ensures in
-    (ap (λ (r : Read). r .answer) (e .0), (e .1, (ap (λ (r : Read). r .vertices) (e .0), ap (λ (r : Read). r .triangles) (e .0))))
+    (ap (λ (r : Read). r .answer) (e .0), (e .1 .0, (ap (λ (r : Read). r .vertices) (e .0), (ap (λ (r : Read). r .triangles) (e .0), e .1 .1))))
 
 pub bed-read-mesh-spec : {M : Type 1} → statement M
 bed-read-mesh-spec =

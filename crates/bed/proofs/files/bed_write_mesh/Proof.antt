@@ -15,7 +15,7 @@ same-length c = search needs
 returns : tie.Need-returns
 returns c =
     let e = c .before .before .write-mesh .ensures in
-    (ap (λ (r : Wrote). r .answer) (e .0), (e .1, ap (λ (r : Wrote). r .bytes) (e .0)))
+    (ap (λ (r : Wrote). r .answer) (e .0), (e .1 .0, (ap (λ (r : Wrote). r .bytes) (e .0), e .1 .1)))
 
 pub bed-write-mesh-spec : {M : Type 1} → statement M
 bed-write-mesh-spec = tie.close (tie.spec write-mesh-requires same-length returns)

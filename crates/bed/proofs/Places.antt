@@ -1,0 +1,133 @@
+-- C and Rust call by place, and a contract goes by name: two parameters of one type that are exchanged in a signature leave every contract true. So
+-- the contract of each exported function is said once more by the places of its parameters, in the order of include/bed.h. Assumes nothing.
+use Prim.Native.Nat.{ℕ}
+use mathlib.Core.Path.{_≡_}
+use mathlib.Core.List.{List}
+use lib.Ieee.{Float}
+use lib.ListN.{length}
+use contract.Lifetimes.{Lfts}
+use denote.Triple.Clauses.{Lasts, atExit}
+use borrow.Fn.Kinds.{PK, RK, Out, Dens, resT, endedOf}
+use Rattle.rules.specs.Call.{answer, room}
+use Rattle.pass.specs.Reading.{buffers}
+use Rattle.surface_nets.specs.Reading.{callMade}
+use Rattle.skin.specs.Scan.{answers, examined}
+use Rattle.mesh_file.specs.Mesh.{Mesh, mesh, Held}
+use Rattle.mesh_file.specs.Writing.{writing, written}
+use Rattle.mesh_file.specs.Reading.{Bytes, readOf, checked, readingIn, filledIn}
+use Rattle.mesh_file.specs.declared.Read.{Read}
+use Rattle.bed.specs.Boundary.{extent, said}
+use Rattle.bed.proofs.bed_surface_nets.Kinds as nets-kinds
+use Rattle.bed.proofs.bed_surface_nets.Reads as nets
+use Rattle.bed.proofs.enclosed.bed_is_enclosed.Kinds as enclosed-kinds
+use Rattle.bed.proofs.enclosed.bed_is_enclosed.Reads as enclosed
+use Rattle.bed.proofs.files.bed_write_mesh.Kinds as write-kinds
+use Rattle.bed.proofs.files.bed_write_mesh.Reads as write
+use Rattle.bed.proofs.files.bed_read_mesh.Kinds as read-kinds
+use Rattle.bed.proofs.files.bed_read_mesh.Reads as read
+use Rattle.bed.proofs.files.bed_check_mesh.Kinds as check-kinds
+use Rattle.bed.proofs.files.bed_check_mesh.Reads as check
+
+-- a call of a function and what it leaves: the result, and behind each `&mut` the value that it has last. `Learnt` of a function's Reads is what a
+-- caller learns from the function's own `ensures`, so this is no copy of it.
+pub record Called (n : ℕ) (ps : List (PK n)) (r : RK n) (Learnt : Out n ps r) : Type 0 where
+  pub lifetimes : Lfts n
+  pub args : Dens lifetimes ps
+  pub result : resT r lifetimes .Denot
+  pub last : Lasts (endedOf n ps r) lifetimes args
+  pub fits : Learnt lifetimes args result (atExit (endedOf n ps r) lifetimes args last)
+
+-- ---- bed_surface_nets: sdf, dimensions, min, max, max plane, six lists, V, I
+
+abbrev pub NetsCall : Type 0
+NetsCall = Called 9 nets-kinds.ps nets-kinds.r nets.Learnt
+
+pub surface-nets-by-place : (u : NetsCall)
+    → (let (sdf, (dx, (dy, (dz, (lx, (ly, (lz, (hx, (hy, (hz, (plane, (positions, (normals, (cells, (strides, (map, (indices, _))))))))))))))))) = u .args in
+    let (_, (_, (_, (_, (_, (_, (_, (_, (_, (_, (_, (_, (_, (_, (_, (_, (_, (v, (i, _))))))))))))))))))) = u .last in
+    said (u .result) v i
+    ≡ answer (callMade (sdf .now) (extent dx dy dz) (extent lx ly lz) (extent hx hy hz) plane)
+    (room (buffers (positions .now) (normals .now) (cells .now) (strides .now) (map .now) (indices .now))))
+surface-nets-by-place u = u .fits .0
+
+-- ---- bed_is_enclosed: sdf, dimensions, min, max, the yes or no
+
+abbrev pub EnclosedCall : Type 0
+EnclosedCall = Called 2 enclosed-kinds.ps enclosed-kinds.r enclosed.Learnt
+
+pub is-enclosed-by-place : (u : EnclosedCall)
+    → (let (sdf, (dx, (dy, (dz, (lx, (ly, (lz, (hx, (hy, (hz, _)))))))))) = u .args in
+    let (_, (_, (_, (_, (_, (_, (_, (_, (_, (_, (yes', _))))))))))) = u .last in
+    answers (u .result) yes' ≡ examined (sdf .now) (extent dx dy dz) (extent lx ly lz) (extent hx hy hz))
+is-enclosed-by-place u = u .fits
+
+-- ---- bed_write_mesh: positions, normals, indices, the file, its number of bytes
+
+abbrev pub WriteCall : Type 0
+WriteCall = Called 5 write-kinds.ps write-kinds.r write.Learnt
+
+module _ (u : WriteCall) where
+  abbrev pub meshGiven : Mesh
+  meshGiven = let (positions, (normals, (indices, _))) = u .args in mesh (positions .now) (normals .now) (indices .now)
+
+  abbrev pub fileLent : List ℕ
+  fileLent = let (_, (_, (_, (file, _)))) = u .args in file .now
+
+  abbrev pub fileLeft : List ℕ
+  fileLeft = let (_, (_, (_, (file, _)))) = u .last in file
+
+  abbrev pub bytesCounted : ℕ
+  bytesCounted = let (_, (_, (_, (_, (count, _))))) = u .last in count
+
+  pub write-by-place : (u .result ≡ writing meshGiven (length fileLent) .answer)
+      × ((fileLeft ≡ written meshGiven fileLent)
+      × ((bytesCounted ≡ writing meshGiven (length fileLent) .bytes)
+      × Held meshGiven))
+  write-by-place = u .fits
+
+-- ---- bed_read_mesh: the file, positions, normals, indices, the two counts
+
+abbrev pub ReadCall : Type 0
+ReadCall = Called 6 read-kinds.ps read-kinds.r read.Learnt
+
+module _ (u : ReadCall) where
+  abbrev pub fileRead : List ℕ
+  fileRead = let (file, _) = u .args in file .now
+
+  abbrev pub listsLent : Mesh
+  listsLent = let (_, (positions, (normals, (indices, _)))) = u .args in mesh (positions .now) (normals .now) (indices .now)
+
+  abbrev pub listsLeft : Mesh
+  listsLeft = let (_, (positions, (normals, (indices, _)))) = u .last in mesh positions normals indices
+
+  abbrev pub verticesCounted : ℕ
+  verticesCounted = let (_, (_, (_, (_, (v, _))))) = u .last in v
+
+  abbrev pub trianglesCounted : ℕ
+  trianglesCounted = let (_, (_, (_, (_, (_, (t, _)))))) = u .last in t
+
+  pub read-by-place : (u .result ≡ readingIn (readOf fileRead) listsLent .answer)
+      × ((listsLeft ≡ filledIn fileRead (readOf fileRead) listsLent)
+      × ((verticesCounted ≡ readingIn (readOf fileRead) listsLent .vertices)
+      × ((trianglesCounted ≡ readingIn (readOf fileRead) listsLent .triangles)
+      × Bytes fileRead)))
+  read-by-place = u .fits
+
+-- ---- bed_check_mesh: the file, the two counts
+
+abbrev pub CheckCall : Type 0
+CheckCall = Called 3 check-kinds.ps check-kinds.r check.Learnt
+
+module _ (u : CheckCall) where
+  abbrev pub fileChecked : List ℕ
+  fileChecked = let (file, _) = u .args in file .now
+
+  -- the answer with the two counts
+  abbrev pub countsChecked : Read
+  countsChecked = let (_, (v, (t, _))) = u .last in record { answer = u .result; vertices = v; triangles = t }
+
+  pub check-by-place : (u .result ≡ checked (readOf fileChecked) .answer)
+      × ((countsChecked .vertices ≡ checked (readOf fileChecked) .vertices)
+      × ((countsChecked .triangles ≡ checked (readOf fileChecked) .triangles)
+      × Bytes fileChecked))
+  check-by-place = u .fits

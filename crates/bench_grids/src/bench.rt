@@ -77,14 +77,18 @@ fn is_map_kept(list: &[u32], call: Call, number: u32) -> bool {
     if number != 0 {
         return marks::words_kept(list, 0, MAP);
     }
+    let dims = call.dims;
+    let low = call.low;
+    let high = call.high;
+    let plane = call.max_plane;
     let k = Block {
-        dims: call.dims,
-        low: call.low,
-        high: call.high,
+        dims,
+        low,
+        high,
         max_plane: MaxPlane {
-            x: call.max_plane,
-            y: call.max_plane,
-            z: call.max_plane,
+            x: plane,
+            y: plane,
+            z: plane,
         },
     };
     marks::map_kept(list, k, MAP)

@@ -1,5 +1,6 @@
-//! Prints what the published Rust makes of the cells and the grids of 1.0 and -1.0 whose bits and indices stand in the computed table
-//! (`crates/rules/proofs/Cases.antt`): each number there is one of these. With FAST_SURFACE_NETS_SRC set, in `oracle/`:
+//! Prints what the published Rust makes of the cells and the grids of 1.0 and -1.0 whose bits and indices stand in a computed table
+//! (`crates/rules/proofs/Vectors.antt`), and of the calls to which `crates/applied` applies the theorems: each number there is one of these.
+//! With FAST_SURFACE_NETS_SRC set, in `oracle/`:
 //!
 //!     cargo run --release --offline --package oracle --example table_vectors
 //!
@@ -161,6 +162,36 @@ fn grid(name: &str, grid: &[f32], max_plane: bool) {
     println!();
 }
 
+/// A box of the grid of dimensions 4, 4, 4 that is 1.0 but for -1.0 at (1,1,1): all six lists. The map held 77 before.
+fn one_point(name: &str, min: [u32; 3], max: [u32; 3]) {
+    let mut grid = vec![1.0; 64];
+    grid[21] = -1.0;
+    let mut mesh = Mesh {
+        stride_to_index: vec![77; 64],
+        ..Mesh::default()
+    };
+    mesh.run(&Call {
+        grid: &grid,
+        dims: [4; 3],
+        min,
+        max,
+        max_plane: false,
+    });
+    println!(
+        "{name}: V {}, I {}",
+        mesh.positions.len(),
+        mesh.indices.len()
+    );
+    for (list, floats) in [("positions", &mesh.positions), ("normals", &mesh.normals)] {
+        let vectors: Vec<String> = floats.iter().map(bits).collect();
+        println!("    {list} {}", vectors.join(", "));
+    }
+    println!("    cells {:?}", mesh.surface_points);
+    println!("    strides {:?}", mesh.surface_strides);
+    println!("    map {:?}", mesh.stride_to_index);
+    println!("    indices {:?}", mesh.indices);
+}
+
 fn signs(pattern: u32) -> Vec<f32> {
     let sign = |i: u32| if pattern >> i & 1 == 1 { -1.0 } else { 1.0 };
     (0..27).map(sign).collect()
@@ -186,6 +217,9 @@ fn main() {
             true,
         );
     }
+    one_point("One point, whole", [0; 3], [3; 3]);
+    one_point("One point, lower piece", [0; 3], [2, 3, 3]);
+    one_point("One point, upper piece", [1, 0, 0], [3; 3]);
     let outside = run(2, &[1.0; 8], false);
     println!("a cell with no vertex: map {}", outside.stride_to_index[0]);
 }

@@ -13,6 +13,7 @@ use Rattle.rules.specs.Grid.{GridPoint, samePoint, isCell}
 use Rattle.rules.specs.Vertices.{surfaceCell, vertices}
 use Rattle.rules.specs.Faces.{indices}
 use Rattle.rules.specs.Call.{Call, Buffers, room, answer, flatPoints, written, afterwards}
+use Rattle.rules.specs.Cutting.{pointIn}
 use Rattle.rules.proofs.Tests.{one-most}
 use Rattle.rules.proofs.Lists.{many-some}
 use Rattle.rules.proofs.Counting.{samePoint-itself, vertices-once}
@@ -23,7 +24,7 @@ use Rattle.skin.specs.Links.{numberOf}
 
 -- the cell of the vertex v, in a list of three numbers a vertex
 abbrev pub cellAt : List ℕ → ℕ → GridPoint
-cellAt cells v = record { x = getD cells (3 * v) 0; y = getD cells (3 * v + 1) 0; z = getD cells (3 * v + 2) 0 }
+cellAt = pointIn
 
 -- an element that a list holds once stands at its own place
 module _ (d : GridPoint) where

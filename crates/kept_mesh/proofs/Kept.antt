@@ -4,21 +4,21 @@ use Prim.Native.Nat.{ℕ, _+_, _*_, _/_, _%_, _^_, _≤_, _<_}
 use native.Mathlib.Omega.{arith}
 use mathlib.Core.Bool.{false, not}
 use mathlib.Core.List.{List, map}
-use mathlib.Core.Path.{_≡_, refl, sym, ap, ap₂, subst, _∙_}
+use mathlib.Core.Path.{_≡_, sym, ap, ap₂, subst, _∙_}
 use borrow.Author.Tests.{lt-leb}
 use lib.Dec.{T}
 use lib.Ieee.{Float, nan, inf, fin, binary32, fits}
 use lib.Ieee.Bits.{is-true}
 use lib.Ieee.Fits.{add-fits}
 use lib.Ieee.Scale.{finite}
-use lib.ListN.{length, getD, take, drop}
-use lib.Seq.{take-at, getD-take}
-use Rattle.rules.specs.Lists.{some, over}
+use lib.ListN.{length, getD, take}
+use lib.Seq.{getD-take}
+use Rattle.rules.specs.Lists.{some}
 use Rattle.rules.specs.Grid.{GridPoint}
 use Rattle.rules.specs.Cell.{Vector, position, normal}
 use Rattle.rules.specs.Vertices.{vertices, vertexPosition, vertexNormal}
 use Rattle.rules.specs.Faces.{indices}
-use Rattle.rules.specs.Call.{Buffers, flatVectors, written}
+use Rattle.rules.specs.Call.{flatVectors}
 use Rattle.rules.proofs.Lists.{none, more, all-at, all-each, all-map, all-joined}
 use Rattle.rules.proofs.Edges.{index-count}
 use Rattle.rules.proofs.Numbers.{index-below}
@@ -33,16 +33,13 @@ use Rattle.mesh_file.proofs.Searching.{none-some}
 use Rattle.mesh_file.proofs.RoundTrip.{AllFit, Writable}
 use Rattle.mesh_file.proofs.Settled.{room-writes, bytes-counted, read-after-write, same-after-write}
 use Rattle.promises.specs.Served.{Served, Done}
-use Rattle.promises.proofs.Done.{done-counts, done-few, done-writes}
+use Rattle.promises.proofs.Done.{done-counts, done-few}
 use Rattle.promises.proofs.Runs.{Run, served, BedRun, bedServed}
 use Rattle.promises.proofs.ClosedMesh.{ClosedMesh, closed-mesh}
+use Rattle.promises.proofs.ReadBack.{positions-back, normals-back, indices-back}
 use Rattle.kept_mesh.specs.Parts.{meshOf}
 
 -- ---- three numbers for each vertex
-
--- the first numbers of a list that was written over
-vectors-first : (f : GridPoint → Vector) (vs : List GridPoint) (old : List Float) → take (3 * length vs) (over (flatVectors (map f vs)) old) ≡ flatVectors (map f vs)
-vectors-first f vs old = take-at (flatVectors (map f vs)) (drop (length (flatVectors (map f vs))) old) (3 * length vs) (length-vectors f vs)
 
 -- a sum is a value of binary32
 vectors-fit : (f : GridPoint → Vector) (vs : List GridPoint) → ((c : GridPoint) → T (fits binary32 (f c .x)) × T (fits binary32 (f c .y)) × T (fits binary32 (f c .z)))
@@ -69,32 +66,14 @@ module _ (u : Served) (done : Done u) where
   abbrev is : List ℕ
   is = indices (u .call .grid) (u .call .box) (u .call .flags)
 
-  positions-are : meshOf u .positions ≡ flatVectors (map (vertexPosition (u .call .grid)) vs)
-  unfolding written
-  positions-are =
-      ap₂ (λ (n : ℕ) (s : Buffers). take (3 * n) (s .positions)) (done-counts u done .0) (done-writes u done)
-      ∙ vectors-first (vertexPosition (u .call .grid)) vs (u .before .positions)
-
-  normals-are : meshOf u .normals ≡ flatVectors (map (vertexNormal (u .call .grid)) vs)
-  unfolding written
-  normals-are =
-      ap₂ (λ (n : ℕ) (s : Buffers). take (3 * n) (s .normals)) (done-counts u done .0) (done-writes u done)
-      ∙ vectors-first (vertexNormal (u .call .grid)) vs (u .before .normals)
-
-  indices-are : meshOf u .indices ≡ is
-  unfolding written
-  indices-are =
-      ap₂ (λ (n : ℕ) (s : Buffers). take n (s .indices)) (done-counts u done .1) (done-writes u done)
-      ∙ take-at is (drop (length is) (u .before .indices)) (length is) refl
-
   positions-length : length (meshOf u .positions) ≡ 3 * u .says .vertices
-  positions-length = omega (arith, ap length positions-are, length-vectors (vertexPosition (u .call .grid)) vs, done-counts u done .0)
+  positions-length = omega (arith, ap length (positions-back u done), length-vectors (vertexPosition (u .call .grid)) vs, done-counts u done .0)
 
   normals-length : length (meshOf u .normals) ≡ 3 * u .says .vertices
-  normals-length = omega (arith, ap length normals-are, length-vectors (vertexNormal (u .call .grid)) vs, done-counts u done .0)
+  normals-length = omega (arith, ap length (normals-back u done), length-vectors (vertexNormal (u .call .grid)) vs, done-counts u done .0)
 
   indices-length : length (meshOf u .indices) ≡ u .says .indices
-  indices-length = omega (arith, ap length indices-are, done-counts u done .1)
+  indices-length = omega (arith, ap length (indices-back u done), done-counts u done .1)
 
   pub vertices-kept : file.vertexCount (meshOf u) ≡ u .says .vertices
   vertices-kept = omega (arith, positions-length)
@@ -109,16 +88,16 @@ module _ (u : Served) (done : Done u) where
   index-kept i l =
       let e : length vs ≡ file.vertexCount (meshOf u) = omega (arith, vertices-kept, done-counts u done .0) in
       subst (λ (n : ℕ). getD (meshOf u .indices) i 0 < n) e
-      (subst (λ (l : List ℕ). getD l i 0 < length vs) (sym indices-are)
-      (index-below (u .call .grid) (u .call .box) (u .call .flags) i (omega (arith, ap length indices-are))))
+      (subst (λ (l : List ℕ). getD l i 0 < length vs) (sym (indices-back u done))
+      (index-below (u .call .grid) (u .call .box) (u .call .flags) i (omega (arith, ap length (indices-back u done)))))
 
   positions-fit : AllFit (meshOf u .positions)
   unfolding position
-  positions-fit = subst AllFit (sym positions-are) (vectors-fit (vertexPosition (u .call .grid)) vs (λ c. (add-fits binary32 _ _, add-fits binary32 _ _, add-fits binary32 _ _)))
+  positions-fit = subst AllFit (sym (positions-back u done)) (vectors-fit (vertexPosition (u .call .grid)) vs (λ c. (add-fits binary32 _ _, add-fits binary32 _ _, add-fits binary32 _ _)))
 
   normals-fit : AllFit (meshOf u .normals)
   unfolding normal
-  normals-fit = subst AllFit (sym normals-are) (vectors-fit (vertexNormal (u .call .grid)) vs (λ c. (add-fits binary32 _ _, add-fits binary32 _ _, add-fits binary32 _ _)))
+  normals-fit = subst AllFit (sym (normals-back u done)) (vectors-fit (vertexNormal (u .call .grid)) vs (λ c. (add-fits binary32 _ _, add-fits binary32 _ _, add-fits binary32 _ _)))
 
 -- ---- the law
 

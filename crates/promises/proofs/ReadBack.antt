@@ -1,86 +1,68 @@
--- The faces that are read from what a call has written, its own lists afterwards and nothing else, are the faces of its box: what stands behind the
--- written numbers is never looked up. Assumes nothing.
-use Prim.Native.Nat.{ℕ, zero, suc, _+_, _*_, _≤_, _<_}
+-- What is read from what a call has written, its own lists afterwards and nothing else: the first 3V, 3V, 3V and I numbers are those of the rules, so the
+-- vertices and faces that they show are those of its box. What stands behind the written numbers is never looked up. Assumes nothing.
+use Prim.Native.Nat.{ℕ, _*_}
 use native.Mathlib.Omega.{arith}
-use mathlib.Core.List.{List, [], _∷_, _++_, map}
+use mathlib.Core.List.{List, map}
 use mathlib.Core.Path.{_≡_, refl, ap, ap₂, _∙_}
-use lib.Ieee.{Float, nan}
-use lib.ListN.{length, getD, take, drop, List·getD-append}
+use lib.Ieee.{Float}
+use lib.ListN.{length, take, drop}
 use lib.Seq.{take-at}
 use Rattle.rules.specs.Lists.{over}
 use Rattle.rules.specs.Grid.{GridPoint}
-use Rattle.rules.specs.Vertices.{vertices, vertexPosition}
-use Rattle.rules.specs.Faces.{Edge, edges, indices}
-use Rattle.rules.specs.Call.{Call, Buffers, indexCount, flatPoints, flatVectors, written}
-use Rattle.rules.specs.Cutting.{Face, looked, facesSeen}
-use Rattle.rules.proofs.Lists.{All, none, more, all-then, map-same}
+use Rattle.rules.specs.Cell.{Vector}
+use Rattle.rules.specs.Vertices.{vertices, vertexPosition, vertexNormal}
+use Rattle.rules.specs.Faces.{indices}
+use Rattle.rules.specs.Call.{Buffers, flatPoints, flatVectors, written}
+use Rattle.rules.specs.Cutting.{facesSeen, vertexOf, verticesSeen}
 use Rattle.rules.proofs.Edges.{index-count}
-use Rattle.rules.proofs.Numbers.{every-index-below}
-use Rattle.rules.proofs.Seen.{length-points, length-vectors, seen, seen-number}
-use Rattle.promises.specs.Served.{Served, Done, pieceOf, facesRead}
+use Rattle.rules.proofs.Seen.{length-points, length-vectors, seen, seen-number, vertices-seen}
+use Rattle.promises.specs.Served.{Served, Done, pieceOf, facesRead, verticesRead}
 use Rattle.promises.proofs.Done.{done-counts, done-writes}
 
-all-take : {A : Type 0} {P : A → Type 0} (n : ℕ) {l : List A} → All P l → All P (take n l)
-all-take zero h = none
-all-take (suc n) none = none
-all-take (suc n) (more p h) = more p (all-take n h)
+-- the first numbers of a list that was written over
+vectors-first : (f : GridPoint → Vector) (vs : List GridPoint) (old : List Float) → take (3 * length vs) (over (flatVectors (map f vs)) old) ≡ flatVectors (map f vs)
+vectors-first f vs old = take-at (flatVectors (map f vs)) (drop (length (flatVectors (map f vs))) old) (3 * length vs) (length-vectors f vs)
 
-all-drop : {A : Type 0} {P : A → Type 0} (n : ℕ) {l : List A} → All P l → All P (drop n l)
-all-drop zero h = h
-all-drop (suc n) none = none
-all-drop (suc n) (more p h) = all-drop n h
+module _ (u : Served) (done : Done u) where
+  abbrev vs : List GridPoint
+  vs = vertices (u .call .grid) (u .call .box)
 
--- lists of cells and positions of n vertices, and longer ones
-module _ (ns : List ℕ) (xs : List Float) (n : ℕ) (long : 3 * n ≤ length ns) (long' : 3 * n ≤ length xs) (more-ns : List ℕ) (more-xs : List Float) where
-  looked-over : (v : ℕ) → v < n → looked (ns ++ more-ns) (xs ++ more-xs) v ≡ looked ns xs v
-  looked-over v h =
-      λ i.
-      record {
-        cell = record { x = c (3 * v) (omega arith) i; y = c (3 * v + 1) (omega arith) i; z = c (3 * v + 2) (omega arith) i };
-        position = record { x = p (3 * v) (omega arith) i; y = p (3 * v + 1) (omega arith) i; z = p (3 * v + 2) (omega arith) i };
-      }
-    where
-      c : (k : ℕ) → k < 3 * n → getD (ns ++ more-ns) k 0 ≡ getD ns k 0
-      c k l = List·getD-append ns more-ns 0 k (omega arith)
+  abbrev is : List ℕ
+  is = indices (u .call .grid) (u .call .box) (u .call .flags)
 
-      p : (k : ℕ) → k < 3 * n → getD (xs ++ more-xs) k nan ≡ getD xs k nan
-      p k l = List·getD-append xs more-xs nan k (omega arith)
+  pub positions-back : take (3 * u .says .vertices) (u .after .positions) ≡ flatVectors (map (vertexPosition (u .call .grid)) vs)
+  unfolding written
+  positions-back =
+      ap₂ (λ (n : ℕ) (s : Buffers). take (3 * n) (s .positions)) (done-counts u done .0) (done-writes u done)
+      ∙ vectors-first (vertexPosition (u .call .grid)) vs (u .before .positions)
 
-  faces-over : (es : List Edge) (is : List ℕ) → All (λ (v : ℕ). v < n) is → facesSeen (ns ++ more-ns) (xs ++ more-xs) es is ≡ facesSeen ns xs es is
-  unfolding facesSeen
-  faces-over [] is h = refl
-  faces-over (e ∷ es) is h =
-      ap₂ (λ (f : Face) (fs : List Face). f ∷ fs)
-      (ap (λ cs. record { edge = e; corners = cs }) (map-same (all-then looked-over (all-take 6 h))))
-      (faces-over es (drop 6 is) (all-drop 6 h))
+  pub normals-back : take (3 * u .says .vertices) (u .after .normals) ≡ flatVectors (map (vertexNormal (u .call .grid)) vs)
+  unfolding written
+  normals-back =
+      ap₂ (λ (n : ℕ) (s : Buffers). take (3 * n) (s .normals)) (done-counts u done .0) (done-writes u done)
+      ∙ vectors-first (vertexNormal (u .call .grid)) vs (u .before .normals)
 
--- of lists just written, with the first I numbers of the index list
-written-back : (c : Call) (s : Buffers)
-    → facesSeen (written c s .cells) (written c s .positions) (edges (c .grid) (c .box) (c .flags)) (take (indexCount c) (written c s .indices)) ≡ seen (c .grid) (pieceOf c)
-unfolding written
-written-back c s =
-    ap (facesSeen (over (flatPoints vs) (s .cells)) (over xs (s .positions)) es) (take-at is (drop (length is) (s .indices)) (length is) refl)
-    ∙ faces-over (flatPoints vs) xs (length vs) (omega (arith, length-points vs)) (omega (arith, length-vectors (vertexPosition (c .grid)) vs)) (drop (length (flatPoints vs)) (s .cells)) (drop (length xs) (s .positions)) es is (every-index-below (c .grid) (c .box) (c .flags))
-  where
-    vs : List GridPoint
-    vs = vertices (c .grid) (c .box)
+  pub cells-back : take (3 * u .says .vertices) (u .after .cells) ≡ flatPoints vs
+  unfolding written
+  cells-back =
+      ap₂ (λ (n : ℕ) (s : Buffers). take (3 * n) (s .cells)) (done-counts u done .0) (done-writes u done)
+      ∙ take-at (flatPoints vs) (drop (length (flatPoints vs)) (u .before .cells)) (3 * length vs) (length-points vs)
 
-    xs : List Float
-    xs = flatVectors (map (vertexPosition (c .grid)) vs)
+  pub indices-back : take (u .says .indices) (u .after .indices) ≡ is
+  unfolding written
+  indices-back =
+      ap₂ (λ (n : ℕ) (s : Buffers). take n (s .indices)) (done-counts u done .1) (done-writes u done)
+      ∙ take-at is (drop (length is) (u .before .indices)) (length is) refl
 
-    es : List Edge
-    es = edges (c .grid) (c .box) (c .flags)
+  pub faces-back : facesRead u ≡ seen (u .call .grid) (pieceOf (u .call))
+  faces-back = λ i. facesSeen (cells-back i) (positions-back i) (indices-back i)
 
-    is : List ℕ
-    is = indices (c .grid) (c .box) (c .flags)
+  pub vertices-back : verticesRead u ≡ map (vertexOf (u .call .grid)) vs
+  vertices-back =
+      (λ i. verticesSeen (done-counts u done .0 i) (cells-back i) (positions-back i) (normals-back i)) ∙ vertices-seen (u .call .grid) vs
 
-pub faces-back : (u : Served) → Done u → facesRead u ≡ seen (u .call .grid) (pieceOf (u .call))
-faces-back u d =
-    ap₂ (λ (s : Buffers) (n : ℕ). facesSeen (s .cells) (s .positions) (edges (u .call .grid) (u .call .box) (u .call .flags)) (take n (s .indices))) (done-writes u d) (done-counts u d .1)
-    ∙ written-back (u .call) (u .before)
-
--- no index is left unread: each face takes six of the I
-pub all-read : (u : Served) → Done u → u .says .indices ≡ 6 * length (facesRead u)
-all-read u d =
-    let c = u .call in
-    omega (arith, done-counts u d .1, index-count (c .grid) (c .box) (c .flags), ap length (faces-back u d), seen-number (c .grid) (pieceOf c))
+  -- no index is left unread: each face takes six of the I
+  pub all-read : u .says .indices ≡ 6 * length (facesRead u)
+  all-read =
+      let c = u .call in
+      omega (arith, done-counts u done .1, index-count (c .grid) (c .box) (c .flags), ap length faces-back, seen-number (c .grid) (pieceOf c))

@@ -1,14 +1,13 @@
--- A call of document 01 with what came of it, as the public contracts say it, and the faces that are read back from what it wrote.
+-- A call of document 01 with what came of it, as the public contracts say it, and the faces and vertices that are read back from what it wrote.
 -- Definitions only. Assumes nothing.
-use Prim.Native.Nat.{ℕ, _<_}
+use Prim.Native.Nat.{ℕ, _*_, _<_}
 use mathlib.Core.Path.{_≡_}
 use mathlib.Core.List.{List}
 use lib.Dec.{T}
 use lib.Ieee.{binary32, fits}
 use lib.ListN.{take}
-use Rattle.rules.specs.Faces.{edges}
 use Rattle.rules.specs.Call.{Call, Buffers, Answer, answer, afterwards, room}
-use Rattle.rules.specs.Cutting.{Piece, Face, facesSeen}
+use Rattle.rules.specs.Cutting.{Piece, Face, facesSeen, Vertex, verticesSeen}
 
 -- what went in, the lent lists as they were, the answer with V and I, and the lent lists afterwards; the last three are what the
 -- contracts of surface_nets and bed_surface_nets say: the two equations, and that the grid's numbers are binary32 values
@@ -29,8 +28,15 @@ Done u = u .says .number ≡ 0
 abbrev pub pieceOf : Call → Piece
 pieceOf c = record { box = c .box; flags = c .flags }
 
--- the faces of a mesh. Their corners come from what was written alone: the first I numbers of the index list in sixes, each number looked up in the
--- cells and positions beside it. A six has no name of its own: its edge is the one that comes next in the order of document 01, "Faces".
+-- the faces of a mesh, from what was written alone: the first I numbers of the index list in sixes, each number looked up in the first 3V numbers of cells and
+-- of positions. A six is labelled with the edge that its own cells show, and is no face where they show none.
 abbrev pub facesRead : Served → List Face
 facesRead u =
-    facesSeen (u .after .cells) (u .after .positions) (edges (u .call .grid) (u .call .box) (u .call .flags)) (take (u .says .indices) (u .after .indices))
+    let n = 3 * u .says .vertices in
+    facesSeen (take n (u .after .cells)) (take n (u .after .positions)) (take (u .says .indices) (u .after .indices))
+
+-- the vertices of a mesh: three numbers each of the first 3V of cells, positions and normals
+abbrev pub verticesRead : Served → List Vertex
+verticesRead u =
+    let n = 3 * u .says .vertices in
+    verticesSeen (u .says .vertices) (take n (u .after .cells)) (take n (u .after .positions)) (take n (u .after .normals))

@@ -115,11 +115,18 @@ upper-inner d axisX k w f l h = omega arith
 upper-inner d axisY k w f l h = omega arith
 upper-inner d axisZ k w f l h = omega arith
 
+-- the two of one cut
+pub cut-accepted : (g : Field) (size entries : ℕ) (ax : Axis) (k : ℕ) (w : Piece) → along ax (w .box .low) ≤ k → k < along ax (w .box .high)
+    → Accepted g size entries (w .box) → Accepted g size entries (lowerPiece ax k w .box) × Accepted g size entries (upperPiece ax k w .box)
+cut-accepted g size entries ax k w l h a =
+    let f : BoxFits (g .dims) (w .box) = box-fits (g .dims) (w .box) (a .box) in (
+      inner-accepted g size entries (w .box) (lowerPiece ax k w .box) (lower-inner (g .dims) ax k w f l h) a,
+      inner-accepted g size entries (w .box) (upperPiece ax k w .box) (upper-inner (g .dims) ax k w f l h) a,
+    )
+
 pub pieces-accepted : (g : Field) (size entries : ℕ) (t : Cuts) (w : Piece) → Fits t w → Accepted g size entries (w .box) → All (λ (q : Piece). Accepted g size entries (q .box)) (pieces t w)
 unfolding pieces
 pieces-accepted g size entries uncut w fits a = more a none
 pieces-accepted g size entries (cut ax k lower upper) w fits a =
-    let f : BoxFits (g .dims) (w .box) = box-fits (g .dims) (w .box) (a .box) in
-    all-append
-    (pieces-accepted g size entries lower (lowerPiece ax k w) (fits .2) (inner-accepted g size entries (w .box) (lowerPiece ax k w .box) (lower-inner (g .dims) ax k w f (fits .0) (fits .1)) a))
-    (pieces-accepted g size entries upper (upperPiece ax k w) (fits .3) (inner-accepted g size entries (w .box) (upperPiece ax k w .box) (upper-inner (g .dims) ax k w f (fits .0) (fits .1)) a))
+    let (low, high) = cut-accepted g size entries ax k w (fits .0) (fits .1) a in
+    all-append (pieces-accepted g size entries lower (lowerPiece ax k w) (fits .2) low) (pieces-accepted g size entries upper (upperPiece ax k w) (fits .3) high)

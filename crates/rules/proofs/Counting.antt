@@ -131,7 +131,7 @@ points-once b p =
 -- ---- vertices
 
 -- what a test keeps of a list that holds each point once
-kept-once : (f : GridPoint → Bool) (l : List GridPoint) (p : GridPoint) (t : Bool) → many (samePoint p) l ≡ one t → many (samePoint p) (keep f l) ≡ one (t && f p)
+pub kept-once : (f : GridPoint → Bool) (l : List GridPoint) (p : GridPoint) (t : Bool) → many (samePoint p) l ≡ one t → many (samePoint p) (keep f l) ≡ one (t && f p)
 kept-once f l p t e =
     many-keep (samePoint p) f l
     ∙ many-same (all-each (samePoint-moves f p) l)

@@ -33,7 +33,7 @@ sameAxis axisZ axisX = false
 sameAxis axisZ axisY = false
 sameAxis axisZ axisZ = true
 
-sameAxis-sound : (a b : Axis) → T (sameAxis a b) → a ≡ b
+pub sameAxis-sound : (a b : Axis) → T (sameAxis a b) → a ≡ b
 sameAxis-sound axisX axisX t = refl
 sameAxis-sound axisX axisY t = absurd t
 sameAxis-sound axisX axisZ t = absurd t

@@ -9,7 +9,7 @@ use mathlib.Core.Path.{_≡_, refl, sym, ap, ap₂, subst, _∙_}
 use lib.Dec.{T}
 use lib.ListN.{length, getD, length-append}
 use Rattle.rules.specs.Lists.{one, keep, many, joined, place, placed}
-use Rattle.rules.proofs.Tests.{is-test, one-of, one-not, one-most}
+use Rattle.rules.proofs.Tests.{is-test, one-of, one-not, one-positive, one-most}
 
 -- ---- every element
 
@@ -201,6 +201,18 @@ module _ {A : Type 0} where
   many-most f [] = omega arith
   many-most f (x ∷ xs) = omega (arith, many-most f xs, one-most (f x))
 
+  -- all of them, exactly if as many pass as there are
+  pub many-every : (f : A → Bool) {l : List A} → All (λ x. T (f x)) l → many f l ≡ length l
+  unfolding many
+  many-every f none = refl
+  many-every f (more {x = x} p q) = omega (arith, one-of (f x) p, many-every f q)
+
+  pub many-full : (f : A → Bool) (l : List A) → many f l ≡ length l → All (λ x. T (f x)) l
+  unfolding many
+  many-full f [] e = none
+  many-full f (x ∷ xs) e =
+      more (one-positive (f x) (omega (arith, many-most f xs))) (many-full f xs (omega (arith, many-most f xs, one-most (f x))))
+
   pub many-less : (f : A → Bool) (l : List A) (k : ℕ) (d : A) → k < length l → (T (f (getD l k d)) → ⊥) → many f l < length l
   unfolding many
   many-less f [] k d h p = omega arith
@@ -221,6 +233,16 @@ module _ {A B : Type 0} where
   -- where each of the joined lists holds it once or not at all
   pub many-joined-once : (f : B → Bool) (h : A → List B) (t : A → Bool) → ((x : A) → many f (h x) ≡ one (t x)) → (l : List A) → many f (joined h l) ≡ many t l
   many-joined-once f h t e l = many-joined f h l ∙ total-same (all-each e l) ∙ sym (many-total t l)
+
+  pub keep-map : (f : B → Bool) (h : A → B) (l : List A) → keep f (map h l) ≡ map h (keep (λ x. f (h x)) l)
+  unfolding keep
+  keep-map f h [] = refl
+  keep-map f h (x ∷ xs) = go (f (h x)) (keep-map f h xs)
+    where
+      go : (c : Bool) → keep f (map h xs) ≡ map h (keep (λ x. f (h x)) xs)
+          → cond c (h x ∷ keep f (map h xs)) (keep f (map h xs)) ≡ map h (cond c (x ∷ keep (λ x. f (h x)) xs) (keep (λ x. f (h x)) xs))
+      go true e = ap (λ r. h x ∷ r) e
+      go false e = e
 
   pub keep-joined : (f : B → Bool) (h : A → List B) (l : List A) → keep f (joined h l) ≡ joined (λ x. keep f (h x)) l
   unfolding keep joined

@@ -1,12 +1,12 @@
 -- "The answer and all that is written depend on the dimensions, box, max plane, all lengths, the grid's included, and the distances inside
 -- the box. Distances outside the box and the map's old numbers never matter." From the definitions. Assumes nothing.
 use Prim.Native.Nat.{ℕ, zero, suc, _+_, _-_, _*_, _≤_, _<_}
-use mathlib.Core.Bool.{Bool, true, false, _&&_, cond}
+use mathlib.Core.Bool.{Bool, true, false, not, _&&_, cond}
 use mathlib.Core.List.{List, [], _∷_, map}
 use mathlib.Core.Path.{_≡_, refl, sym, ap, ap₂, _∙_, fun-ext}
 use native.Mathlib.Nat.{le-refl, zero-add, not-suc-le-zero}
 use native.Mathlib.Omega.{arith}
-use lib.Dec.{T, eqb, eqb·suc-zero, lit<}
+use lib.Dec.{T, eqb, eqb→eq, eqb·suc-zero, lit<}
 use lib.ListN.{length, getD, take, drop, length-map}
 use lib.Seq.{take-at}
 use lib.Ieee.{Float, unlike}
@@ -15,14 +15,15 @@ use Rattle.rules.specs.Grid.{GridPoint, Box, Field, stepUp, samePoint, i
 use Rattle.rules.specs.Cell.{cornerOf, values, surface, centroid, position, normal, negative}
 use Rattle.rules.specs.Vertices.{layerVertices, surfaceCell, vertices, firstVertex, vertexNumber, numberIn, vertexPosition, vertexNormal, nullVertex, cellEntry, edgeEntry, mapEntry}
 use Rattle.rules.specs.Faces.{Edge, Flags, owned, changes, gives, edgesAt, cellEdges, layerEdges, cell1, cell2, cell3, cell4, six, shorter, faceCells, layerIndices, indices}
-use Rattle.rules.specs.Call.{Call, Buffers, Room, room, beyond, badDistance, Answer, vertexCount, indexCount, answer, flatVectors, flatPoints, written, afterwards}
+use Rattle.rules.specs.Call.{Call, Buffers, Room, room, badDimensions, badBox, beyond, badDistance, Answer, answers, vertexCount, indexCount, answer, flatVectors, flatPoints, written, afterwards}
 use Rattle.rules.proofs.Lists.{all-then, map-same, joined-same, keep-same, length-placed, getD-placed}
 use Rattle.rules.proofs.Some.{some-same}
 use Rattle.rules.proofs.Runs.{upTo-each}
-use Rattle.rules.proofs.Indexes.{cell-within, cell-in-box, corner-in-box}
+use Rattle.rules.proofs.Indexes.{cell-within, cell-in-box, corner-in-box, box-within}
 use Rattle.rules.proofs.FourCells.{Four, four-in}
 use Rattle.rules.proofs.Numbers.{face-all}
 use Rattle.rules.proofs.Inside.{layer-cells, vertices-all, points-all, distance-is, edge-cells, up-in-box}
+use Rattle.rules.proofs.Accepted.{done-accepted}
 use Rattle.rules.proofs.Seen.{length-points, length-vectors}
 
 -- ---- a test in front hides what it refuses
@@ -153,42 +154,43 @@ module _ (g g' : Field) (b : Box) (agree : (p : GridPoint) → T (inBox b p) →
 
 -- ---- two calls that differ only outside the box
 
+-- the distances are the same at each point of the box that lies within the dimensions: a box that reaches beyond them is refused before a distance is read
 pub record Alike (c c' : Call) : Type 0 where
   pub dims : c .grid .dims ≡ c' .grid .dims
   pub size : c .size ≡ c' .size
   pub box : c .box ≡ c' .box
   pub flags : c .flags ≡ c' .flags
-  pub distances : (p : GridPoint) → T (inBox (c .box) p) → value (c .grid) p ≡ value (c' .grid) p
+  pub distances : (p : GridPoint) → T (inBox (c .box) p) → (p .x < c .grid .dims .x) × (p .y < c .grid .dims .y) × (p .z < c .grid .dims .z)
+      → value (c .grid) p ≡ value (c' .grid) p
 
-module _ (c c' : Call) (same : Alike c c') where
+-- where condition 2 does not hold, each point of the box lies within them
+module _ (c c' : Call) (same : Alike c c') (ok : T (not (badBox (c .grid .dims) (c .box)))) where
+  agree : (p : GridPoint) → T (inBox (c .box) p) → value (c .grid) p ≡ value (c' .grid) p
+  agree p t = same .distances p t (box-within (c .grid .dims) (c .box) p ok t)
+
   pub calls-vertices : vertices (c .grid) (c .box) ≡ vertices (c' .grid) (c' .box)
-  calls-vertices = vertices-same (c .grid) (c' .grid) (c .box) (same .distances) ∙ ap (vertices (c' .grid)) (same .box)
+  calls-vertices = vertices-same (c .grid) (c' .grid) (c .box) agree ∙ ap (vertices (c' .grid)) (same .box)
 
   pub calls-indices : indices (c .grid) (c .box) (c .flags) ≡ indices (c' .grid) (c' .box) (c' .flags)
-  calls-indices = indices-same (c .grid) (c' .grid) (c .box) (same .distances) (c .flags) ∙ ap₂ (indices (c' .grid)) (same .box) (same .flags)
+  calls-indices = indices-same (c .grid) (c' .grid) (c .box) agree (c .flags) ∙ ap₂ (indices (c' .grid)) (same .box) (same .flags)
 
   pub calls-distance : badDistance (c .grid) (c .box) ≡ badDistance (c' .grid) (c' .box)
-  calls-distance = distance-same (c .grid) (c' .grid) (c .box) (same .distances) ∙ ap (badDistance (c' .grid)) (same .box)
-
-  -- "The answer .. depend[s] on the dimensions, box, max plane, all lengths, .. and the distances inside the box."
-  pub answer-local : (r : Room) → answer c r ≡ answer c' r
-  unfolding answer
-  answer-local r = cc (calls-vertices, calls-indices, calls-distance, same .dims, same .size, same .box)
+  calls-distance = distance-same (c .grid) (c' .grid) (c .box) agree ∙ ap (badDistance (c' .grid)) (same .box)
 
   pub calls-positions : map (vertexPosition (c .grid)) (vertices (c .grid) (c .box)) ≡ map (vertexPosition (c' .grid)) (vertices (c' .grid) (c' .box))
   calls-positions =
-      positions-same (c .grid) (c' .grid) (c .box) (same .distances) ∙ ap (λ (b : Box). map (vertexPosition (c' .grid)) (vertices (c' .grid) b)) (same .box)
+      positions-same (c .grid) (c' .grid) (c .box) agree ∙ ap (λ (b : Box). map (vertexPosition (c' .grid)) (vertices (c' .grid) b)) (same .box)
 
   pub calls-normals : map (vertexNormal (c .grid)) (vertices (c .grid) (c .box)) ≡ map (vertexNormal (c' .grid)) (vertices (c' .grid) (c' .box))
   calls-normals =
-      normals-same (c .grid) (c' .grid) (c .box) (same .distances) ∙ ap (λ (b : Box). map (vertexNormal (c' .grid)) (vertices (c' .grid) b)) (same .box)
+      normals-same (c .grid) (c' .grid) (c .box) agree ∙ ap (λ (b : Box). map (vertexNormal (c' .grid)) (vertices (c' .grid) b)) (same .box)
 
   pub calls-entry : (j old : ℕ) → mapEntry (c .grid) (c .box) j old ≡ mapEntry (c' .grid) (c' .box) j old
   unfolding mapEntry
   calls-entry j old =
       let p : GridPoint = pointAt (c .grid .dims) j in
       cond-same (isCell (c .box) p) (cellEntry (c .grid) (c .box) p) (cellEntry (c' .grid) (c .box) p) (cond (inBox (c .box) p) (edgeEntry old) old)
-      (entry-same (c .grid) (c' .grid) (c .box) (same .distances) p)
+      (entry-same (c .grid) (c' .grid) (c .box) agree p)
       ∙ ap₂ {A = Box} {B = GridPoint} (λ b d. cond (isCell b (pointAt d j)) (cellEntry (c' .grid) b (pointAt d j)) (cond (inBox b (pointAt d j)) (edgeEntry old) old)) (same .box) (same .dims)
 
   -- distances outside the box never matter: with the same old numbers, every list holds the same afterwards
@@ -204,9 +206,28 @@ module _ (c c' : Call) (same : Alike c c') where
         indices = over (calls-indices i) (s .indices);
       }
 
-  pub afterwards-local : (s : Buffers) → afterwards c s ≡ afterwards c' s
-  unfolding afterwards
-  afterwards-local s = ap₂ {C = Buffers} (λ (a : Answer) (t : Buffers). cond (eqb (a .number) 0) t s) (answer-local (room s)) (written-local s)
+-- "The answer .. depend[s] on the dimensions, box, max plane, all lengths, .. and the distances inside the box."
+pub answer-local : (c c' : Call) → Alike c c' → (r : Room) → answer c r ≡ answer c' r
+unfolding answer
+answer-local c c' same r = go (badBox (c .grid .dims) (c .box)) refl
+  where
+    boxes : badBox (c .grid .dims) (c .box) ≡ badBox (c' .grid .dims) (c' .box)
+    boxes = ap₂ badBox (same .dims) (same .box)
+
+    go : (t : Bool) → badBox (c .grid .dims) (c .box) ≡ t → answer c r ≡ answer c' r
+    go true e =
+        let e' : badBox (c' .grid .dims) (c' .box) ≡ true = sym boxes ∙ e in
+        rw (e, e') (ap (λ (d : GridPoint). cond (badDimensions d) (answers 1 0 0) (answers 2 0 0)) (same .dims))
+    go false e =
+        let ok : T (not (badBox (c .grid .dims) (c .box))) = rw e tt in
+        cc (calls-vertices c c' same ok, calls-indices c c' same ok, calls-distance c c' same ok, same .dims, same .size, same .box)
+
+pub afterwards-local : (c c' : Call) → Alike c c' → (s : Buffers) → afterwards c s ≡ afterwards c' s
+unfolding afterwards
+afterwards-local c c' same s =
+    let n : ℕ = answer c (room s) .number in
+    cond-same (eqb n 0) (written c s) (written c' s) s (λ t. written-local c c' same (done-accepted c (room s) (eqb→eq n 0 t) .box) s)
+    ∙ ap (λ (a : Answer). cond (eqb (a .number) 0) (written c' s) s) (answer-local c c' same (room s))
 
 -- ---- the old numbers never matter
 

@@ -1,23 +1,27 @@
--- The faces that a mesh shows, its indices looked up in its own cells and positions, are the faces that its edges define. From the place of
--- each vertex. Assumes nothing.
-use Prim.Native.Nat.{ℕ, zero, suc, _+_, _*_, _<_}
+-- The faces that a mesh shows, its indices looked up in its own cells and positions, are the faces that its edges define, and its vertices are those that
+-- its surface cells define. From the place of each vertex and the edge that a face shows. Assumes nothing.
+use Prim.Native.Nat.{ℕ, zero, suc, _+_, _*_, _≤_, _<_, zero-le}
+use native.Mathlib.Nat.{le-refl}
 use native.Mathlib.Omega.{arith}
-use mathlib.Core.List.{List, [], _∷_, _++_, map, map-map}
-use mathlib.Core.Path.{_≡_, refl, ap, ap₂, subst, _∙_}
+use mathlib.Core.List.{List, [], _∷_, _++_, map, map-id, map-map, map-append}
+use mathlib.Core.Path.{_≡_, refl, sym, ap, ap₂, subst, _∙_}
 use lib.Dec.{T}
 use lib.Ieee.{Float, nan}
 use lib.ListN.{length, getD, length-map, take, List·getD-map, List·getD-append}
-use lib.Seq.{take-at, drop-at}
-use Rattle.rules.specs.Lists.{joined, place}
-use Rattle.rules.specs.Grid.{GridPoint, Box, Field, samePoint, isCell}
+use lib.Seq.{take-length, take-suc}
+use Rattle.rules.specs.Lists.{upTo, joined, place}
+use Rattle.rules.specs.Grid.{GridPoint, Box, Field, along, samePoint, isCell}
 use Rattle.rules.specs.Cell.{Vector}
-use Rattle.rules.specs.Vertices.{surfaceCell, vertices, vertexPosition}
-use Rattle.rules.specs.Faces.{Edge, edge, edges, faceCells, indices, changingEdges}
+use Rattle.rules.specs.Vertices.{surfaceCell, vertices, vertexPosition, vertexNormal}
+use Rattle.rules.specs.Faces.{Edge, Flags, axisB, axisC, gives, edges, faceCells, indices, changingEdges}
 use Rattle.rules.specs.Call.{flatPoints, flatVectors}
-use Rattle.rules.specs.Cutting.{Piece, Face, cornerAt, faceOf, looked, facesSeen}
+use Rattle.rules.specs.Cutting.{Piece, Corner, Face, cornerAt, faceOf, edgeShown, sixes, pointIn, vectorIn, looked, faceSeen, facesSeen, Vertex, vertexOf, verticesSeen}
 use Rattle.rules.proofs.Lists.{All, all-then, map-same, joined-length, none, more}
+use Rattle.rules.proofs.Runs.{upTo-none, upTo-last, upTo-each}
+use Rattle.rules.proofs.FourCells.{Owned, owned-says, gives-owned}
 use Rattle.rules.proofs.Edges.{edges-all, edge-count, faceCells-length}
 use Rattle.rules.proofs.Numbers.{number-below, vertex-at, four-each, face-all, faceNumbers, indices-are}
+use Rattle.rules.proofs.Shown.{face-shows}
 
 -- the edges that give a piece's faces
 abbrev pub edgesOf : Field → Piece → List Edge
@@ -26,11 +30,7 @@ edgesOf g q = edges g (q .box) (q .flags)
 -- what is seen of a call's own cells, positions and indices
 abbrev pub seen : Field → Piece → List Face
 seen g q =
-    facesSeen
-    (flatPoints (vertices g (q .box)))
-    (flatVectors (map (vertexPosition g) (vertices g (q .box))))
-    (edges g (q .box) (q .flags))
-    (indices g (q .box) (q .flags))
+    facesSeen (flatPoints (vertices g (q .box))) (flatVectors (map (vertexPosition g) (vertices g (q .box)))) (indices g (q .box) (q .flags))
 
 -- three numbers for each element: those of the element v stand from 3·v
 module _ {A B : Type 0} (f h i : A → B) where
@@ -80,6 +80,29 @@ flatVectors-at l v u h e =
     subst (ThreeAt (λ (q : Vector). q .x) (λ (q : Vector). q .y) (λ (q : Vector). q .z) (flatVectors l) v nan) e
     (three-at (λ (q : Vector). q .x) (λ (q : Vector). q .y) (λ (q : Vector). q .z) l v nan u h)
 
+-- ---- faces
+
+sixes-first : {A : Type 0} (s t : List A) → length s ≡ 6 → sixes (s ++ t) ≡ s ∷ sixes t
+unfolding sixes
+sixes-first [] t h = absurd (omega arith)
+sixes-first (a ∷ []) t h = absurd (omega arith)
+sixes-first (a ∷ b ∷ []) t h = absurd (omega arith)
+sixes-first (a ∷ b ∷ c ∷ []) t h = absurd (omega arith)
+sixes-first (a ∷ b ∷ c ∷ d ∷ []) t h = absurd (omega arith)
+sixes-first (a ∷ b ∷ c ∷ d ∷ e ∷ []) t h = absurd (omega arith)
+sixes-first (a ∷ b ∷ c ∷ d ∷ e ∷ f ∷ []) t h = refl
+sixes-first (a ∷ b ∷ c ∷ d ∷ e ∷ f ∷ x ∷ s) t h = absurd (omega arith)
+
+-- the corners that an edge defines show the face of that edge
+face-seen : (g : Field) (e : Edge) → edgeShown (faceCells g e) ≡ e ∷ [] → faceSeen (map (cornerAt g) (faceCells g e)) ≡ faceOf g e ∷ []
+unfolding faceSeen
+face-seen g e h =
+    ap (λ (cs : List GridPoint). map label (edgeShown cs)) (map-map (λ (c : Corner). c .cell) (cornerAt g) (faceCells g e) ∙ map-id (faceCells g e))
+    ∙ ap (map label) h
+  where
+    label : Edge → Face
+    label d = record { edge = d; corners = map (cornerAt g) (faceCells g e) }
+
 module _ (g : Field) (b : Box) where
   -- a vertex's number, looked up, gives its cell and its position
   looked-is : (c : GridPoint) → T (isCell b c) → T (surfaceCell g c)
@@ -111,32 +134,88 @@ module _ (g : Field) (b : Box) where
           flatVectors-at us n (vertexPosition g c) (rw (length-map (vertices g b) (vertexPosition g)) within)
           (List·getD-map (vertexPosition g) (vertices g b) n c ∙ ap (vertexPosition g) is)
 
-  -- six numbers for each edge, of cells that look up as they should
+  -- six numbers for each edge, of cells that look up as they should and show that edge
   faces-seen : (ns : List ℕ) (xs : List Float) {es : List Edge}
-      → All (λ e. All (λ c. looked ns xs (place (samePoint c) (vertices g b)) ≡ cornerAt g c) (faceCells g e)) es
-      → facesSeen ns xs es (joined (faceNumbers g b) es) ≡ map (faceOf g) es
-  unfolding facesSeen joined
+      → All (λ e. (edgeShown (faceCells g e) ≡ e ∷ []) × All (λ c. looked ns xs (place (samePoint c) (vertices g b)) ≡ cornerAt g c) (faceCells g e)) es
+      → facesSeen ns xs (joined (faceNumbers g b) es) ≡ map (faceOf g) es
+  unfolding facesSeen joined sixes
   faces-seen ns xs none = refl
   faces-seen ns xs (more {x = e} {xs = es} h k) =
-      ap₂ (λ (f : Face) (fs : List Face). f ∷ fs)
-      (λ j. record { edge = e; corners = corners j })
-      (ap (facesSeen ns xs es) (drop-at (faceNumbers g b e) (joined (faceNumbers g b) es) 6 six-long) ∙ faces-seen ns xs k)
+      ap (joined (λ (six : List ℕ). faceSeen (map (looked ns xs) six))) (sixes-first (faceNumbers g b e) (joined (faceNumbers g b) es) six-long)
+      ∙ ap₂ {A = List Face} _++_ (ap faceSeen corners ∙ face-seen g e (h .0)) (faces-seen ns xs k)
     where
       six-long : length (faceNumbers g b e) ≡ 6
       six-long = length-map (faceCells g e) (λ (c : GridPoint). place (samePoint c) (vertices g b)) ∙ faceCells-length g e
 
-      corners : map (looked ns xs) (take 6 (faceNumbers g b e ++ joined (faceNumbers g b) es)) ≡ map (cornerAt g) (faceCells g e)
-      corners =
-          ap (map (looked ns xs)) (take-at (faceNumbers g b e) (joined (faceNumbers g b) es) 6 six-long)
-          ∙ map-map (looked ns xs) (λ (c : GridPoint). place (samePoint c) (vertices g b)) (faceCells g e)
-          ∙ map-same h
+      corners : map (looked ns xs) (faceNumbers g b e) ≡ map (cornerAt g) (faceCells g e)
+      corners = map-map (looked ns xs) (λ (c : GridPoint). place (samePoint c) (vertices g b)) (faceCells g e) ∙ map-same (h .1)
 
--- each edge's six indices show the corners that the edge defines
+-- an edge that gives a face is above the box's low corner on B and C, so its six cells show it
+gives-shown : (g : Field) (b : Box) (m : Flags) (e : Edge) → T (gives g b m e) → edgeShown (faceCells g e) ≡ e ∷ []
+gives-shown g b m e t =
+    let o : Owned b m e = owned-says b m e (gives-owned g b m e t) in
+    face-shows g e (omega (arith, o .aboveB)) (omega (arith, o .aboveC))
+
+-- each six of the indices shows an edge and the corners that the edge defines, edge after edge
 pub seen-is : (g : Field) (q : Piece) → seen g q ≡ map (faceOf g) (edges g (q .box) (q .flags))
 seen-is g q =
-    ap (facesSeen (flatPoints (vertices g (q .box))) (flatVectors (map (vertexPosition g) (vertices g (q .box)))) (edgesOf g q)) (indices-are g (q .box) (q .flags))
-    ∙ faces-seen g (q .box) (flatPoints (vertices g (q .box))) (flatVectors (map (vertexPosition g) (vertices g (q .box))))
-    (all-then (λ e t. face-all g e (four-each g (q .box) (q .flags) e t (λ c i s l. looked-is g (q .box) c i s))) (edges-all g (q .box) (q .flags)))
+    ap (facesSeen ns xs) (indices-are g (q .box) (q .flags)) ∙ faces-seen g (q .box) ns xs (all-then at (edges-all g (q .box) (q .flags)))
+  where
+    ns : List ℕ
+    ns = flatPoints (vertices g (q .box))
+
+    xs : List Float
+    xs = flatVectors (map (vertexPosition g) (vertices g (q .box)))
+
+    at : (e : Edge) → T (gives g (q .box) (q .flags) e)
+        → (edgeShown (faceCells g e) ≡ e ∷ []) × All (λ c. looked ns xs (place (samePoint c) (vertices g (q .box))) ≡ cornerAt g c) (faceCells g e)
+    at e t = (gives-shown g (q .box) (q .flags) e t, face-all g e (four-each g (q .box) (q .flags) e t (λ c i s l. looked-is g (q .box) c i s)))
 
 pub seen-number : (g : Field) (q : Piece) → length (seen g q) ≡ changingEdges g (q .box) (q .flags)
 seen-number g q = ap length (seen-is g q) ∙ length-map (edgesOf g q) (faceOf g) ∙ edge-count g (q .box) (q .flags)
+
+-- ---- vertices
+
+numbered : {A : Type 0} (d : A) (l : List A) (n : ℕ) → n ≤ length l → map (λ (v : ℕ). getD l v d) (upTo 0 n) ≡ take n l
+numbered d l zero h = ap (map (λ (v : ℕ). getD l v d)) (upTo-none 0 0 zero-le)
+numbered d l (suc n) h =
+    ap (map (λ (v : ℕ). getD l v d)) (upTo-last 0 n zero-le)
+    ∙ map-append (λ (v : ℕ). getD l v d) (upTo 0 n) (n ∷ [])
+    ∙ ap (λ r. r ++ (getD l n d ∷ [])) (numbered d l n (omega arith))
+    ∙ sym (take-suc l n d h)
+
+-- three numbers each of cells, positions and normals show the vertices that the cells define
+pub vertices-seen : (g : Field) (vs : List GridPoint)
+    → verticesSeen (length vs) (flatPoints vs) (flatVectors (map (vertexPosition g) vs)) (flatVectors (map (vertexNormal g) vs)) ≡ map (vertexOf g) vs
+unfolding verticesSeen
+vertices-seen g vs =
+    map-same (upTo-each 0 (length vs) (λ v l k. at v k))
+    ∙ sym (map-map (vertexOf g) (λ (v : ℕ). getD vs v origin) (upTo 0 (length vs)))
+    ∙ ap (map (vertexOf g)) (numbered origin vs (length vs) (le-refl (length vs)) ∙ take-length vs)
+  where
+    origin : GridPoint
+    origin = record { x = 0; y = 0; z = 0 }
+
+    vectors : (f : GridPoint → Vector) (v : ℕ) → v < length vs
+        → ThreeAt (λ (q : Vector). q .x) (λ (q : Vector). q .y) (λ (q : Vector). q .z) (flatVectors (map f vs)) v nan (f (getD vs v origin))
+    vectors f v k =
+        subst (ThreeAt (λ (q : Vector). q .x) (λ (q : Vector). q .y) (λ (q : Vector). q .z) (flatVectors (map f vs)) v nan) (List·getD-map f vs v origin)
+        (three-at (λ (q : Vector). q .x) (λ (q : Vector). q .y) (λ (q : Vector). q .z) (map f vs) v nan (f origin) (rw (length-map vs f) k))
+
+    positions : List Float
+    positions = flatVectors (map (vertexPosition g) vs)
+
+    normals : List Float
+    normals = flatVectors (map (vertexNormal g) vs)
+
+    at : (v : ℕ) → v < length vs → record { cell = pointIn (flatPoints vs) v; position = vectorIn positions v; normal = vectorIn normals v } ≡ vertexOf g (getD vs v origin)
+    at v k =
+        let c = three-at (λ (q : GridPoint). q .x) (λ (q : GridPoint). q .y) (λ (q : GridPoint). q .z) vs v 0 origin k in
+        let p = vectors (vertexPosition g) v k in
+        let n = vectors (vertexNormal g) v k in
+        λ j.
+        record {
+          cell = record { x = c .first j; y = c .second j; z = c .third j };
+          position = record { x = p .first j; y = p .second j; z = p .third j };
+          normal = record { x = n .first j; y = n .second j; z = n .third j };
+        }

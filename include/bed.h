@@ -88,7 +88,7 @@ enum bed_answer {
     BED_GRID_SHORT = 3,
     /* The cell map is shorter than the grid. */
     BED_MAP_SHORT = 4,
-    /* A point of the box, both corners included, is not finite or is above 2^100 in magnitude. */
+    /* A point of the box, both corners included, is not finite or is above 2^124 in magnitude. */
     BED_BAD_DISTANCE = 5,
     /* positions, normals or cells are shorter than 3 V, or strides are shorter than V. */
     BED_VERTICES_SHORT = 6,

@@ -14,7 +14,7 @@ pub enum Refusal {
     GridShort,
     /// 4: the cell map is shorter than the grid.
     MapShort,
-    /// 5: a distance in the box is not finite or above 2^100 in magnitude.
+    /// 5: a distance in the box is not finite or above 2^124 in magnitude.
     Distance,
     /// 6: positions, normals, cells or strides have no room for the vertices; the counts needed.
     VerticesShort(Counts),
@@ -66,7 +66,7 @@ impl fmt::Display for Refusal {
             }
             Refusal::MapShort => out.write_str("the cell map is shorter than the grid"),
             Refusal::Distance => {
-                out.write_str("a distance in the box is not finite or is above 2^100 in magnitude")
+                out.write_str("a distance in the box is not finite or is above 2^124 in magnitude")
             }
             Refusal::VerticesShort(needed) => write!(
                 out,

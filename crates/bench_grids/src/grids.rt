@@ -1,9 +1,9 @@
 // The bench grids. All but the cells have dimensions 3, 3, 3.
 
-// 2^100, the largest magnitude that is let in, and the next float up.
-pub(crate) const CAP: f32 = 1267650600228229401496703205376.0;
+// 2^124, the largest magnitude that is let in, and the next float up.
+pub(crate) const CAP: f32 = 21267647932558653966460912964485513216.0;
 
-pub(crate) const ABOVE_CAP: f32 = 1267650751343956853325350043648.0;
+pub(crate) const ABOVE_CAP: f32 = 21267650467859854422919715957891923968.0;
 
 // 1.0 everywhere but at the middle, (1,1,1).
 pub(crate) fn ball(middle: f32) -> [f32; 27] {

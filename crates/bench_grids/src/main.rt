@@ -121,7 +121,7 @@ fn not_a_number() {
 fn large() {
     let whole = up_to(2, 2, 2);
     counts(
-        b"Ball with 2^100 at (0,0,0)",
+        b"Ball with 2^124 at (0,0,0)",
         &grids::ball_with(0, grids::CAP),
         whole,
     );

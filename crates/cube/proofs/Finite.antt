@@ -95,9 +95,9 @@ finite-normal k d K c s h =
     let r = normal-within k d K c s h in
     (r .0 .0, r .1 .0, r .2 .0)
 
--- ---- the cap of document 01, 2 ^ 100, and one of 2 ^ 124: `finite-normal` at 100 and at 124
+-- ---- the cap of condition 5: `finite-normal` at its exponent
 
--- what condition 5 lets pass is finite, and at most 2 ^ 100 in magnitude
+-- what condition 5 lets pass is finite, and at most the cap in magnitude
 pub not-beyond : (x : Float) → T (not (beyond x)) → Within cap x
 unfolding beyond
 not-beyond nan h = absurd h
@@ -112,7 +112,4 @@ pub capped-cell : (d : List Float) → length d ≡ 8 → Corners Capped d → C
 capped-cell d e h = (e, λ (i : ℕ) (l : i < 8). (h i l .0, not-beyond (corner d i) (h i l .1) .0))
 
 pub finite-normal-capped : (d : List Float) → length d ≡ 8 → Corners Capped d → T (surface d) → Each Finite (normal d (centroid d))
-finite-normal-capped d e h s = finite-normal 100 d (lit≤ tt) (capped-cell d e h) s (λ (i : ℕ) (l : i < 8). not-beyond (corner d i) (h i l .1))
-
-pub finite-normal-124 : (d : List Float) → Cell d → T (surface d) → Corners (Within (2 ^ 124)) d → Each Finite (normal d (centroid d))
-finite-normal-124 d c s h = finite-normal 124 d (lit≤ tt) c s h
+finite-normal-capped d e h s = finite-normal 124 d (lit≤ tt) (capped-cell d e h) s (λ (i : ℕ) (l : i < 8). not-beyond (corner d i) (h i l .1))

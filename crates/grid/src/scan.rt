@@ -9,8 +9,8 @@ ghost use Rattle.grid.specs.Inside.{Inside, badRun};
 use crate::Block;
 use crate::Extent;
 
-// The largest magnitude that is let in, 2^100.
-pub const CAP: f32 = 1267650600228229401496703205376.0;
+// The largest magnitude that is let in, 2^124.
+pub const CAP: f32 = 21267647932558653966460912964485513216.0;
 
 // Not finite, or above the cap in magnitude.
 fn is_beyond(d: f32) -> bool

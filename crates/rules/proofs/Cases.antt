@@ -92,6 +92,10 @@ ball = with 13 minusOne ones
 abbrev pub bitGrid : ℕ → ℕ → Float
 bitGrid word j = cond (eqb (word / 2 ^ j % 2) 1) minusOne one32
 
+-- a cell with -2^127 at x = 0 and 2^127 at x = 1
+abbrev farApart : ℕ → Float
+farApart j = cond (eqb (j % 2) 0) (fin true 1 (pos 127)) (fin false 1 (pos 127))
+
 abbrev pub calls : GridPoint → ℕ → (ℕ → Float) → GridPoint → GridPoint → Bool → Call
 calls dims size dist low high plane =
     record { grid = record { dims = dims; dist = dist }; size = size; box = record { low = low; high = high }; flags = allThree plane }
@@ -204,13 +208,24 @@ cases =
     -- "Ball with not-a-number at (2,2,2)"; "With the box to (1,1,1)"
     ∷ answers (whole (with 26 nan ball)) roomy 5 0 0
     ∷ answers (threes (with 26 nan ball) lowest (point 1 1 1)) roomy 0 1 0
-    -- infinities, and "2^100 passes; the next float up gives 5", of both signs
+    -- infinities, at a corner of the box
     ∷ answers (whole (with 26 (inf false) ball)) roomy 5 0 0
     ∷ answers (whole (with 26 (inf true) ball)) roomy 5 0 0
+    -- document 02, request 6: "2^124 passes and the next float up is refused", of both signs, at a corner of the box and in the middle
+    ∷ answers (whole (with 26 (fin false 1 (pos 124)) ball)) roomy 0 8 18
+    ∷ answers (whole (with 26 (fin true 1 (pos 124)) ball)) roomy 0 8 18
+    ∷ answers (whole (with 26 (fin false 0x800001 (pos 101)) ball)) roomy 5 0 0
+    ∷ answers (whole (with 26 (fin true 0x800001 (pos 101)) ball)) roomy 5 0 0
+    ∷ answers (whole (with 13 (fin true 1 (pos 124)) ones)) roomy 0 8 18
+    ∷ answers (whole (with 13 (fin true 0x800001 (pos 101)) ones)) roomy 5 0 0
+    -- "Document 01's case at 2^100 moves": it passes, and so does the next float up
     ∷ answers (whole (with 26 (fin false 1 (pos 100)) ball)) roomy 0 8 18
-    ∷ answers (whole (with 26 (fin false 0x800001 (pos 77)) ball)) roomy 5 0 0
-    ∷ answers (whole (with 13 (fin true 1 (pos 100)) ones)) roomy 0 8 18
-    ∷ answers (whole (with 13 (fin true 0x800001 (pos 77)) ones)) roomy 5 0 0
+    ∷ answers (whole (with 26 (fin true 1 (pos 100)) ball)) roomy 0 8 18
+    ∷ answers (whole (with 26 (fin false 0x800001 (pos 77)) ball)) roomy 0 8 18
+    ∷ answers (whole (with 26 (fin true 0x800001 (pos 77)) ball)) roomy 0 8 18
+    -- the next float above 2^124 outside the box
+    ∷ answers (threes (with 26 (fin false 0x800001 (pos 101)) ball) lowest (point 1 1 1)) roomy 0 1 0
+    ∷ answers (threes (with 26 (fin true 0x800001 (pos 101)) ball) lowest (point 1 1 1)) roomy 0 1 0
     -- "Ball, positions 23 long"; "with indices 17 as well"; "Only indices 17"; and the exact room
     ∷ answers (whole ball) (marked 23 24 24 8 27 18) 6 8 18
     ∷ answers (whole ball) (marked 23 24 24 8 27 17) 6 8 18
@@ -228,6 +243,10 @@ cases =
     ∷ answers (wholePlane (bitGrid 0x2015)) roomy 0 8 30
     ∷ case (wholePlane (bitGrid 0x2015)) roomy theIndices
     (5 ∷ 0 ∷ 1 ∷ 5 ∷ 4 ∷ 0 ∷ 4 ∷ 2 ∷ 0 ∷ 4 ∷ 6 ∷ 2 ∷ 5 ∷ 1 ∷ 3 ∷ 5 ∷ 3 ∷ 7 ∷ 7 ∷ 3 ∷ 2 ∷ 7 ∷ 2 ∷ 6 ∷ 6 ∷ 4 ∷ 5 ∷ 6 ∷ 5 ∷ 7 ∷ [])
+    -- where "every number written is finite" would end: -2^127 and 2^127 on each x edge have no finite difference, and the normal is infinite
+    ∷ answers (calls (point 2 2 2) 8 farApart lowest (point 1 1 1) false) roomy 5 0 0
+    ∷ case (calls (point 2 2 2) 8 farApart lowest (point 1 1 1) false) roomy (positionOf 0) (0 ∷ 0x3F000000 ∷ 0x3F000000 ∷ [])
+    ∷ case (calls (point 2 2 2) 8 farApart lowest (point 1 1 1) false) roomy (normalOf 0) (0x7F800000 ∷ 0 ∷ 0 ∷ [])
     -- what the lent lists hold after Ball: the first numbers written, the rest kept; in the map the cells' entries alone
     ∷ case (whole ball) roomy theBuffers (ballPositions ++ (ballNormals ++ (ballCells ++ (ballStrides ++ (ballMap ++ ballIndices)))))
     -- a cell that is no surface cell has the null vertex in the map; the points of the box that are no cell, and those outside, keep theirs

@@ -72,9 +72,10 @@ badLength d b size = leb size (index d (b .high))
 abbrev pub badMap : ℕ → ℕ → Bool
 badMap size map = ltb map size
 
--- 5: "some point of the box, both corners included, is not finite or is above 2^100 in magnitude"
+-- 5: "some point of the box, both corners included, is not finite or is above" the cap in magnitude. Document 02, request 6: "Raise the cap in
+-- answer 5 from 2^100 to 2^124."
 abbrev pub cap : ℕ
-cap = 2 ^ 100
+cap = 2 ^ 124
 
 unfoldable pub beyond : Float → Bool
 beyond nan = true

@@ -122,7 +122,7 @@ fn spoil_outside_the_box(random: &mut Random, call: &mut OwnCall) {
                 0x7FC0_0000,
                 0x7F80_0000,
                 0xFF80_0000,
-                0x7180_0001,
+                0x7D80_0001,
                 0xFFFF_FFFF,
                 0xBF80_0000,
             ]));

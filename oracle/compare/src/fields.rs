@@ -38,11 +38,11 @@ pub const FIELDS: [Field; 11] = [
         make: subnormals,
     },
     Field {
-        name: "sizes to 2^100",
+        name: "sizes to 2^124",
         make: all_sizes,
     },
     Field {
-        name: "near 2^100",
+        name: "near 2^124",
         make: near_the_cap,
     },
     Field {
@@ -65,6 +65,9 @@ pub const FIELDS: [Field; 11] = [
 
 /// The largest distance that is not refused.
 const CAP: f32 = oracle::model::DISTANCE_LIMIT;
+
+/// The bits of 2^100, from which on distances are far fill values.
+const FAR: u32 = (100 + 127) << 23;
 
 fn each_apart(grid: &mut [f32], mut distance: impl FnMut() -> f32) {
     grid.iter_mut().for_each(|d| *d = distance());
@@ -125,10 +128,12 @@ fn subnormals(random: &mut Random, _: [u32; 3], grid: &mut [f32]) {
     });
 }
 
-/// Any bit pattern up to 2^100, both signs.
+/// From 2^100 to the cap, subnormal, and any bit pattern up to the cap, mixed, both signs: fractions underflow beside
+/// differences that nearly overflow.
 fn all_sizes(random: &mut Random, _: [u32; 3], grid: &mut [f32]) {
     each_apart(grid, || {
-        let size = f32::from_bits(random.coordinate(0, CAP.to_bits()));
+        let (low, high) = random.pick(&[(FAR, CAP.to_bits()), (0, 1 << 23), (0, CAP.to_bits())]);
+        let size = f32::from_bits(random.coordinate(low, high));
         random.signed(size)
     });
 }

@@ -67,7 +67,7 @@ fn not_finite(random: &mut Random, call: &mut OwnCall, _: &mut Room) {
 
 fn above_the_cap(random: &mut Random, call: &mut OwnCall, _: &mut Room) {
     let next_up = oracle::model::DISTANCE_LIMIT.to_bits() + 1;
-    let size = random.pick(&[next_up, next_up, next_up + 1, 0x7200_0000, 0x7F7F_FFFF]);
+    let size = random.pick(&[next_up, next_up, next_up + 1, 0x7E00_0000, 0x7F7F_FFFF]);
     let sign = random.pick(&[0, 1 << 31]);
     place_in_box(random, call, size | sign);
 }

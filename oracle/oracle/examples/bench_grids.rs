@@ -150,7 +150,7 @@ fn main() {
     let inner = nan.with(|b| b.max = [1; 3]);
     inner.print("The same, box to (1,1,1)", Show::Counts);
     let above = f32::from_bits(DISTANCE_LIMIT.to_bits() + 1);
-    grid(ball_with(0, DISTANCE_LIMIT)).print("Ball with 2^100 at (0,0,0)", Show::Counts);
+    grid(ball_with(0, DISTANCE_LIMIT)).print("Ball with 2^124 at (0,0,0)", Show::Counts);
     grid(ball_with(0, above)).print("Ball with the next float up", Show::Counts);
 
     let positions = ball.with(|b| b.room.positions = 23);

@@ -14,10 +14,10 @@ pub struct Verdict {
     pub indices: u64,
 }
 
-/// The largest dimension, the largest product of dimensions, and 2^100.
+/// The largest dimension, the largest product of dimensions, and the cap of condition 5, 2^124.
 pub const DIMENSION_LIMIT: u32 = 16_777_217;
 pub const POINT_LIMIT: u128 = 1_073_741_824;
-pub const DISTANCE_LIMIT: f32 = f32::from_bits((100 + 127) << 23);
+pub const DISTANCE_LIMIT: f32 = f32::from_bits((124 + 127) << 23);
 
 /// Document 01's table, condition after condition.
 pub fn verdict(call: &Call, room: &Room) -> Verdict {

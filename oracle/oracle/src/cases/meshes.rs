@@ -112,6 +112,17 @@ fn signed(word: u32, size: u32) -> f32 {
     f32::from_bits(size | (word & 1 << 31))
 }
 
+/// From 2^100 to the cap, subnormal, or any size up to the cap: far fill values beside small distances.
+fn far_or_small(word: u32) -> u32 {
+    let far = (100 + 127) << 23;
+    let cap = DISTANCE_LIMIT.to_bits();
+    match word % 3 {
+        0 => far + word / 3 % (cap - far + 1),
+        1 => word / 3 % (1 << 23),
+        _ => word / 3 % (cap + 1),
+    }
+}
+
 pub fn kinds_of_distances() -> Vec<Case> {
     let group = "kinds of distances";
     let few = [-2.0, -1.0, -0.0, 0.0, 1.0, 2.0, 3.0];
@@ -119,7 +130,7 @@ pub fn kinds_of_distances() -> Vec<Case> {
         |word, few| few[word as usize % 7],
         |word, _| signed(word, word % 40),
         |word, _| signed(word, word & 0x007F_FFFF),
-        |word, _| signed(word, word % DISTANCE_LIMIT.to_bits()),
+        |word, _| signed(word, far_or_small(word)),
         |word, _| signed(word, DISTANCE_LIMIT.to_bits() - word % 3),
         |word, _| (word % 2001) as f32 / 1000.0 - 1.0,
     ];

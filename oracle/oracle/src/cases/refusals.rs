@@ -93,6 +93,9 @@ pub fn distances() -> Vec<Case> {
         ball().with_distance(24, -up),
         ball().with_distance(13, -DISTANCE_LIMIT),
         ball().with_distance(8, f32::MAX),
+        // document 01's old cap and the float above it are let in
+        ball().with_distance(26, f32::from_bits((100 + 127) << 23)),
+        ball().with_distance(26, -next_up(f32::from_bits((100 + 127) << 23))),
         // one past the box's max side is no point of it; on its max side is
         ball()
             .with_distance(2, f32::NAN)

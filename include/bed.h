@@ -84,8 +84,8 @@ enum bed_answer {
     BED_BAD_DIMENSIONS = 1,
     /* min is above max on an axis, or max is not below its dimension. */
     BED_BAD_BOX = 2,
-    /* The grid is too short: the index of max is not below its length. */
-    BED_GRID_SHORT = 3,
+    /* The grid's length is not the product of the dimensions. */
+    BED_BAD_GRID_LENGTH = 3,
     /* The cell map is shorter than the grid. */
     BED_MAP_SHORT = 4,
     /* A point of the box, both corners included, is not finite or is above 2^124 in magnitude. */
@@ -153,7 +153,7 @@ uint32_t bed_surface_nets(
 /* Tests whether the mesh of a box has no hole: whether every point of the box with a distance below zero
  * lies from min + 1 to max - 2 on each axis. It reads the distances of the box and writes one yes or no.
  *
- * Answers BED_DONE, BED_BAD_DIMENSIONS, BED_BAD_BOX or BED_GRID_SHORT, tried in the order of their
+ * Answers BED_DONE, BED_BAD_DIMENSIONS, BED_BAD_BOX or BED_BAD_GRID_LENGTH, tried in the order of their
  * numbers; sdf, the dimensions and the box are as in bed_surface_nets. What bed_surface_nets refuses for
  * other reasons is tested all the same: a distance that is not a number is not below zero.
  *

@@ -11,7 +11,7 @@ use crate::refusal::Refusal;
 /// If so, each directed triangle side of the box's mesh, with or without max plane, occurs exactly as
 /// often as its reverse: the skin has no hole. A box without a distance below zero is enclosed too, and
 /// its mesh is empty. A no does not say that there is a hole. Refused are [`Refusal::Dimensions`],
-/// [`Refusal::Box`] and [`Refusal::GridShort`] alone.
+/// [`Refusal::Box`] and [`Refusal::GridLength`] alone.
 ///
 /// A bed that touches floor or walls has negative points on the box's sides and is never enclosed. To close it,
 /// mesh a copy of the grid with a border of positive points, one layer at min and two at max on each axis.

@@ -10,8 +10,8 @@ pub enum Refusal {
     Dimensions,
     /// 2: min is above max on an axis, or max is not below its dimension.
     Box,
-    /// 3: the grid is too short to hold the box's max corner.
-    GridShort,
+    /// 3: the grid's length is not the product of the dimensions.
+    GridLength,
     /// 4: the cell map is shorter than the grid.
     MapShort,
     /// 5: a distance in the box is not finite or above 2^124 in magnitude.
@@ -28,7 +28,7 @@ impl Refusal {
         match self {
             Refusal::Dimensions => 1,
             Refusal::Box => 2,
-            Refusal::GridShort => 3,
+            Refusal::GridLength => 3,
             Refusal::MapShort => 4,
             Refusal::Distance => 5,
             Refusal::VerticesShort(_) => 6,
@@ -42,7 +42,7 @@ impl Refusal {
             0 => Ok(counts),
             1 => Err(Refusal::Dimensions),
             2 => Err(Refusal::Box),
-            3 => Err(Refusal::GridShort),
+            3 => Err(Refusal::GridLength),
             4 => Err(Refusal::MapShort),
             5 => Err(Refusal::Distance),
             6 => Err(Refusal::VerticesShort(counts)),
@@ -61,8 +61,8 @@ impl fmt::Display for Refusal {
             Refusal::Box => out.write_str(
                 "the box does not fit: min is above max on an axis, or max is not below its dimension",
             ),
-            Refusal::GridShort => {
-                out.write_str("the grid is too short: the index of max is not below its length")
+            Refusal::GridLength => {
+                out.write_str("the grid's length is not the product of the dimensions")
             }
             Refusal::MapShort => out.write_str("the cell map is shorter than the grid"),
             Refusal::Distance => {

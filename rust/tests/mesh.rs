@@ -103,13 +103,18 @@ fn refusals_say_why() {
     assert_eq!(refused(&ball(), [3; 3], [0; 3], [3, 2, 2]), Refusal::Box);
     assert_eq!(
         refused(&ball()[..26], [3; 3], [0; 3], [2; 3]),
-        Refusal::GridShort
+        Refusal::GridLength
     );
     assert_eq!(
         refused(&not_a_number, [3; 3], [0; 3], [2; 3]),
         Refusal::Distance
     );
-    assert!(Refusal::GridShort.to_string().contains("grid is too short"));
+    let longer = [ball(), vec![1.0]].concat();
+    assert_eq!(
+        refused(&longer, [3; 3], [0; 3], [1; 3]),
+        Refusal::GridLength
+    );
+    assert!(Refusal::GridLength.to_string().contains("grid's length"));
     let error: Box<dyn std::error::Error> = Box::new(Refusal::IndicesShort(ROOM_FOR_BALL));
     assert_eq!(error.to_string(), "no room for 18 indices");
 }
@@ -249,7 +254,7 @@ fn the_test_is_refused_as_the_call_is() {
     assert_eq!(refused(&ball(), [3; 3], [0; 3], [3, 2, 2]), Refusal::Box);
     assert_eq!(
         refused(&ball()[..26], [3; 3], [0; 3], [2; 3]),
-        Refusal::GridShort
+        Refusal::GridLength
     );
     assert_eq!(is_enclosed(&ball(), [3; 3], [0; 3], [2; 3]), Ok(false));
 }

@@ -47,7 +47,7 @@ module _ (grid : List Float) (k : Block) (i : Inside grid k) where
       record { x = x; y = y; z = z; few = few (point (k .dims)) (i .dims) }
 
   pub below-length : (p : GridPoint) → T (inBox (boxOf k) p) → index (point (k .dims)) p < length grid
-  below-length p t = index-below (point (k .dims)) (boxOf k) (length grid) p (i .size) t
+  below-length p t = index-below (point (k .dims)) (boxOf k) (length grid) p (i .box) (i .size) t
 
 -- the box's high corner lies in the grid, by conditions 1 and 2
 pub corner-inside : (d : GridPoint) (b : Box) → T (not (badDimensions d)) → T (not (badBox d b)) → PointInside d (b .high)

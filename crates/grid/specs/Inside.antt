@@ -23,7 +23,7 @@ pub record PointInside (d p : GridPoint) : Type 0 where
 pub record Inside (grid : List Float) (k : Block) : Type 0 where
   pub dims : T (not (badDimensions (point (k .dims))))
   pub box : T (not (badBox (point (k .dims)) (boxOf k)))
-  pub size : T (not (badLength (point (k .dims)) (boxOf k) (length grid)))
+  pub size : T (not (badLength (point (k .dims)) (length grid)))
 
 -- one of n distances from `at` on is beyond the cap
 abbrev pub badRun : List Float → ℕ → ℕ → Bool

@@ -1,6 +1,6 @@
-// The conditions of document 01 that speak of dimensions and box alone: 1 and 2. No slice is read here, and any numbers may come.
+// The conditions of document 01 that speak of dimensions, box and the grid's length alone: 1, 2 and 3. No slice is read here, and any numbers may come.
 ghost use mathlib.Core.Path.{_≡_};
-ghost use Rattle.rules.specs.Call.{badDimension, badDimensions, badSide, badBox};
+ghost use Rattle.rules.specs.Call.{badDimension, badDimensions, badSide, badBox, badLength};
 ghost use Rattle.grid.specs.Block.{point, boxOf};
 use crate::Block;
 use crate::Extent;
@@ -56,4 +56,19 @@ pub fn bad_box(k: Block) -> bool
         return true;
     }
     bad_side(k.dims.z, k.low.z, k.high.z)
+}
+
+// Condition 3, as document 02, request 9, has it: the grid's length is not the product of the dimensions. The length is divided, since the product of
+// three numbers of 32 bits would not fit 64.
+pub fn bad_length(d: Extent, length: usize) -> bool
+    ensures { λ r. ⌜ r ≡ badLength (point d) length ⌝ }
+{
+    let plane = (d.x as usize) * (d.y as usize);
+    if plane == 0 {
+        return length != 0;
+    }
+    if length % plane != 0 {
+        return true;
+    }
+    length / plane != d.z as usize
 }

@@ -4,12 +4,12 @@ use native.Mathlib.Omega.{arith}
 use mathlib.Core.Bool.{Bool, true, false, not, _||_, cond, true≢false}
 use mathlib.Core.List.{List}
 use mathlib.Core.Path.{_≡_, refl, sym, ap, _∙_}
-use borrow.Author.Tests.{lt-ltb, le-ltb, le-leb, lt-leb}
+use borrow.Author.Tests.{lt-ltb, le-ltb}
 use lib.Dec.{T, ltb, nltb→le}
 use lib.ListN.{length}
 use lib.Ieee.{Float}
 use Rattle.rules.specs.Lists.{keep, joined}
-use Rattle.rules.specs.Grid.{GridPoint, Box, Field, index}
+use Rattle.rules.specs.Grid.{GridPoint, Box, Field}
 use Rattle.rules.specs.Vertices.{surfaceCell, vertices, cells}
 use Rattle.rules.specs.Faces.{Edge, Flags, cellEdges, edges, indices}
 use Rattle.rules.specs.Call.{Call, Buffers, Room, room, Answer, answers, answer, roomAnswer, badDimensions, badBox, badLength, badMap, badDistance, badVertexRoom, badIndexRoom, vertexCount, indexCount}
@@ -37,29 +37,21 @@ module _ (c : Call) (r : Room) where
   unfolding answer
   says-2 a b = rw (a, b)
 
-  pub says-3 : badDimensions (c .grid .dims) ≡ false → badBox (c .grid .dims) (c .box) ≡ false → badLength (c .grid .dims) (c .box) (c .size) ≡ true → answers 3 0 0 ≡ answer c r
+  pub says-3 : badDimensions (c .grid .dims) ≡ false → badBox (c .grid .dims) (c .box) ≡ false → badLength (c .grid .dims) (c .size) ≡ true → answers 3 0 0 ≡ answer c r
   unfolding answer
   says-3 a b d = rw (a, b, d)
 
-  pub says-4 : badDimensions (c .grid .dims) ≡ false → badBox (c .grid .dims) (c .box) ≡ false → badLength (c .grid .dims) (c .box) (c .size) ≡ false → ltb (r .map) (c .size) ≡ true → answers 4 0 0 ≡ answer c r
+  pub says-4 : badDimensions (c .grid .dims) ≡ false → badBox (c .grid .dims) (c .box) ≡ false → badLength (c .grid .dims) (c .size) ≡ false → ltb (r .map) (c .size) ≡ true → answers 4 0 0 ≡ answer c r
   unfolding answer
   says-4 a b d e = rw (a, b, d, e)
 
-  pub says-5 : badDimensions (c .grid .dims) ≡ false → badBox (c .grid .dims) (c .box) ≡ false → badLength (c .grid .dims) (c .box) (c .size) ≡ false → ltb (r .map) (c .size) ≡ false → badDistance (c .grid) (c .box) ≡ true → answers 5 0 0 ≡ answer c r
+  pub says-5 : badDimensions (c .grid .dims) ≡ false → badBox (c .grid .dims) (c .box) ≡ false → badLength (c .grid .dims) (c .size) ≡ false → ltb (r .map) (c .size) ≡ false → badDistance (c .grid) (c .box) ≡ true → answers 5 0 0 ≡ answer c r
   unfolding answer
   says-5 a b d e f = rw (a, b, d, e, f)
 
-  pub says-room : badDimensions (c .grid .dims) ≡ false → badBox (c .grid .dims) (c .box) ≡ false → badLength (c .grid .dims) (c .box) (c .size) ≡ false → ltb (r .map) (c .size) ≡ false → badDistance (c .grid) (c .box) ≡ false → roomAnswer r (vertexCount c) (indexCount c) ≡ answer c r
+  pub says-room : badDimensions (c .grid .dims) ≡ false → badBox (c .grid .dims) (c .box) ≡ false → badLength (c .grid .dims) (c .size) ≡ false → ltb (r .map) (c .size) ≡ false → badDistance (c .grid) (c .box) ≡ false → roomAnswer r (vertexCount c) (indexCount c) ≡ answer c r
   unfolding answer
   says-room a b d e f = rw (a, b, d, e, f)
-
-pub too-short : (d : GridPoint) (b : Box) (size : ℕ) {at : ℕ} → at ≡ index d (b .high) → size ≤ at → badLength d b size ≡ true
-unfolding badLength
-too-short d b size e h = le-leb size (index d (b .high)) (omega arith)
-
-pub long-enough : (d : GridPoint) (b : Box) (size : ℕ) {at : ℕ} → at ≡ index d (b .high) → at < size → badLength d b size ≡ false
-unfolding badLength
-long-enough d b size e h = lt-leb size (index d (b .high)) (omega arith)
 
 -- ---- conditions 6 and 7
 
@@ -109,7 +101,7 @@ few-vertices grid k i t e =
 -- ---- what failed tests say
 
 -- what passed the first three tests
-pub passed : (grid : List Float) (k : Block) → badDimensions (point (k .dims)) ≡ false → badBox (point (k .dims)) (boxOf k) ≡ false → badLength (point (k .dims)) (boxOf k) (length grid) ≡ false → Inside grid k
+pub passed : (grid : List Float) (k : Block) → badDimensions (point (k .dims)) ≡ false → badBox (point (k .dims)) (boxOf k) ≡ false → badLength (point (k .dims)) (length grid) ≡ false → Inside grid k
 passed grid k a b c = record { dims = failed refl a; box = failed refl b; size = failed refl c }
 
 -- ---- what an answer of 0 says

@@ -78,7 +78,7 @@ pub fn answer_for(sdf: &[f32], k: Block, room: Lengths) -> Answer
     if grid::checks::bad_box(k) {
         return refused(2);
     }
-    if sdf.len() <= grid::place::linearize(k.dims, k.high) {
+    if grid::checks::bad_length(k.dims, sdf.len()) {
         return refused(3);
     }
     if room.map < sdf.len() {

@@ -88,7 +88,7 @@ closed-mesh u done = record { inside = λ v a k l. sound (3 * v + a) (omega arit
   where
     -- condition 3 lets each point of the box stand in the grid, whose numbers are binary32 values
     values32 : (p : GridPoint) → T (inBox (u .call .box) p) → T (fits binary32 (value (u .call .grid) p))
-    values32 p t = u .numbers (index (u .call .grid .dims) p) (index-below (u .call .grid .dims) (u .call .box) (u .call .size) p (done-accepts u done .length) t)
+    values32 p t = u .numbers (index (u .call .grid .dims) p) (index-below (u .call .grid .dims) (u .call .box) (u .call .size) p (done-accepts u done .box) (done-accepts u done .length) t)
 
     sound : (i : ℕ) → i < 3 * u .says .vertices → Sound (u .after) i
     sound i k =

@@ -5,14 +5,13 @@ use mathlib.Core.Bool.{Bool, true, false, not, cond}
 use mathlib.Core.Path.{_≡_, refl}
 use native.Mathlib.Nat.{suc-ne-zero}
 use native.Mathlib.Omega.{arith}
-use lib.Dec.{T, nleb→lt, T-not, not-T}
-use lib.Arith.{lt→nleb}
+use lib.Dec.{T, T-not, not-T}
 use lib.Ieee.Bits.{is-false}
-use Rattle.rules.specs.Grid.{GridPoint, Axis, axisX, axisY, axisZ, Box, Field, along, index, inBox, value}
+use Rattle.rules.specs.Grid.{GridPoint, Axis, axisX, axisY, axisZ, Box, Field, along, inBox, value}
 use Rattle.rules.specs.Call.{Call, Room, Answer, answers, badDimensions, badBox, badLength, badMap, beyond, badDistance, badVertexRoom, badIndexRoom, vertexCount, indexCount, roomAnswer, answer}
 use Rattle.rules.specs.Cutting.{Piece, Cuts, uncut, cut, lowerPiece, upperPiece, pieces, Fits}
 use Rattle.rules.proofs.Lists.{All, none, more, all-append}
-use Rattle.rules.proofs.Indexes.{within, in-box, BoxFits, box-fits, not-bad-box, index-monotone}
+use Rattle.rules.proofs.Indexes.{within, in-box, BoxFits, box-fits, not-bad-box}
 use Rattle.rules.proofs.Inside.{none-in, in-none, distance-is}
 
 -- ---- condition 5, point by point
@@ -29,7 +28,7 @@ ok-distances g b fine = rw (← distance-is g b) (in-none b (λ (q : GridPoint).
 pub record Accepted (g : Field) (size entries : ℕ) (b : Box) : Type 0 where
   pub dims : T (not (badDimensions (g .dims)))
   pub box : T (not (badBox (g .dims) b))
-  pub length : T (not (badLength (g .dims) b size))
+  pub length : T (not (badLength (g .dims) size))
   pub map : T (not (badMap size entries))
   pub distance : T (not (badDistance g b))
 
@@ -38,7 +37,7 @@ pub accepted-answer : (c : Call) (r : Room) → Accepted (c .grid) (c .size) (r 
 unfolding answer
 accepted-answer c r a =
     rw (is-false (badDimensions (c .grid .dims)) (a .dims), is-false (badBox (c .grid .dims) (c .box)) (a .box))
-    (rw (is-false (badLength (c .grid .dims) (c .box) (c .size)) (a .length), is-false (badMap (c .size) (r .map)) (a .map))
+    (rw (is-false (badLength (c .grid .dims) (c .size)) (a .length), is-false (badMap (c .size) (r .map)) (a .map))
     (rw (is-false (badDistance (c .grid) (c .box)) (a .distance))))
 
 -- a call that is done was accepted
@@ -47,7 +46,7 @@ unfolding answer
 done-accepted c r e =
     let (h1, e1) = passed 0 (badDimensions (c .grid .dims)) a2 e in
     let (h2, e2) = passed 1 (badBox (c .grid .dims) (c .box)) a3 e1 in
-    let (h3, e3) = passed 2 (badLength (c .grid .dims) (c .box) (c .size)) a4 e2 in
+    let (h3, e3) = passed 2 (badLength (c .grid .dims) (c .size)) a4 e2 in
     let (h4, e4) = passed 3 (badMap (c .size) (r .map)) a5 e3 in
     let (h5, e5) = passed 4 (badDistance (c .grid) (c .box)) a6 e4 in
     record { dims = h1; box = h2; length = h3; map = h4; distance = h5 }
@@ -62,7 +61,7 @@ done-accepted c r e =
     a4 = cond (badMap (c .size) (r .map)) (answers 4 0 0) a5
 
     a3 : Answer
-    a3 = cond (badLength (c .grid .dims) (c .box) (c .size)) (answers 3 0 0) a4
+    a3 = cond (badLength (c .grid .dims) (c .size)) (answers 3 0 0) a4
 
     a2 : Answer
     a2 = cond (badBox (c .grid .dims) (c .box)) (answers 2 0 0) a3
@@ -92,13 +91,12 @@ pub record Inner (b' b : Box) : Type 0 where
   pub z : (b .low .z ≤ b' .low .z) × (b' .low .z ≤ b' .high .z) × (b' .high .z ≤ b .high .z)
 
 pub inner-accepted : (g : Field) (size entries : ℕ) (b b' : Box) → Inner b' b → Accepted g size entries b → Accepted g size entries b'
-unfolding badLength
 inner-accepted g size entries b b' i a =
     let f : BoxFits (g .dims) b = box-fits (g .dims) b (a .box) in
     record {
       dims = a .dims;
       box = not-bad-box (g .dims) b' (omega arith);
-      length = lt→nleb size (index (g .dims) (b' .high)) (omega (arith, nleb→lt size (index (g .dims) (b .high)) (a .length), index-monotone (g .dims) (b' .high) (b .high) (i .x .2) (i .y .2) (i .z .2)));
+      length = a .length;
       map = a .map;
       distance = ok-distances g b' (λ (p : GridPoint) (t : T (inBox b' p)). let w = within b' p t in distances-ok g b (a .distance) p (in-box b p (omega arith)));
     }

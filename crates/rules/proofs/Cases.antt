@@ -190,19 +190,30 @@ cases =
     ∷ answers (calls (point 0 3 3) 27 ball lowest (point 2 2 2) false) roomy 1 0 0
     ∷ answers (calls (point 3 0 3) 27 ball lowest (point 2 2 2) false) roomy 1 0 0
     ∷ answers (calls (point 3 3 0) 27 ball lowest (point 2 2 2) false) roomy 1 0 0
-    ∷ answers (calls (point 16777217 1 1) 1 ones lowest lowest false) (marked 0 0 0 0 1 0) 0 0 0
+    ∷ answers (calls (point 16777217 1 1) 1 ones lowest lowest false) (marked 0 0 0 0 1 0) 3 0 0
+    ∷ answers (calls (point 16777217 1 1) 16777217 ones lowest lowest false) (marked 0 0 0 0 1 0) 4 0 0
     ∷ answers (calls (point 16777218 1 1) 1 ones lowest lowest false) (marked 0 0 0 0 1 0) 1 0 0
     -- the product: 2^30 passes, the next that three dimensions make does not
-    ∷ answers (calls (point 1024 1024 1024) 1 ones lowest lowest false) (marked 0 0 0 0 1 0) 0 0 0
+    ∷ answers (calls (point 1024 1024 1024) 1 ones lowest lowest false) (marked 0 0 0 0 1 0) 3 0 0
+    ∷ answers (calls (point 1024 1024 1024) 1073741824 ones lowest lowest false) (marked 0 0 0 0 1 0) 4 0 0
     ∷ answers (calls (point 1024 1024 1025) 1 ones lowest lowest false) (marked 0 0 0 0 1 0) 1 0 0
+    -- products of 2^32 and 2^64 are not taken for the empty grid's length
+    ∷ answers (calls (point 65536 65536 1) 0 ones lowest lowest false) (marked 0 0 0 0 1 0) 1 0 0
+    ∷ answers (calls (point 16777216 16777216 65536) 0 ones lowest lowest false) (marked 0 0 0 0 1 0) 1 0 0
     -- "min (2,0,0), max (1,2,2)"; "max (3,2,2)"
     ∷ answers (threes ball (point 2 0 0) (point 1 2 2)) roomy 2 0 0
     ∷ answers (threes ball lowest (point 3 2 2)) roomy 2 0 0
-    -- "Grid of 26, box to (2,2,2)"; "Box to (1,1,1), index 13: passes", with a grid of 26 and with the shortest
+    -- "Grid of 26, box to (2,2,2)"; document 02, request 9: "Document 01's grid of 26 with the box to (1,1,1) becomes refused, and a longer grid too"
     ∷ answers (calls (point 3 3 3) 26 ball lowest (point 2 2 2) false) roomy 3 0 0
-    ∷ answers (calls (point 3 3 3) 26 ball lowest (point 1 1 1) false) (marked 3 3 3 1 26 0) 0 1 0
-    ∷ answers (calls (point 3 3 3) 14 ball lowest (point 1 1 1) false) (marked 3 3 3 1 14 0) 0 1 0
-    ∷ answers (calls (point 3 3 3) 13 ball lowest (point 1 1 1) false) (marked 3 3 3 1 14 0) 3 0 0
+    ∷ answers (calls (point 3 3 3) 26 ball lowest (point 1 1 1) false) (marked 3 3 3 1 26 0) 3 0 0
+    ∷ answers (calls (point 3 3 3) 14 ball lowest (point 1 1 1) false) (marked 3 3 3 1 14 0) 3 0 0
+    ∷ answers (calls (point 3 3 3) 28 ball lowest (point 2 2 2) false) (marked 24 24 24 8 28 18) 3 0 0
+    ∷ answers (calls (point 3 3 3) 28 ball lowest (point 1 1 1) false) (marked 3 3 3 1 28 0) 3 0 0
+    ∷ answers (threes ball lowest (point 1 1 1)) (marked 3 3 3 1 27 0) 0 1 0
+    -- the empty grid, and grids as long as two of the dimensions say
+    ∷ answers (calls (point 1 1 1) 0 ones lowest lowest false) (marked 0 0 0 0 1 0) 3 0 0
+    ∷ answers (calls (point 1 1 1) 1 ones lowest lowest false) (marked 0 0 0 0 1 0) 0 0 0
+    ∷ answers (calls (point 3 3 3) 9 ball lowest lowest false) roomy 3 0 0
     -- "Map one short of the grid"
     ∷ answers (whole ball) (marked 24 24 24 8 26 18) 4 0 0
     -- "Ball with not-a-number at (2,2,2)"; "With the box to (1,1,1)"

@@ -1,11 +1,11 @@
 -- The index x + X·y + X·Y·z: below the grid's length at each point of an accepted box, back to its point, and moved by an axis's stride
 -- at each step. From the definitions of Grid and conditions 1 to 3 of Call. Assumes nothing.
 use Prim.Native.Nat.{ℕ, _+_, _*_, _/_, _%_, _≤_, _<_}
-use mathlib.Core.Bool.{Bool, not, _&&_, _||_}
+use mathlib.Core.Bool.{Bool, true, false, not, _&&_, _||_}
 use mathlib.Core.Path.{_≡_, sym, ap, _∙_}
 use native.Mathlib.Nat.{mul-add, mul-assoc, mul-one, mul-le-mul-left, add-assoc, mod-eq-of-lt, div-eq-of-lt, add-mul-mod-self-left, add-mul-div-left, mod-add-div, div-div-eq-div-mul, mul-suc}
 use native.Mathlib.Omega.{arith}
-use lib.Dec.{T, leb, ltb, eqb, leb→le, nltb→le, nleb→lt, le→leb}
+use lib.Dec.{T, leb, ltb, eqb, eqb→eq, leb→le, nltb→le, nleb→lt, le→leb}
 use lib.Arith.{le→nltb, lt→nleb}
 use lib.Ieee.Fits.{and-i, and-l, and-r}
 use Rattle.rules.specs.Grid.{GridPoint, Axis, axisX, axisY, axisZ, Box, along, stepUp, stepDown, index, pointAt, between, inBox, below, isCell}
@@ -137,18 +137,6 @@ not-bad-box d b f =
 pub box-within : (d : GridPoint) (b : Box) (p : GridPoint) → T (not (badBox d b)) → T (inBox b p) → (p .x < d .x) × (p .y < d .y) × (p .z < d .z)
 box-within d b p ok t = let w = within b p t in let f = box-fits d b ok in omega arith
 
--- ---- condition 3: no point of an accepted box has an index beyond the grid
-
--- the index grows with each coordinate
-pub index-monotone : (d p q : GridPoint) → p .x ≤ q .x → p .y ≤ q .y → p .z ≤ q .z → index d p ≤ index d q
-index-monotone d p q hx hy hz = omega (arith, mul-le-mul-left (d .x) hy, mul-le-mul-left (d .x * d .y) hz)
-
-pub index-below : (d : GridPoint) (b : Box) (size : ℕ) (p : GridPoint) → T (not (badLength d b size)) → T (inBox b p) → index d p < size
-unfolding badLength
-index-below d b size p ok t =
-    let w = within b p t in
-    omega (arith, nleb→lt size (index d (b .high)) ok, index-monotone d p (b .high) (w .x .1) (w .y .1) (w .z .1))
-
 -- ---- an index and its point
 
 -- one digit below its base on top of the others
@@ -157,6 +145,21 @@ mixed {a} {b} {k} {m} h g = omega (arith, mul-le-mul-left b g, mul-suc b k)
 
 pub volume : (d p : GridPoint) → p .x < d .x → p .y < d .y → p .z < d .z → index d p < d .x * d .y * d .z
 volume d p hx hy hz = mixed (mixed hx hy) hz
+
+-- ---- condition 3: the grid is as long as the dimensions say, so that no point of an accepted box has an index beyond it
+
+pub right-length : (d : GridPoint) (size : ℕ) → T (not (badLength d size)) → size ≡ d .x * d .y * d .z
+unfolding badLength
+right-length d size ok = eqb→eq size (d .x * d .y * d .z) (go (eqb size (d .x * d .y * d .z)) ok)
+  where
+    go : (t : Bool) → T (not (not t)) → T t
+    go true h = tt
+    go false h = absurd h
+
+pub index-below : (d : GridPoint) (b : Box) (size : ℕ) (p : GridPoint) → T (not (badBox d b)) → T (not (badLength d size)) → T (inBox b p) → index d p < size
+index-below d b size p box ok t =
+    let w = box-within d b p box t in
+    rw (right-length d size ok) (volume d p (w .0) (w .1) (w .2))
 
 -- x below the lowest digit's base
 digits : (d p : GridPoint) → index d p ≡ p .x + d .x * (p .y + d .y * p .z)

@@ -64,9 +64,9 @@ badSide dim low high = ltb high low || leb dim high
 unfoldable pub badBox : GridPoint → Box → Bool
 badBox d b = badSide (d .x) (b .low .x) (b .high .x) || (badSide (d .y) (b .low .y) (b .high .y) || badSide (d .z) (b .low .z) (b .high .z))
 
--- 3: "index of max not below the grid's length"
-unfoldable pub badLength : GridPoint → Box → ℕ → Bool
-badLength d b size = leb size (index d (b .high))
+-- 3, by document 02, request 9: "exactly if the grid's length is not the product of the dimensions"
+unfoldable pub badLength : GridPoint → ℕ → Bool
+badLength d size = not (eqb size (d .x * d .y * d .z))
 
 -- 4: "cell map shorter than the grid"
 abbrev pub badMap : ℕ → ℕ → Bool
@@ -122,7 +122,7 @@ unfoldable pub answer : Call → Room → Answer
 answer c r =
     cond (badDimensions (c .grid .dims)) (answers 1 0 0)
     (cond (badBox (c .grid .dims) (c .box)) (answers 2 0 0)
-    (cond (badLength (c .grid .dims) (c .box) (c .size)) (answers 3 0 0)
+    (cond (badLength (c .grid .dims) (c .size)) (answers 3 0 0)
     (cond (badMap (c .size) (r .map)) (answers 4 0 0)
     (cond (badDistance (c .grid) (c .box)) (answers 5 0 0)
     (roomAnswer r (vertexCount c) (indexCount c))))))

@@ -165,14 +165,15 @@ pub answer-0 :
     × (judged double (boxTo 4) 125 ≡ answers 0 true)
     × (judged ball (boxTo 2) 27 ≡ answers 0 false)
     × (judged (flat (point 3 3 3)) (boxTo 2) 27 ≡ answers 0 true)
-    × (judged (flat (point 3 3 3)) (boxTo 0) 1 ≡ answers 0 true)
+    × (judged (flat (point 3 3 3)) (boxTo 0) 27 ≡ answers 0 true)
 unfolding opened
 answer-0 = (refl, refl, refl, refl, refl)
 
--- the refusals, alone and in their order: a dimension 0 with a bad box, a bad box with a short grid, a short grid
+-- the refusals, alone and in their order: a dimension 0 with a bad box, a bad box with a short grid, a short grid and a long one
 pub refused :
     (judged (flat (point 0 3 3)) (boxTo 2) 27 ≡ answers 1 false)
     × (judged single (boxTo 4) 0 ≡ answers 2 false)
     × (judged single (boxTo 3) 63 ≡ answers 3 false)
+    × (judged single (boxTo 3) 65 ≡ answers 3 false)
 unfolding opened
-refused = (refl, refl, refl)
+refused = (refl, refl, refl, refl)

@@ -1,22 +1,20 @@
 -- The answer of `is_enclosed` from what its tests found, one after the other, and what they leave of grid and box. Assumes nothing.
-use Prim.Native.Nat.{ℕ, _<_, _≤_}
+use Prim.Native.Nat.{ℕ}
 use native.Mathlib.Omega.{arith}
 use mathlib.Core.Bool.{Bool, true, false, not, cond}
 use mathlib.Core.List.{List}
 use mathlib.Core.Path.{_≡_, ap}
-use borrow.Author.Tests.{le-leb, lt-leb}
 use lib.Ieee.{Float}
 use lib.ListN.{length}
 use Rattle.rules.specs.Lists.{many}
-use Rattle.rules.specs.Grid.{Box, Field, index}
+use Rattle.rules.specs.Grid.{Box, Field}
 use Rattle.rules.specs.Faces.{Flags, indices}
 use Rattle.rules.specs.Call.{badDimensions, badBox, badLength}
 use Rattle.rules.proofs.Tests.{is-test, failed}
 use Rattle.grid.specs.declared.Extent.{Extent}
 use Rattle.grid.specs.declared.Block.{Block}
 use Rattle.grid.specs.Block.{point, boxOf}
-use Rattle.grid.specs.Inside.{PointInside, Inside}
-use Rattle.grid.proofs.Bounds.{corner-inside}
+use Rattle.grid.specs.Inside.{Inside}
 use Rattle.skin.specs.declared.Enclosed.{Enclosed}
 use Rattle.skin.specs.Links.{link, sameLink, links}
 use Rattle.skin.specs.Enclosed.{enclosed}
@@ -31,13 +29,8 @@ blockOf dims low high = record { dims = dims; low = low; high = high; «max_plan
 -- ---- what the tests leave
 
 module _ (k : Block) {r s : Bool} (e : r ≡ badDimensions (point (k .dims))) (h : r ≡ false) (f : s ≡ badBox (point (k .dims)) (boxOf k)) (i : s ≡ false) where
-  pub high-inside : PointInside (point (k .dims)) (point (k .high))
-  high-inside = corner-inside (point (k .dims)) (boxOf k) (failed e h) (failed f i)
-
-  pub all-inside : (sdf : List Float) {at : ℕ} → at ≡ index (point (k .dims)) (point (k .high)) → at < length sdf → Inside sdf k
-  unfolding badLength
-  all-inside sdf {at} p l =
-      record { dims = failed e h; box = failed f i; size = rw (← p, lt-leb (length sdf) at l) tt }
+  pub all-inside : (sdf : List Float) {t : Bool} → t ≡ badLength (point (k .dims)) (length sdf) → t ≡ false → Inside sdf k
+  all-inside sdf p l = record { dims = failed e h; box = failed f i; size = failed p l }
 
 -- ---- the answer
 
@@ -50,14 +43,14 @@ module _ (g : Field) (b : Box) (size : ℕ) where
   unfolding judged
   judged-2 e h f i = rw (← e, h, ← f, i)
 
-  pub judged-3 : {r s : Bool} {at : ℕ} → r ≡ badDimensions (g .dims) → r ≡ false → s ≡ badBox (g .dims) b → s ≡ false → at ≡ index (g .dims) (b .high) → size ≤ at → answers 3 false ≡ judged g b size
-  unfolding judged badLength
-  judged-3 {at = at} e h f i p l = rw (← e, h, ← f, i, ← p, le-leb size at l)
+  pub judged-3 : {r s t : Bool} → r ≡ badDimensions (g .dims) → r ≡ false → s ≡ badBox (g .dims) b → s ≡ false → t ≡ badLength (g .dims) size → t ≡ true → answers 3 false ≡ judged g b size
+  unfolding judged
+  judged-3 e h f i p l = rw (← e, h, ← f, i, ← p, l)
 
-  pub judged-0 : {r s : Bool} {at : ℕ} → r ≡ badDimensions (g .dims) → r ≡ false → s ≡ badBox (g .dims) b → s ≡ false → at ≡ index (g .dims) (b .high) → at < size
+  pub judged-0 : {r s t : Bool} → r ≡ badDimensions (g .dims) → r ≡ false → s ≡ badBox (g .dims) b → s ≡ false → t ≡ badLength (g .dims) size → t ≡ false
       → {found : Bool} → found ≡ strayBox g b → answers 0 (not found) ≡ judged g b size
-  unfolding judged badLength
-  judged-0 {at = at} e h f i p l q = rw (← e, h, ← f, i, ← p, lt-leb size at l, q) (ap (answers 0) (box-is g b))
+  unfolding judged
+  judged-0 e h f i p l q = rw (← e, h, ← f, i, ← p, l, q) (ap (answers 0) (box-is g b))
 
 -- ---- what the answer says of the mesh
 
@@ -68,7 +61,7 @@ answered e = (ap (λ (r : Enclosed). r .answer) e, ap (λ (r : Enclosed). r .enc
 pub yes-closed : (g : Field) (b : Box) (size : ℕ) → judged g b size ≡ answers 0 true → (m : Flags) (i j : ℕ)
     → many (sameLink (link i j)) (links (indices g b m)) ≡ many (sameLink (link j i)) (links (indices g b m))
 unfolding judged
-yes-closed g b size e m i j = skin-closed g b (is-test (enclosed g b) (go (badDimensions (g .dims)) (badBox (g .dims) b) (badLength (g .dims) b size) e)) m i j
+yes-closed g b size e m i j = skin-closed g b (is-test (enclosed g b) (go (badDimensions (g .dims)) (badBox (g .dims) b) (badLength (g .dims) size) e)) m i j
   where
     go : (p q r : Bool) → cond p (answers 1 false) (cond q (answers 2 false) (cond r (answers 3 false) (answers 0 (enclosed g b)))) ≡ answers 0 true → enclosed g b ≡ true
     go true q r e = absurd (omega (arith, answered e .0))

@@ -30,7 +30,7 @@ unfoldable pub judged : Field → Box → ℕ → Enclosed
 judged g b size =
     cond (badDimensions (g .dims)) (answers 1 false)
     (cond (badBox (g .dims) b) (answers 2 false)
-    (cond (badLength (g .dims) b size) (answers 3 false)
+    (cond (badLength (g .dims) size) (answers 3 false)
     (answers 0 (enclosed g b))))
 
 -- a lent grid, and the box between two corners

@@ -39,7 +39,7 @@ pub fn is_enclosed(sdf: &[f32], dims: Extent, low: Extent, high: Extent) -> Encl
             enclosed: false,
         };
     }
-    if sdf.len() <= grid::place::linearize(dims, high) {
+    if grid::checks::bad_length(dims, sdf.len()) {
         return Enclosed {
             answer: 3,
             enclosed: false,

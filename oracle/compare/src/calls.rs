@@ -1,4 +1,4 @@
-//! Random calls that are accepted: dimensions, a box at any offset, a grid of any sufficient length.
+//! Random calls that are accepted: dimensions, a box at any offset, a grid as long as the dimensions say.
 
 use crate::fields::Field;
 use crate::random::Random;
@@ -63,8 +63,8 @@ pub fn in_dimensions(random: &mut Random, field: &Field, dims: [u32; 3]) -> OwnC
         max,
         max_plane: random.one_in(2),
     };
-    let length = some_length(random, &call);
-    call.grid = vec![0.0; length];
+    let length: u64 = dims.iter().map(|&dim| dim as u64).product();
+    call.grid = vec![0.0; length as usize];
     field.fill(random, dims, &mut call.grid);
     if random.one_in(3) {
         spoil_outside_the_box(random, &mut call);
@@ -93,21 +93,6 @@ fn some_box(random: &mut Random, dims: [u32; 3]) -> ([u32; 3], [u32; 3]) {
         (one.min(other), one.max(other))
     });
     (ranges.map(|(low, _)| low), ranges.map(|(_, high)| high))
-}
-
-/// A grid's length that holds the box's max corner: mostly what the dimensions ask, else less or more.
-fn some_length(random: &mut Random, call: &OwnCall) -> usize {
-    let least = call.index(call.max) as u64 + 1;
-    let whole: u64 = call.dims.iter().map(|&dim| dim as u64).product();
-    let length = match random.between(0, 7) {
-        0 => least,
-        1 if whole < 1_000_000 => random.between(least, whole),
-        2 => least + random.between(0, 20),
-        3 if whole < 1_000_000 => whole + random.between(0, 20),
-        _ if whole < 1_000_000 => whole,
-        _ => least,
-    };
-    length as usize
 }
 
 /// Distances outside the box never matter: not-a-number, infinities and anything else stand there.

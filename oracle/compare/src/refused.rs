@@ -14,7 +14,7 @@ pub type Spoil = fn(&mut Random, &mut OwnCall, &mut Room);
 
 /// Ordered so that a later one does not undo an earlier: distances while the box is still good, then
 /// room, then grid and map, then the box, then the dimensions.
-pub const SPOILS: [Spoil; 19] = [
+pub const SPOILS: [Spoil; 22] = [
     not_finite,
     above_the_cap,
     positions_one_short,
@@ -24,8 +24,11 @@ pub const SPOILS: [Spoil; 19] = [
     some_list_far_too_short,
     indices_one_short,
     indices_far_too_short,
+    grid_one_short,
     grid_ends_before_max,
     grid_far_too_short,
+    grid_one_long,
+    grid_far_too_long,
     map_one_short,
     map_far_too_short,
     min_one_above_max,
@@ -113,6 +116,24 @@ fn indices_one_short(_: &mut Random, call: &mut OwnCall, room: &mut Room) {
 
 fn indices_far_too_short(random: &mut Random, _: &mut OwnCall, room: &mut Room) {
     room.indices = random.between(0, room.indices as u64) as usize;
+}
+
+/// One less than the dimensions ask: the box may still lie in it.
+fn grid_one_short(_: &mut Random, call: &mut OwnCall, _: &mut Room) {
+    let length = one_short(call.grid.len());
+    call.grid.truncate(length);
+}
+
+fn grid_one_long(_: &mut Random, call: &mut OwnCall, _: &mut Room) {
+    call.grid.push(1.0);
+}
+
+/// Longer by a row, a layer or anything, with a map that is long enough for it or not.
+fn grid_far_too_long(random: &mut Random, call: &mut OwnCall, room: &mut Room) {
+    let [row, column, _] = call.dims.map(|dim| dim as u64);
+    let more = random.pick(&[row, row * column, random.between(1, 40)]);
+    call.grid.resize(call.grid.len() + more as usize, -1.0);
+    room.map = random.pick(&[room.map, call.grid.len()]);
 }
 
 fn grid_ends_before_max(_: &mut Random, call: &mut OwnCall, _: &mut Room) {

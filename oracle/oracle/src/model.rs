@@ -42,7 +42,7 @@ pub fn refused_before_counting(call: &Call, map: usize) -> Option<u32> {
     let conditions = [
         dimensions_out_of_bounds(call),
         box_out_of_dimensions(call),
-        box_out_of_grid(call),
+        grid_of_another_length(call),
         map < call.grid.len(),
     ];
     match conditions.iter().position(|&holds| holds) {
@@ -79,8 +79,9 @@ fn box_out_of_dimensions(call: &Call) -> bool {
     (0..3).any(|axis| call.min[axis] > call.max[axis] || call.max[axis] >= call.dims[axis])
 }
 
-fn box_out_of_grid(call: &Call) -> bool {
-    index(call, call.max) >= call.grid.len() as u128
+fn grid_of_another_length(call: &Call) -> bool {
+    let product: u128 = call.dims.iter().map(|&dim| dim as u128).product();
+    product != call.grid.len() as u128
 }
 
 fn distance_out_of_bounds(call: &Call) -> bool {

@@ -1,14 +1,12 @@
 -- The conditions in their order: each way out by the tests that led there. Assumes nothing.
-use mathlib.Core.Path.{refl, ap, sym, _∙_}
+use mathlib.Core.Path.{ap, sym, _∙_}
 use borrow.Author.Tests.{lt-ltb, le-ltb}
 use lib.ListN.{length}
 use Rattle.rules.specs.Call.{roomAnswer}
-use Rattle.rules.proofs.Tests.{failed}
 use Rattle.count.specs.declared.Tally.{Tally}
 use Rattle.grid.specs.Block.{point, boxOf, flagsOf, fieldOf, callOf}
-use Rattle.grid.proofs.Bounds.{corner-inside}
 use Rattle.judge.specs.Reading.{roomOf}
-use Rattle.judge.proofs.Judging.{says-1, says-2, says-3, says-4, says-5, says-room, too-short, long-enough, counts, few-vertices, passed}
+use Rattle.judge.proofs.Judging.{says-1, says-2, says-3, says-4, says-5, says-room, counts, few-vertices, passed}
 use borrow.Author.Needs.{needs}
 use Rattle.judge.proofs.answer_for.Statement.{statement}
 use Rattle.judge.proofs.answer_for.Tie as tie
@@ -40,14 +38,8 @@ returns-2 c =
     let dims = sym (c .before .before .before .before .bad-dimensions .ensures) ∙ c .before .before .before .if1 .left in
     c .refused2 .ensures ∙ says-2 (callOf l k) (roomOf (a .room)) dims (sym (c .before .before .bad-box .ensures) ∙ c .before .if2 .taken)
 
-linearize-requires : tie.Need-linearize-requires
-linearize-requires c κs =
-    let a = c .before .before .before .before .before .args in
-    let l = a .sdf .now in
-    let k = a .k in
-    let dims = sym (c .before .before .before .bad-dimensions .ensures) ∙ c .before .before .if1 .left in
-    let box = sym (c .before .bad-box .ensures) ∙ c .if2 .left in
-    corner-inside (point (k .dims)) (boxOf k) (failed refl dims) (failed refl box)
+bad-length-requires : tie.Need-bad-length-requires
+bad-length-requires c κs = search needs
 
 refused-requires-3 : tie.Need-refused-requires-3
 refused-requires-3 c κs = search needs
@@ -59,7 +51,7 @@ returns-3 c =
     let k = a .k in
     let dims = sym (c .before .before .before .before .before .before .bad-dimensions .ensures) ∙ c .before .before .before .before .before .if1 .left in
     let box = sym (c .before .before .before .before .bad-box .ensures) ∙ c .before .before .before .if2 .left in
-    c .refused3 .ensures ∙ says-3 (callOf l k) (roomOf (a .room)) dims box (too-short (point (k .dims)) (boxOf k) (length l) (c .before .before .linearize .ensures) (c .before .if3 .taken))
+    c .refused3 .ensures ∙ says-3 (callOf l k) (roomOf (a .room)) dims box (sym (c .before .before .bad-length .ensures) ∙ c .before .if3 .taken)
 
 refused-requires-4 : tie.Need-refused-requires-4
 refused-requires-4 c κs = search needs
@@ -71,7 +63,7 @@ returns-4 c =
     let k = a .k in
     let dims = sym (c .before .before .before .before .before .before .before .before .bad-dimensions .ensures) ∙ c .before .before .before .before .before .before .before .if1 .left in
     let box = sym (c .before .before .before .before .before .before .bad-box .ensures) ∙ c .before .before .before .before .before .if2 .left in
-    let size = long-enough (point (k .dims)) (boxOf k) (length l) (c .before .before .before .before .linearize .ensures) (c .before .before .before .if3 .left) in
+    let size = sym (c .before .before .before .before .bad-length .ensures) ∙ c .before .before .before .if3 .left in
     c .refused4 .ensures ∙ says-4 (callOf l k) (roomOf (a .room)) dims box size (lt-ltb (a .room .map) (length l) (c .before .if4 .taken))
 
 bad-distance-requires : tie.Need-bad-distance-requires
@@ -81,7 +73,7 @@ bad-distance-requires c κs =
     let k = a .k in
     let dims = sym (c .before .before .before .before .before .before .before .bad-dimensions .ensures) ∙ c .before .before .before .before .before .before .if1 .left in
     let box = sym (c .before .before .before .before .before .bad-box .ensures) ∙ c .before .before .before .before .if2 .left in
-    let size = long-enough (point (k .dims)) (boxOf k) (length l) (c .before .before .before .linearize .ensures) (c .before .before .if3 .left) in
+    let size = sym (c .before .before .before .bad-length .ensures) ∙ c .before .before .if3 .left in
     passed l k dims box size
 
 refused-requires-5 : tie.Need-refused-requires-5
@@ -94,7 +86,7 @@ returns-5 c =
     let k = a .k in
     let dims = sym (c .before .before .before .before .before .before .before .before .before .before .bad-dimensions .ensures) ∙ c .before .before .before .before .before .before .before .before .before .if1 .left in
     let box = sym (c .before .before .before .before .before .before .before .before .bad-box .ensures) ∙ c .before .before .before .before .before .before .before .if2 .left in
-    let size = long-enough (point (k .dims)) (boxOf k) (length l) (c .before .before .before .before .before .before .linearize .ensures) (c .before .before .before .before .before .if3 .left) in
+    let size = sym (c .before .before .before .before .before .before .bad-length .ensures) ∙ c .before .before .before .before .before .if3 .left in
     let map = le-ltb (a .room .map) (length l) (c .before .before .before .if4 .left) in
     c .refused5 .ensures ∙ says-5 (callOf l k) (roomOf (a .room)) dims box size map (sym (c .before .before .bad-distance .ensures) ∙ c .before .if5 .taken)
 
@@ -105,7 +97,7 @@ count-box-requires c κs =
     let k = a .k in
     let dims = sym (c .before .before .before .before .before .before .before .before .before .bad-dimensions .ensures) ∙ c .before .before .before .before .before .before .before .before .if1 .left in
     let box = sym (c .before .before .before .before .before .before .before .bad-box .ensures) ∙ c .before .before .before .before .before .before .if2 .left in
-    let size = long-enough (point (k .dims)) (boxOf k) (length l) (c .before .before .before .before .before .linearize .ensures) (c .before .before .before .before .if3 .left) in
+    let size = sym (c .before .before .before .before .before .bad-length .ensures) ∙ c .before .before .before .before .if3 .left in
     passed l k dims box size
 
 room-answer-requires : tie.Need-room-answer-requires
@@ -115,7 +107,7 @@ room-answer-requires c κs =
     let k = a .k in
     let dims = sym (c .before .before .before .before .before .before .before .before .before .before .bad-dimensions .ensures) ∙ c .before .before .before .before .before .before .before .before .before .if1 .left in
     let box = sym (c .before .before .before .before .before .before .before .before .bad-box .ensures) ∙ c .before .before .before .before .before .before .before .if2 .left in
-    let size = long-enough (point (k .dims)) (boxOf k) (length l) (c .before .before .before .before .before .before .linearize .ensures) (c .before .before .before .before .before .if3 .left) in
+    let size = sym (c .before .before .before .before .before .before .bad-length .ensures) ∙ c .before .before .before .before .before .if3 .left in
     few-vertices l k (passed l k dims box size) (c .count-box .result) (c .count-box .ensures)
 
 returns-6 : tie.Need-returns-6
@@ -125,7 +117,7 @@ returns-6 c =
     let k = a .k in
     let dims = sym (c .before .before .before .before .before .before .before .before .before .before .before .bad-dimensions .ensures) ∙ c .before .before .before .before .before .before .before .before .before .before .if1 .left in
     let box = sym (c .before .before .before .before .before .before .before .before .before .bad-box .ensures) ∙ c .before .before .before .before .before .before .before .before .if2 .left in
-    let size = long-enough (point (k .dims)) (boxOf k) (length l) (c .before .before .before .before .before .before .before .linearize .ensures) (c .before .before .before .before .before .before .if3 .left) in
+    let size = sym (c .before .before .before .before .before .before .before .bad-length .ensures) ∙ c .before .before .before .before .before .before .if3 .left in
     let map = le-ltb (a .room .map) (length l) (c .before .before .before .before .if4 .left) in
     let distances = sym (c .before .before .before .bad-distance .ensures) ∙ c .before .before .if5 .left in
     let e = c .before .count-box .ensures ∙ counts (fieldOf l k) (boxOf k) (flagsOf k) in
@@ -141,7 +133,7 @@ answer-for-spec =
     bad-box-requires
     refused-requires-2
     returns-2
-    linearize-requires
+    bad-length-requires
     refused-requires-3
     returns-3
     refused-requires-4

@@ -2,7 +2,7 @@
 use lib.ListN.{length}
 use borrow.Author.Needs.{needs}
 use Rattle.skin.specs.Scan.{gridOf, boxFrom}
-use Rattle.skin.proofs.Judged.{blockOf, high-inside, all-inside, judged-0, judged-1, judged-2, judged-3}
+use Rattle.skin.proofs.Judged.{blockOf, all-inside, judged-0, judged-1, judged-2, judged-3}
 use Rattle.skin.proofs.is_enclosed.Statement.{statement}
 use Rattle.skin.proofs.is_enclosed.Tie as tie
 
@@ -22,25 +22,23 @@ returns-2 c =
     let a = c .before .before .before .before .before .args in
     judged-2 (gridOf (a .sdf .now) (a .dims)) (boxFrom (a .low) (a .high)) (length (a .sdf .now)) (c .before .before .before .bad-dimensions .ensures) (c .before .before .if1 .left) (c .before .bad-box .ensures) (c .if2 .taken)
 
-linearize-requires : tie.Need-linearize-requires
-linearize-requires c κs =
-    let a = c .before .before .before .before .before .args in
-    high-inside (blockOf (a .dims) (a .low) (a .high)) (c .before .before .before .bad-dimensions .ensures) (c .before .before .if1 .left) (c .before .bad-box .ensures) (c .if2 .left)
+bad-length-requires : tie.Need-bad-length-requires
+bad-length-requires c κs = search needs
 
 returns-3 : tie.Need-returns-3
 returns-3 c =
     let a = c .before .before .before .before .before .before .before .args in
-    judged-3 (gridOf (a .sdf .now) (a .dims)) (boxFrom (a .low) (a .high)) (length (a .sdf .now)) (c .before .before .before .before .before .bad-dimensions .ensures) (c .before .before .before .before .if1 .left) (c .before .before .before .bad-box .ensures) (c .before .before .if2 .left) (c .before .linearize .ensures) (c .if3 .taken)
+    judged-3 (gridOf (a .sdf .now) (a .dims)) (boxFrom (a .low) (a .high)) (length (a .sdf .now)) (c .before .before .before .before .before .bad-dimensions .ensures) (c .before .before .before .before .if1 .left) (c .before .before .before .bad-box .ensures) (c .before .before .if2 .left) (c .before .bad-length .ensures) (c .if3 .taken)
 
 stray-box-requires : tie.Need-stray-box-requires
 stray-box-requires c κs =
     let a = c .before .before .before .before .before .before .before .args in
-    all-inside (blockOf (a .dims) (a .low) (a .high)) (c .before .before .before .before .before .bad-dimensions .ensures) (c .before .before .before .before .if1 .left) (c .before .before .before .bad-box .ensures) (c .before .before .if2 .left) (a .sdf .now) (c .before .linearize .ensures) (c .if3 .left)
+    all-inside (blockOf (a .dims) (a .low) (a .high)) (c .before .before .before .before .before .bad-dimensions .ensures) (c .before .before .before .before .if1 .left) (c .before .before .before .bad-box .ensures) (c .before .before .if2 .left) (a .sdf .now) (c .before .bad-length .ensures) (c .if3 .left)
 
 returns-4 : tie.Need-returns-4
 returns-4 c =
     let a = c .before .before .before .before .before .before .before .before .args in
-    judged-0 (gridOf (a .sdf .now) (a .dims)) (boxFrom (a .low) (a .high)) (length (a .sdf .now)) (c .before .before .before .before .before .before .bad-dimensions .ensures) (c .before .before .before .before .before .if1 .left) (c .before .before .before .before .bad-box .ensures) (c .before .before .before .if2 .left) (c .before .before .linearize .ensures) (c .before .if3 .left) (c .stray-box .ensures)
+    judged-0 (gridOf (a .sdf .now) (a .dims)) (boxFrom (a .low) (a .high)) (length (a .sdf .now)) (c .before .before .before .before .before .before .bad-dimensions .ensures) (c .before .before .before .before .before .if1 .left) (c .before .before .before .before .bad-box .ensures) (c .before .before .before .if2 .left) (c .before .before .bad-length .ensures) (c .before .if3 .left) (c .stray-box .ensures)
 
 pub is-enclosed-spec : {M : Type 1} → statement M
 is-enclosed-spec =
@@ -50,7 +48,7 @@ is-enclosed-spec =
     returns
     bad-box-requires
     returns-2
-    linearize-requires
+    bad-length-requires
     returns-3
     stray-box-requires
     returns-4)

@@ -65,10 +65,13 @@ pub fn lengths() -> Vec<Case> {
         grid().with_grid_length(1).with_box([0; 3], [0; 3]),
         grid().with_grid_length(13).with_box([0; 3], [1; 3]),
         grid().with_grid_length(14).with_box([0; 3], [1; 3]),
+        grid().with_grid_length(26).with_box([0; 3], [1; 3]),
+        grid().with_grid_length(28).with_box([0; 3], [1; 3]),
+        grid().with_grid_length(54),
         map().with_map(0),
         map().with_map(27),
         map().with_map(60),
-        // the map is held against the grid's length, not against the dimensions
+        // a grid of another length is refused before its map is looked at
         map().with_grid_length(30).with_map(29),
         map().with_grid_length(30).with_map(30),
         map()

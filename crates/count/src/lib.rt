@@ -53,6 +53,7 @@ fn count_cell(d: &[f32; 8], own: Own) -> Tally
     }
 }
 
+// A cell shares its upper x side with the next cell's lower one: each side is read once, and carried.
 fn count_row(sdf: &[f32], k: Block, y: u32, z: u32) -> Tally
     requires { ⌜ Inside (now sdf) k ⌝ }
     requires { ⌜ (k .low .y ≤ y) × (y < k .high .y) ⌝ }
@@ -64,16 +65,17 @@ fn count_row(sdf: &[f32], k: Block, y: u32, z: u32) -> Tally
     let row = k.dims.x as usize;
     let layer = row * (k.dims.y as usize);
     let mut at = grid::place::linearize(k.dims, Extent { x: from, y, z });
+    let mut low = grid::corners::side_at(sdf, at, row, layer);
     let mut vertices = 0usize;
     let mut indices = 0usize;
     for x in from..end {
-        let low = grid::corners::side_at(sdf, at, row, layer);
         let high = grid::corners::side_at(sdf, at + 1, row, layer);
         let d = grid::corners::corners(low, high);
         let own = grid::ownership::owned_at(k, Extent { x, y, z });
         let one = count_cell(&d, own);
         vertices += one.vertices;
         indices += one.indices;
+        low = high;
         at += 1;
     }
     Tally { vertices, indices }

@@ -1,6 +1,6 @@
 -- Where the rows of a box begin and end in the list of distances. Assumes nothing.
 use Prim.Native.Nat.{ℕ, _+_, _-_, _*_, _<_, _≤_}
-use native.Mathlib.Nat.{le-trans, le-of-eq, mul-one, mul-le-mul, mul-le-mul-left}
+use native.Mathlib.Nat.{le-trans, le-of-eq, mul-one, mul-add, mul-le-mul, mul-le-mul-left}
 use native.Mathlib.Omega.{arith}
 use mathlib.Core.List.{List}
 use mathlib.Core.Path.{sym}
@@ -31,6 +31,15 @@ module _ {grid : List Float} {k : Block} (i : Inside grid k) {y z : ℕ} (ys : (
       let f = fits grid k i in
       let h = below-length grid k i (record { x = k .high .x; y = y; z = z }) (on-row (omega arith)) in
       omega arith
+
+-- the side at the row's start, with the next row and the next layer, lies in the list
+pub side-start : {grid : List Float} {k : Block} (i : Inside grid k) {y z : ℕ} → (k .low .y ≤ y) × (y < k .high .y) → (k .low .z ≤ z) × (z < k .high .z)
+    → index (point (k .dims)) (record { x = k .low .x; y = y; z = z }) + k .dims .x + k .dims .x * k .dims .y < length grid
+side-start {grid} {k} i {y} {z} ys zs =
+    let f = fits grid k i in
+    let far : GridPoint = record { x = k .low .x; y = y + 1; z = z + 1 } in
+    let inside : T (inBox (boxOf k) far) = in-box (boxOf k) far (omega arith) in
+    omega (arith, below-length grid k i far inside, mul-add (k .dims .x) y 1, mul-one (k .dims .x), mul-add (k .dims .x * k .dims .y) z 1, mul-one (k .dims .x * k .dims .y))
 
 -- ---- a cell's corners lie in the list
 

@@ -22,7 +22,7 @@ use Rattle.grid.specs.Order.{rowTo, layerTo, boxTo}
 use Rattle.grid.proofs.Bounds.{fits, small, plane-few, index-few, point-inside}
 use Rattle.grid.proofs.Runs.{none-yet, one-more}
 use Rattle.grid.proofs.Order.{row-grows, row-ends, layer-grows, layer-ends, box-grows, box-ends}
-use Rattle.grid.proofs.Rows.{row-start, high-side, row-short, layer-short, box-short}
+use Rattle.grid.proofs.Rows.{row-start, side-start, high-side, row-short, layer-short, box-short}
 
 -- ---- a counter n that goes from `from` up to `end`
 
@@ -145,7 +145,6 @@ pub record AtCell (grid : List Float) (k : Block) (y z at x : ℕ) : Type 0 wher
   pub cell : T (isCell (boxOf k) (record { x = x; y = y; z = z }))
   pub place : at ≡ index (point (k .dims)) (record { x = x; y = y; z = z })
   pub at-fits : Fits w64 (at + 1)
-  pub low-side : at + k .dims .x + k .dims .x * k .dims .y < length grid
   pub high-side : at + 1 + k .dims .x + k .dims .x * k .dims .y < length grid
 
 module _ {grid : List Float} {k : Block} {y z : ℕ} (r : Row grid k y z) where
@@ -154,6 +153,10 @@ module _ {grid : List Float} {k : Block} {y z : ℕ} (r : Row grid k y z) where
 
   pub layer-fits : Fits w64 (k .dims .x * k .dims .y)
   layer-fits = let few = plane-few (point (k .dims)) (record { x = k .low .x; y = y; z = z }) row-first in omega arith
+
+  -- the side with which a row begins lies in the grid, also where the row has no cell
+  pub first-side : {at : ℕ} → at ≡ index (point (k .dims)) (record { x = k .low .x; y = y; z = z }) → at + k .dims .x + k .dims .x * k .dims .y < length grid
+  first-side e = let s = side-start (r .inside) (r .along-y) (r .along-z) in omega arith
 
   pub row-begun : {at : ℕ} → at ≡ index (point (k .dims)) (record { x = k .low .x; y = y; z = z }) → OnRow k y z at (k .low .x)
   row-begun e = record { count = begun (cell-spans (r .inside) .x); place = e }
@@ -174,7 +177,6 @@ module _ {grid : List Float} {k : Block} {y z : ℕ} (r : Row grid k y z) where
         cell = c;
         place = place;
         at-fits = omega arith;
-        low-side = omega arith;
         high-side = omega arith;
       }
 

@@ -15,7 +15,7 @@ use grid::Block;
 use grid::Extent;
 use step::Made;
 
-// The row y of the layer z. Each cell reads its two x sides.
+// The row y of the layer z. A cell shares its upper x side with the next cell's lower one: each side is read once, and carried.
 fn mesh_row(
     sdf: &[f32],
     k: Block,
@@ -40,9 +40,9 @@ fn mesh_row(
     let row = k.dims.x as usize;
     let layer = row * (k.dims.y as usize);
     let mut at = grid::place::linearize(k.dims, Extent { x: from, y, z });
+    let mut low = grid::corners::side_at(sdf, at, row, layer);
     let mut state = made;
     for x in from..end {
-        let low = grid::corners::side_at(sdf, at, row, layer);
         let high = grid::corners::side_at(sdf, at + 1, row, layer);
         let d = grid::corners::corners(low, high);
         let own = grid::ownership::owned_at(k, Extent { x, y, z });
@@ -61,6 +61,7 @@ fn mesh_row(
             indices,
             state,
         );
+        low = high;
         at += 1;
     }
     state

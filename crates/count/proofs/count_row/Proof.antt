@@ -1,26 +1,29 @@
--- The invariant: the counts are those of the cells before x, and `at` is the place of x. Assumes nothing.
-use Prim.Native.Nat.{_+_, _-_}
+-- The invariant: the counts are those of the cells before x, `at` is the place of x, and the carried side is the side at x. Assumes nothing.
+use Prim.Native.Nat.{_+_, _-_, _*_}
+use mathlib.Core.Path.{_≡_}
 use borrow.Author.Needs.{needs}
 use Rattle.grid.specs.Block.{boxOf}
+use Rattle.grid.specs.Corners.{sideAt}
 use Rattle.grid.specs.Order.{rowTo}
-use Rattle.grid.proofs.Walks.{Row, OnRow, AtCell, row-first, layer-fits, row-begun, at-cell, row-done}
+use Rattle.grid.proofs.Walks.{Row, OnRow, AtCell, row-first, first-side, layer-fits, row-begun, at-cell, row-done}
 use Rattle.grid.proofs.Order.{row-begins}
 use Rattle.count.proofs.Tallies.{Counts, counts-none, counts-all, Step, step, cell-counts}
 use Rattle.count.proofs.count_row.Statement.{statement}
 use Rattle.count.proofs.count_row.Tie as tie
 
 abbrev Inv-loop : tie.InvT-loop
-Inv-loop sdf k y z from end row layer at₀ vertices₀ indices₀ x₀ at vertices indices x = OnRow k y z at x × Counts sdf k (rowTo (boxOf k) z y x) vertices indices
+Inv-loop sdf k y z from end row layer at₀ low₀ vertices₀ indices₀ x₀ at low vertices indices x =
+    OnRow k y z at x × (low ≡ sideAt sdf at (k .dims .x) (k .dims .x * k .dims .y)) × Counts sdf k (rowTo (boxOf k) z y x) vertices indices
 
 abbrev μ-loop : tie.MeasureT-loop
-μ-loop sdf k y z from end row layer at₀ vertices₀ indices₀ x₀ at vertices indices x = end - x
+μ-loop sdf k y z from end row layer at₀ low₀ vertices₀ indices₀ x₀ at low vertices indices x = end - x
 
 -- the places that a later one leads back to
 abbrev entry-of : tie.At-loop Inv-loop μ-loop → tie.Start Inv-loop μ-loop
-entry-of c = c .before .before .before .before .before
+entry-of c = c .before .before .before .before .before .before
 
 abbrev turn-of : tie.After-count-cell Inv-loop μ-loop → tie.In-loop Inv-loop μ-loop
-turn-of c = c .before .before .before .before .before .before
+turn-of c = c .before .before .before .before .before
 
 -- the row, the cell of a turn, and what the cell adds
 row : (s : tie.Start Inv-loop μ-loop) → Row (s .args .sdf .now) (s .args .k) (s .args .y) (s .args .z)
@@ -35,8 +38,9 @@ more : (c : tie.After-count-cell Inv-loop μ-loop) → let a = entry-of (turn-of
 more c =
     let h = here (turn-of c) in
     let o = c .before .before in
-    step (turn-of c .before .loop .inv .1)
-    (cell-counts (h .place) (o .before .before .before .side-at .ensures) (o .before .before .side-at2 .ensures) (o .before .corners .ensures) (o .owned-at .ensures) (c .count-cell .ensures))
+    let inv = turn-of c .before .loop .inv in
+    step (inv .2)
+    (cell-counts (h .place) (inv .1) (o .before .before .side-at2 .ensures) (o .before .corners .ensures) (o .owned-at .ensures) (c .count-cell .ensures))
     (h .grows) (h .short)
 
 cast-row : tie.Need-cast-row Inv-loop μ-loop
@@ -51,25 +55,25 @@ mul-layer c = layer-fits (row (c .before .before .before))
 linearize-requires : tie.Need-linearize-requires Inv-loop μ-loop
 linearize-requires c κs = row-first (row (c .before .before .before))
 
+side-at-requires : tie.Need-side-at-requires Inv-loop μ-loop
+side-at-requires c κs = first-side (row (c .before .before .before .before)) (c .linearize .ensures)
+
 loop-holds : tie.Need-loop-holds Inv-loop μ-loop
 loop-holds c =
-    let s = c .before .before .before .before in
-    (row-begun (row s) (c .linearize .ensures), counts-none (row-begins (boxOf (s .args .k)) (s .args .z) (s .args .y)))
-
-side-at-requires : tie.Need-side-at-requires Inv-loop μ-loop
-side-at-requires c κs = here c .low-side
+    let s = c .before .before .before .before .before in
+    (row-begun (row s) (c .before .linearize .ensures), c .side-at .ensures, counts-none (row-begins (boxOf (s .args .k)) (s .args .z) (s .args .y)))
 
 add-side-at : tie.Need-add-side-at Inv-loop μ-loop
-add-side-at c = here (c .before) .at-fits
+add-side-at c = here c .at-fits
 
 side-at-requires-2 : tie.Need-side-at-requires-2 Inv-loop μ-loop
-side-at-requires-2 c κs = here (c .before) .high-side
+side-at-requires-2 c κs = here c .high-side
 
 corners-requires : tie.Need-corners-requires Inv-loop μ-loop
 corners-requires c κs = search needs
 
 owned-at-requires : tie.Need-owned-at-requires Inv-loop μ-loop
-owned-at-requires c κs = here (c .before .before .before) .cell
+owned-at-requires c κs = here (c .before .before) .cell
 
 count-cell-requires : tie.Need-count-cell-requires Inv-loop μ-loop
 count-cell-requires c κs = search needs
@@ -90,10 +94,12 @@ loop-less : tie.Need-loop-less Inv-loop μ-loop
 loop-less c = here (turn-of (c .before .before)) .turn .less
 
 loop-again : tie.Need-loop-again Inv-loop μ-loop
-loop-again c = (here (turn-of (c .before .before)) .next, more (c .before .before) .counts)
+loop-again c =
+    let m = c .before .before in
+    (here (turn-of m) .next, m .before .before .before .before .side-at2 .ensures, more m .counts)
 
 returns : tie.Need-returns Inv-loop μ-loop
-returns c = let w = c .before .loop in counts-all (w .inv .1) (row-done (w .inv .0) (c .loop-test .left))
+returns c = let w = c .before .loop in counts-all (w .inv .2) (row-done (w .inv .0) (c .loop-test .left))
 
 pub count-row-spec : {M : Type 1} → statement M
 count-row-spec =
@@ -105,8 +111,8 @@ count-row-spec =
     cast-layer
     mul-layer
     linearize-requires
-    loop-holds
     side-at-requires
+    loop-holds
     add-side-at
     side-at-requires-2
     corners-requires

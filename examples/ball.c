@@ -37,7 +37,7 @@ static uint32_t mesh_whole_grid(struct mesh *m) {
         SIDE, SIDE, SIDE,
         0, 0, 0,
         SIDE - 1, SIDE - 1, SIDE - 1,
-        false,
+        false, false, false,
         m->positions, 3 * vertices,
         m->normals, 3 * vertices,
         m->cells, 3 * vertices,

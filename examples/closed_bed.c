@@ -59,7 +59,7 @@ static uint64_t vertex_count, index_count;
 
 static void mesh(const float *sdf, uint32_t x, uint32_t y, uint32_t z) {
     uint32_t answer = bed_surface_nets(
-        sdf, (size_t)x * y * z, x, y, z, 0, 0, 0, x - 1, y - 1, z - 1, false,
+        sdf, (size_t)x * y * z, x, y, z, 0, 0, 0, x - 1, y - 1, z - 1, false, false, false,
         positions, 3 * CELLS, normals, 3 * CELLS, cells, 3 * CELLS, strides, CELLS, map, BORDERED,
         indices, 18 * CELLS, &vertex_count, &index_count);
     if (answer != BED_DONE) {

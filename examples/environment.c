@@ -68,7 +68,7 @@ static float grid[POINTS];
 static void call(struct outcome *o)
 {
     o->answer = bed_surface_nets(
-        grid, POINTS, SIDE, SIDE, SIDE, 0, 0, 0, SIDE - 1, SIDE - 1, SIDE - 1, true,
+        grid, POINTS, SIDE, SIDE, SIDE, 0, 0, 0, SIDE - 1, SIDE - 1, SIDE - 1, true, true, true,
         o->positions, 3 * CELLS, o->normals, 3 * CELLS, o->cells, 3 * CELLS, o->strides, CELLS,
         o->map, POINTS, o->indices, 18 * CELLS, &o->vertices, &o->index_count);
     o->enclosed_answer = bed_is_enclosed(

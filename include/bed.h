@@ -107,8 +107,9 @@ enum bed_answer {
  *   dim_x .. dim_z   the grid's dimensions, in points.
  *   min_x .. max_z   the box's corner points, both included. Its cells run from min to max - 1; a cell is
  *                    named by its lowest corner.
- *   max_plane        whether faces are also made of edges that end on the box's max side. Without it,
- *                    blocks that share a layer of cells make each face once.
+ *   max_plane_x ..   for each axis, whether faces are also made of grid edges along it that end on the
+ *   max_plane_z      box's max side, as blocks at a tank wall need it. See below for blocks that share
+ *                    a layer of cells.
  *
  * Lent for writing, each a pointer and its length in elements:
  *   positions        three floats a vertex, in grid coordinates.
@@ -133,6 +134,13 @@ enum bed_answer {
  * held before never matters. To learn V and I, call with empty lists and a map, then lend enough and call
  * again; where V is 0 the first call is already done.
  *
+ * Cutting a box into blocks: a cut on an axis at k, min <= k < max there, gives a lower piece from min to
+ * k + 1 and an upper piece from k to max on that axis; a piece may be cut again. On the cut axis the lower
+ * piece has its max plane off and the upper keeps the whole's; on the other axes both keep the whole's. Then
+ * the pieces make the faces of the whole, each exactly once: none is lost and none is doubled, for any max
+ * planes of the whole. Both pieces hold the cells of layer k, so vertices there come twice. With the lower
+ * piece's max plane left on, its faces at the cut come twice.
+ *
  * Nothing that is lent may overlap anything else, the two counts included. Pointers are aligned for their
  * type; a pointer may be null only where its length is 0. The two counts' pointers are never null.
  */
@@ -141,7 +149,7 @@ uint32_t bed_surface_nets(
     uint32_t dim_x, uint32_t dim_y, uint32_t dim_z,
     uint32_t min_x, uint32_t min_y, uint32_t min_z,
     uint32_t max_x, uint32_t max_y, uint32_t max_z,
-    bool max_plane,
+    bool max_plane_x, bool max_plane_y, bool max_plane_z,
     float *positions, size_t positions_len,
     float *normals, size_t normals_len,
     uint32_t *cells, size_t cells_len,
@@ -160,8 +168,8 @@ uint32_t bed_surface_nets(
  * Out, on every answer:
  *   enclosed         the test's outcome on BED_DONE, false on every other answer.
  *
- * A yes means, proved: if bed_surface_nets answers BED_DONE on the same grid and box, with max_plane or
- * without, then in the first I indices, read as triangles, each directed side from one vertex to another
+ * A yes means, proved: if bed_surface_nets answers BED_DONE on the same grid and box, with any max
+ * planes, then in the first I indices, read as triangles, each directed side from one vertex to another
  * occurs exactly as often as its reverse. A side may occur twice, and then its reverse occurs twice. A box
  * without a point below zero is enclosed, and its mesh has no triangle.
  *

@@ -2,7 +2,9 @@
 //!
 //! `cargo run --example ball`, after `rt staticlib bed` at the top of the repository.
 
-use bed::{file_len, is_enclosed, read_mesh, surface_nets, write_mesh, SurfaceNetsBuffer};
+use bed::{
+    file_len, is_enclosed, read_mesh, surface_nets, write_mesh, MaxPlane, SurfaceNetsBuffer,
+};
 use std::error::Error;
 
 const SIDE: u32 = 20;
@@ -13,7 +15,7 @@ fn main() -> Result<(), Box<dyn Error>> {
     let sdf = ball();
     let max = [SIDE - 1; 3];
     let mut mesh = SurfaceNetsBuffer::default();
-    surface_nets(&sdf, [SIDE; 3], [0; 3], max, false, &mut mesh)?;
+    surface_nets(&sdf, [SIDE; 3], [0; 3], max, MaxPlane::NONE, &mut mesh)?;
     println!(
         "vertices {}, triangles {}, enclosed: {}",
         mesh.positions.len(),

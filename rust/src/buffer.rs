@@ -1,6 +1,6 @@
 //! The shape of use that callers of fast-surface-nets know: one buffer that grows and is reused.
 
-use crate::lent::{surface_nets_lent, Counts, Lent};
+use crate::lent::{surface_nets_lent, Counts, Lent, MaxPlane};
 use crate::refusal::Refusal;
 
 /// A grid index with this entry in `stride_to_index` made no vertex.
@@ -35,7 +35,7 @@ pub fn surface_nets(
     dims: [u32; 3],
     min: [u32; 3],
     max: [u32; 3],
-    max_plane: bool,
+    max_plane: MaxPlane,
     buffer: &mut SurfaceNetsBuffer,
 ) -> Result<(), Refusal> {
     let before = buffer.lengths();

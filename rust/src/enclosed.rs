@@ -8,8 +8,8 @@ use crate::refusal::Refusal;
 /// Whether every distance below zero in the box from `min` to `max`, both included, lies from min + 1 to
 /// max - 2 on each axis.
 ///
-/// If so, each directed triangle side of the box's mesh, with or without max plane, occurs exactly as
-/// often as its reverse: the skin has no hole. A box without a distance below zero is enclosed too, and
+/// If so, each directed triangle side of the box's mesh, with any [`MaxPlane`](crate::MaxPlane), occurs
+/// exactly as often as its reverse: the skin has no hole. A box without a distance below zero is enclosed too, and
 /// its mesh is empty. A no does not say that there is a hole. Refused are [`Refusal::Dimensions`],
 /// [`Refusal::Box`] and [`Refusal::GridLength`] alone.
 ///

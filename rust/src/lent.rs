@@ -11,6 +11,38 @@ pub struct Counts {
     pub indices: u64,
 }
 
+/// A yes or no for each axis: whether faces are also made of grid edges along it that end on the box's max
+/// side.
+///
+/// fast-surface-nets has one for all three, as a feature of the build: without `eval-max-plane` it is
+/// [`NONE`](MaxPlane::NONE), with it [`ALL`](MaxPlane::ALL).
+///
+/// A box that is cut on an axis at k, min <= k < max there, gives a piece from min to k + 1 and one from k to
+/// max. If on that axis the lower piece has its flag off and the upper keeps the whole's, and on the other
+/// axes both keep the whole's, then the pieces make each face of the whole exactly once.
+#[derive(Clone, Copy, Debug, Default, PartialEq, Eq)]
+pub struct MaxPlane {
+    pub x: bool,
+    pub y: bool,
+    pub z: bool,
+}
+
+impl MaxPlane {
+    /// On no axis.
+    pub const NONE: Self = Self {
+        x: false,
+        y: false,
+        z: false,
+    };
+
+    /// On all three.
+    pub const ALL: Self = Self {
+        x: true,
+        y: true,
+        z: true,
+    };
+}
+
 /// What a caller lends for writing. Positions, normals and cells take three numbers a vertex.
 #[derive(Default)]
 pub struct Lent<'a> {
@@ -26,14 +58,13 @@ pub struct Lent<'a> {
 /// Meshes the box from `min` to `max`, both included, of a grid with the given dimensions, x innermost.
 ///
 /// On success the first 3V, 3V, 3V, V and I numbers of the lists are written and the rest of them kept.
-/// A refused call changes nothing. With `max_plane` the faces of edges that end on the box's max side
-/// are made too.
+/// A refused call changes nothing.
 pub fn surface_nets_lent(
     sdf: &[f32],
     dims: [u32; 3],
     min: [u32; 3],
     max: [u32; 3],
-    max_plane: bool,
+    max_plane: MaxPlane,
     lent: &mut Lent,
 ) -> Result<Counts, Refusal> {
     let mut counts = Counts::default();
@@ -53,7 +84,9 @@ pub fn surface_nets_lent(
             max[0],
             max[1],
             max[2],
-            max_plane,
+            max_plane.x,
+            max_plane.y,
+            max_plane.z,
             lent.positions.as_mut_ptr(),
             lent.positions.len(),
             lent.normals.as_mut_ptr(),

@@ -2,7 +2,7 @@
 //! library's own function gives other bits there, or the test could not see a guard that does nothing.
 #![cfg(any(target_arch = "x86_64", target_arch = "aarch64"))]
 
-use bed::{is_enclosed, raw, surface_nets_lent, Counts, Lent, Refusal};
+use bed::{is_enclosed, raw, surface_nets_lent, Counts, Lent, MaxPlane, Refusal};
 
 const SIDE: u32 = 6;
 const POINTS: usize = (SIDE as usize).pow(3);
@@ -82,7 +82,8 @@ fn call_in(environment: control::Word, guarded: bool, grid: &[f32]) -> Outcome {
     };
     let mesh = if guarded {
         |grid: &[f32], lent: &mut Lent| {
-            surface_nets_lent(grid, [SIDE; 3], [0; 3], [SIDE - 1; 3], true, lent)
+            let max = [SIDE - 1; 3];
+            surface_nets_lent(grid, [SIDE; 3], [0; 3], max, MaxPlane::ALL, lent)
         }
     } else {
         unguarded
@@ -119,6 +120,8 @@ fn unguarded(grid: &[f32], lent: &mut Lent) -> Result<Counts, Refusal> {
             SIDE - 1,
             SIDE - 1,
             SIDE - 1,
+            true,
+            true,
             true,
             lent.positions.as_mut_ptr(),
             lent.positions.len(),

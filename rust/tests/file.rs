@@ -1,7 +1,7 @@
 //! Mesh files through the wrapper: Ball there and back, cut at every length, and a refusal of each kind.
 
 use bed::{
-    check_mesh, file_len, read_mesh, surface_nets, write_mesh, FileCounts, FileRefusal,
+    check_mesh, file_len, read_mesh, surface_nets, write_mesh, FileCounts, FileRefusal, MaxPlane,
     SurfaceNetsBuffer,
 };
 
@@ -10,7 +10,7 @@ fn ball() -> SurfaceNetsBuffer {
     let mut sdf = [1.0; 27];
     sdf[13] = -1.0;
     let mut buffer = SurfaceNetsBuffer::default();
-    surface_nets(&sdf, [3; 3], [0; 3], [2; 3], false, &mut buffer).unwrap();
+    surface_nets(&sdf, [3; 3], [0; 3], [2; 3], MaxPlane::NONE, &mut buffer).unwrap();
     buffer
 }
 

@@ -2,8 +2,8 @@
 //! documentation, on refusals, and on a buffer that is used again.
 
 use bed::{
-    is_enclosed, surface_nets, surface_nets_lent, Counts, Lent, Refusal, SurfaceNetsBuffer,
-    NULL_VERTEX,
+    is_enclosed, surface_nets, surface_nets_lent, Counts, Lent, MaxPlane, Refusal,
+    SurfaceNetsBuffer, NULL_VERTEX,
 };
 use std::collections::HashMap;
 
@@ -19,14 +19,34 @@ fn ball() -> [f32; 27] {
     sdf
 }
 
-fn mesh_of(sdf: &[f32], max: [u32; 3], max_plane: bool) -> Result<SurfaceNetsBuffer, Refusal> {
+fn max_plane([x, y, z]: [bool; 3]) -> MaxPlane {
+    MaxPlane { x, y, z }
+}
+
+/// All eight, x, y, z.
+fn every_flags() -> impl Iterator<Item = [bool; 3]> {
+    (0..8).map(|word| [1, 2, 4].map(|bit| word & bit != 0))
+}
+
+/// The mesh of a box in a grid of dimensions 3, 3, 3.
+fn mesh_in(
+    sdf: &[f32],
+    min: [u32; 3],
+    max: [u32; 3],
+    max_plane: MaxPlane,
+) -> Result<SurfaceNetsBuffer, Refusal> {
     let mut buffer = SurfaceNetsBuffer::default();
-    surface_nets(sdf, [3; 3], [0; 3], max, max_plane, &mut buffer).map(|()| buffer)
+    surface_nets(sdf, [3; 3], min, max, max_plane, &mut buffer).map(|()| buffer)
+}
+
+/// The same without max plane, from the origin.
+fn mesh_of(sdf: &[f32], max: [u32; 3]) -> Result<SurfaceNetsBuffer, Refusal> {
+    mesh_in(sdf, [0; 3], max, MaxPlane::NONE)
 }
 
 #[test]
 fn ball_is_document_01s() {
-    let mesh = mesh_of(&ball(), [2; 3], false).unwrap();
+    let mesh = mesh_of(&ball(), [2; 3]).unwrap();
     assert_eq!(mesh.surface_strides, [0, 1, 3, 4, 9, 10, 12, 13]);
     assert_eq!(
         mesh.indices,
@@ -42,8 +62,53 @@ fn ball_is_document_01s() {
 
 #[test]
 fn max_plane_doubles_the_balls_faces() {
-    let mesh = mesh_of(&ball(), [2; 3], true).unwrap();
+    let mesh = mesh_in(&ball(), [0; 3], [2; 3], MaxPlane::ALL).unwrap();
     assert_eq!((mesh.positions.len(), mesh.indices.len()), (8, 36));
+}
+
+/// The cells of each face's six corners.
+fn faces(mesh: &SurfaceNetsBuffer) -> Vec<[[u32; 3]; 6]> {
+    let cell = |index: u32| mesh.surface_points[index as usize];
+    let of_face = |face: &[u32]| std::array::from_fn(|corner| cell(face[corner]));
+    mesh.indices.chunks_exact(6).map(of_face).collect()
+}
+
+/// The faces of Ball's three edges that end at max: each flag brings its own and no other, the last cells
+/// on its axis being those at 1.
+#[test]
+fn each_max_plane_brings_its_own_axis() {
+    for flags in every_flags() {
+        let mesh = mesh_in(&ball(), [0; 3], [2; 3], max_plane(flags)).unwrap();
+        let faces = faces(&mesh);
+        let at_max = |axis: usize| {
+            let last = |face: &[[u32; 3]; 6]| face.iter().all(|cell| cell[axis] == 1);
+            faces.iter().filter(|face| last(face)).count()
+        };
+        assert_eq!([0, 1, 2].map(at_max), flags.map(usize::from));
+        assert_eq!(faces.len(), 3 + flags.iter().filter(|&&on| on).count());
+    }
+}
+
+/// Ball cut on each axis at 0 and at 1: the lower piece with its flag off there and then, which doubles a
+/// face if it is on, with its flag kept.
+#[test]
+fn a_cut_neither_loses_nor_doubles_a_face() {
+    for flags in every_flags() {
+        let sorted_faces = |boxes: &[([u32; 3], [u32; 3], [bool; 3])]| {
+            let mesh = |&(min, max, flags)| mesh_in(&ball(), min, max, max_plane(flags)).unwrap();
+            let mut all: Vec<_> = boxes.iter().flat_map(|piece| faces(&mesh(piece))).collect();
+            all.sort();
+            all
+        };
+        let whole = sorted_faces(&[([0; 3], [2; 3], flags)]);
+        for (axis, k) in [(0, 0), (0, 1), (1, 0), (1, 1), (2, 0), (2, 1)] {
+            let (mut top, mut bottom, mut off) = ([2; 3], [0; 3], flags);
+            (top[axis], bottom[axis], off[axis]) = (k + 1, k, false);
+            let pieces = |lower| sorted_faces(&[([0; 3], top, lower), (bottom, [2; 3], flags)]);
+            assert_eq!(pieces(off), whole);
+            assert_eq!(pieces(flags) != whole, flags[axis]);
+        }
+    }
 }
 
 /// A 16^3 chunk with a border of one, holding one octant of a sphere of radius 15.
@@ -67,7 +132,7 @@ fn sphere_octant_lies_on_the_sphere() {
         [18; 3],
         [0; 3],
         [17; 3],
-        false,
+        MaxPlane::NONE,
         &mut buffer,
     )
     .unwrap();
@@ -88,7 +153,7 @@ fn sphere_octant_lies_on_the_sphere() {
 fn refusals_say_why() {
     let refused = |sdf: &[f32], dims, min, max| {
         let mut buffer = SurfaceNetsBuffer::default();
-        surface_nets(sdf, dims, min, max, false, &mut buffer).unwrap_err()
+        surface_nets(sdf, dims, min, max, MaxPlane::NONE, &mut buffer).unwrap_err()
     };
     let not_a_number = {
         let mut sdf = ball();
@@ -109,7 +174,7 @@ fn refusals_say_why() {
         refused(&not_a_number, [3; 3], [0; 3], [2; 3]),
         Refusal::Distance
     );
-    let longer = [ball(), vec![1.0]].concat();
+    let longer = [&ball()[..], &[1.0]].concat();
     assert_eq!(
         refused(&longer, [3; 3], [0; 3], [1; 3]),
         Refusal::GridLength
@@ -133,7 +198,8 @@ fn lent_slices_are_refused_or_keep_their_rest() {
             stride_to_index: &mut entries,
             indices: &mut faces,
         };
-        let answer = surface_nets_lent(&ball(), [3; 3], [0; 3], [2; 3], false, &mut lent);
+        let (dims, min, max) = ([3; 3], [0; 3], [2; 3]);
+        let answer = surface_nets_lent(&ball(), dims, min, max, MaxPlane::NONE, &mut lent);
         (answer, places, strides, entries, faces)
     };
     assert_eq!(mesh(24, 26, 18).0, Err(Refusal::MapShort));
@@ -160,16 +226,13 @@ fn lent_slices_are_refused_or_keep_their_rest() {
 fn a_reused_buffer_gives_the_same_mesh() {
     let mut buffer = SurfaceNetsBuffer::default();
     let mut mesh = |sdf: &[f32], dims, max| {
-        surface_nets(sdf, dims, [0; 3], max, false, &mut buffer).map(|()| buffer.clone())
+        surface_nets(sdf, dims, [0; 3], max, MaxPlane::NONE, &mut buffer).map(|()| buffer.clone())
     };
     let octant = mesh(&sphere_octant(), [18; 3], [17; 3]).unwrap();
     let small = mesh(&ball(), [3; 3], [2; 3]).unwrap();
     assert_eq!(small.stride_to_index.len(), 27);
     assert_eq!((small.positions.len(), small.indices.len()), (8, 18));
-    assert_eq!(
-        small.indices,
-        mesh_of(&ball(), [2; 3], false).unwrap().indices
-    );
+    assert_eq!(small.indices, mesh_of(&ball(), [2; 3]).unwrap().indices);
     let again = mesh(&sphere_octant(), [18; 3], [17; 3]).unwrap();
     assert_eq!(again.indices, octant.indices);
     assert_eq!(again.positions, octant.positions);
@@ -178,8 +241,8 @@ fn a_reused_buffer_gives_the_same_mesh() {
 
 #[test]
 fn entries_outside_the_box_are_kept_from_an_earlier_call() {
-    let mut buffer = mesh_of(&ball(), [2; 3], false).unwrap();
-    surface_nets(&ball(), [3; 3], [0; 3], [1; 3], false, &mut buffer).unwrap();
+    let mut buffer = mesh_of(&ball(), [2; 3]).unwrap();
+    surface_nets(&ball(), [3; 3], [0; 3], [1; 3], MaxPlane::NONE, &mut buffer).unwrap();
     assert_eq!(buffer.positions.len(), 1);
     assert_eq!(buffer.stride_to_index[0], 0);
     assert_eq!(buffer.stride_to_index[13], 7);
@@ -187,9 +250,10 @@ fn entries_outside_the_box_are_kept_from_an_earlier_call() {
 
 #[test]
 fn a_refused_call_leaves_the_buffer_as_it_was() {
-    let mut buffer = mesh_of(&ball(), [2; 3], false).unwrap();
+    let mut buffer = mesh_of(&ball(), [2; 3]).unwrap();
     let before = buffer.clone();
-    let refused = surface_nets(&[f32::NAN; 64], [4; 3], [0; 3], [3; 3], false, &mut buffer);
+    let (sdf, max) = ([f32::NAN; 64], [3; 3]);
+    let refused = surface_nets(&sdf, [4; 3], [0; 3], max, MaxPlane::NONE, &mut buffer);
     assert_eq!(refused, Err(Refusal::Distance));
     assert_eq!(buffer, before);
 }
@@ -215,9 +279,9 @@ fn an_enclosed_mesh_has_no_hole() {
     sdf[31] = -1.0;
     sdf[37] = -1.0;
     assert_eq!(is_enclosed(&sdf, [5; 3], [0; 3], [4; 3]), Ok(true));
-    for max_plane in [false, true] {
+    for flags in every_flags() {
         let mut mesh = SurfaceNetsBuffer::default();
-        surface_nets(&sdf, [5; 3], [0; 3], [4; 3], max_plane, &mut mesh).unwrap();
+        surface_nets(&sdf, [5; 3], [0; 3], [4; 3], max_plane(flags), &mut mesh).unwrap();
         let sides = sides(&mesh.indices);
         assert!(sides.values().any(|&often| often == 2));
         assert!(sides

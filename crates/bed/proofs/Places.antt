@@ -16,7 +16,7 @@ use Rattle.mesh_file.specs.Mesh.{Mesh, mesh, Held}
 use Rattle.mesh_file.specs.Writing.{writing, written}
 use Rattle.mesh_file.specs.Reading.{Bytes, readOf, checked, readingIn, filledIn}
 use Rattle.mesh_file.specs.declared.Read.{Read}
-use Rattle.bed.specs.Boundary.{extent, said}
+use Rattle.bed.specs.Boundary.{extent, planes, said}
 use Rattle.bed.proofs.bed_surface_nets.Kinds as nets-kinds
 use Rattle.bed.proofs.bed_surface_nets.Reads as nets
 use Rattle.bed.proofs.enclosed.bed_is_enclosed.Kinds as enclosed-kinds
@@ -37,16 +37,16 @@ pub record Called (n : ℕ) (ps : List (PK n)) (r : RK n) (Learnt : Out n ps r) 
   pub last : Lasts (endedOf n ps r) lifetimes args
   pub fits : Learnt lifetimes args result (atExit (endedOf n ps r) lifetimes args last)
 
--- ---- bed_surface_nets: sdf, dimensions, min, max, max plane, six lists, V, I
+-- ---- bed_surface_nets: sdf, dimensions, min, max, the max plane on each axis, six lists, V, I
 
 abbrev pub NetsCall : Type 0
 NetsCall = Called 9 nets-kinds.ps nets-kinds.r nets.Learnt
 
 pub surface-nets-by-place : (u : NetsCall)
-    → (let (sdf, (dx, (dy, (dz, (lx, (ly, (lz, (hx, (hy, (hz, (plane, (positions, (normals, (cells, (strides, (map, (indices, _))))))))))))))))) = u .args in
-    let (_, (_, (_, (_, (_, (_, (_, (_, (_, (_, (_, (_, (_, (_, (_, (_, (_, (v, (i, _))))))))))))))))))) = u .last in
+    → (let (sdf, (dx, (dy, (dz, (lx, (ly, (lz, (hx, (hy, (hz, (px, (py, (pz, (positions, (normals, (cells, (strides, (map, (indices, _))))))))))))))))))) = u .args in
+    let (_, (_, (_, (_, (_, (_, (_, (_, (_, (_, (_, (_, (_, (_, (_, (_, (_, (_, (_, (v, (i, _))))))))))))))))))))) = u .last in
     said (u .result) v i
-    ≡ answer (callMade (sdf .now) (extent dx dy dz) (extent lx ly lz) (extent hx hy hz) plane)
+    ≡ answer (callMade (sdf .now) (extent dx dy dz) (extent lx ly lz) (extent hx hy hz) (planes px py pz))
     (room (buffers (positions .now) (normals .now) (cells .now) (strides .now) (map .now) (indices .now))))
 surface-nets-by-place u = u .fits .0
 

@@ -6,8 +6,9 @@ ghost use mathlib.Core.Path.{_≡_};
 ghost use Rattle.rules.specs.Call.{answer, afterwards, room};
 ghost use Rattle.pass.specs.Reading.{buffers};
 ghost use Rattle.surface_nets.specs.Reading.{callMade, Binary32};
-ghost use Rattle.bed.specs.Boundary.{extent, said};
+ghost use Rattle.bed.specs.Boundary.{extent, planes, said};
 use grid::Extent;
+use grid::MaxPlane;
 
 // Document 01's call: the answer number, with V and I behind the last two.
 #[no_mangle]
@@ -22,7 +23,9 @@ pub extern "C" fn bed_surface_nets(
     max_x: u32,
     max_y: u32,
     max_z: u32,
-    max_plane: bool,
+    max_plane_x: bool,
+    max_plane_y: bool,
+    max_plane_z: bool,
     positions: &mut [f32],
     normals: &mut [f32],
     cells: &mut [u32],
@@ -32,8 +35,8 @@ pub extern "C" fn bed_surface_nets(
     vertex_count: &mut u64,
     index_count: &mut u64,
 ) -> u32
-    ensures { λ r. ⌜ said r (now («vertex_count» .exit)) (now («index_count» .exit)) ≡ answer (callMade (now (sdf .entry)) (extent «dim_x» «dim_y» «dim_z») (extent «min_x» «min_y» «min_z») (extent «max_x» «max_y» «max_z») «max_plane») (room (buffers (now (positions .entry)) (now (normals .entry)) (now (cells .entry)) (now (strides .entry)) (now («stride_to_index» .entry)) (now (indices .entry)))) ⌝ }
-    ensures { λ r. ⌜ buffers (now (positions .exit)) (now (normals .exit)) (now (cells .exit)) (now (strides .exit)) (now («stride_to_index» .exit)) (now (indices .exit)) ≡ afterwards (callMade (now (sdf .entry)) (extent «dim_x» «dim_y» «dim_z») (extent «min_x» «min_y» «min_z») (extent «max_x» «max_y» «max_z») «max_plane») (buffers (now (positions .entry)) (now (normals .entry)) (now (cells .entry)) (now (strides .entry)) (now («stride_to_index» .entry)) (now (indices .entry))) ⌝ }
+    ensures { λ r. ⌜ said r (now («vertex_count» .exit)) (now («index_count» .exit)) ≡ answer (callMade (now (sdf .entry)) (extent «dim_x» «dim_y» «dim_z») (extent «min_x» «min_y» «min_z») (extent «max_x» «max_y» «max_z») (planes «max_plane_x» «max_plane_y» «max_plane_z»)) (room (buffers (now (positions .entry)) (now (normals .entry)) (now (cells .entry)) (now (strides .entry)) (now («stride_to_index» .entry)) (now (indices .entry)))) ⌝ }
+    ensures { λ r. ⌜ buffers (now (positions .exit)) (now (normals .exit)) (now (cells .exit)) (now (strides .exit)) (now («stride_to_index» .exit)) (now (indices .exit)) ≡ afterwards (callMade (now (sdf .entry)) (extent «dim_x» «dim_y» «dim_z») (extent «min_x» «min_y» «min_z») (extent «max_x» «max_y» «max_z») (planes «max_plane_x» «max_plane_y» «max_plane_z»)) (buffers (now (positions .entry)) (now (normals .entry)) (now (cells .entry)) (now (strides .entry)) (now («stride_to_index» .entry)) (now (indices .entry))) ⌝ }
     ensures { λ r. ⌜ Binary32 (now (sdf .entry)) ⌝ }
 {
     let dims = Extent {
@@ -50,6 +53,11 @@ pub extern "C" fn bed_surface_nets(
         x: max_x,
         y: max_y,
         z: max_z,
+    };
+    let max_plane = MaxPlane {
+        x: max_plane_x,
+        y: max_plane_y,
+        z: max_plane_z,
     };
     let a = surface_nets::surface_nets(
         sdf,

@@ -11,7 +11,7 @@ pub(crate) struct Call {
     pub(crate) dims: Extent,
     pub(crate) low: Extent,
     pub(crate) high: Extent,
-    pub(crate) max_plane: bool,
+    pub(crate) max_plane: MaxPlane,
 }
 
 // How much of three of the lists is lent; the others are lent whole.
@@ -80,16 +80,12 @@ fn is_map_kept(list: &[u32], call: Call, number: u32) -> bool {
     let dims = call.dims;
     let low = call.low;
     let high = call.high;
-    let plane = call.max_plane;
+    let max_plane = call.max_plane;
     let k = Block {
         dims,
         low,
         high,
-        max_plane: MaxPlane {
-            x: plane,
-            y: plane,
-            z: plane,
-        },
+        max_plane,
     };
     marks::map_kept(list, k, MAP)
 }

@@ -9,6 +9,7 @@ use bench::Room;
 use bench::Show;
 use bench::case;
 use grid::Extent;
+use grid::MaxPlane;
 
 // Room for the largest mesh here, and three numbers to spare in each list.
 const AMPLE: Room = Room {
@@ -27,7 +28,7 @@ fn plain(dims: Extent, low: Extent, high: Extent) -> Call {
         dims,
         low,
         high,
-        max_plane: false,
+        max_plane: MaxPlane::NONE,
     }
 }
 
@@ -42,9 +43,12 @@ fn row_of(x: u32) -> Call {
 }
 
 fn with_plane() -> Call {
-    let mut whole = up_to(2, 2, 2);
-    whole.max_plane = true;
-    whole
+    Call {
+        dims: at(3, 3, 3),
+        low: at(0, 0, 0),
+        high: at(2, 2, 2),
+        max_plane: MaxPlane::ALL,
+    }
 }
 
 // A line with the counts, of any grid and of Ball.

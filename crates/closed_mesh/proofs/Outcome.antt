@@ -1,7 +1,6 @@
 -- An outcome of a function that fits its contract: what went in, and what came back and stands behind the parameters at exit. `Learnt` of a
 -- function's Reads is what a caller learns from the function's own `ensures`, so this is no copy of it. Definitions only. Assumes nothing.
 use Prim.Native.Nat.{ℕ}
-use mathlib.Core.Bool.{Bool}
 use mathlib.Core.List.{List}
 use contract.Lifetimes.{Lfts}
 use denote.Ref.{now}
@@ -11,11 +10,12 @@ use lib.Ieee.{Float}
 use Rattle.rules.specs.Grid.{Box, Field}
 use Rattle.rules.specs.Call.{Answer, Buffers}
 use Rattle.grid.specs.declared.Extent.{Extent}
+use Rattle.grid.specs.declared.MaxPlane.{MaxPlane}
 use Rattle.judge.specs.Reading.{answerOf}
 use Rattle.pass.specs.Reading.{buffers}
 use Rattle.skin.specs.declared.Enclosed.{Enclosed as Tested}
 use Rattle.skin.specs.Scan.{answers, gridOf, boxFrom}
-use Rattle.bed.specs.Boundary.{extent, said}
+use Rattle.bed.specs.Boundary.{extent, planes, said}
 use Rattle.surface_nets.proofs.surface_nets.Kinds as mesh-kinds
 use Rattle.surface_nets.proofs.surface_nets.Reads as mesh
 use Rattle.skin.proofs.is_enclosed.Kinds as test-kinds
@@ -60,7 +60,7 @@ module _ (o : Mesh) where
       let (sdf, (dims, (low, (high, _)))) = o .args in
       input (now sdf) dims low high
 
-  abbrev pub meshPlane : Bool
+  abbrev pub meshPlane : MaxPlane
   meshPlane = o .args .1 .1 .1 .1 .0
 
   abbrev pub meshAnswer : Answer
@@ -98,22 +98,22 @@ module _ (o : BedMesh) where
       let (sdf, (dx, (dy, (dz, (lx, (ly, (lz, (hx, (hy, (hz, _)))))))))) = o .args in
       input (now sdf) (extent dx dy dz) (extent lx ly lz) (extent hx hy hz)
 
-  abbrev pub bedMeshPlane : Bool
-  bedMeshPlane = o .args .1 .1 .1 .1 .1 .1 .1 .1 .1 .1 .0
+  abbrev pub bedMeshPlane : MaxPlane
+  bedMeshPlane = let (x, (y, (z, _))) = o .args .1 .1 .1 .1 .1 .1 .1 .1 .1 .1 in planes x y z
 
   abbrev pub bedMeshAnswer : Answer
   bedMeshAnswer =
-      let (_, (_, (_, (_, (_, (_, (_, (_, (_, (_, (_, (_, (_, (_, (_, (_, (_, (vertices, (indices, _))))))))))))))))))) = o .exit in
+      let (_, (_, (_, (_, (_, (_, (_, (_, (_, (_, (_, (_, (_, (_, (_, (_, (_, (_, (_, (vertices, (indices, _))))))))))))))))))))) = o .exit in
       said (o .result) (now vertices) (now indices)
 
   abbrev pub bedMeshEntry : Buffers
   bedMeshEntry =
-      let (_, (_, (_, (_, (_, (_, (_, (_, (_, (_, (_, (positions, (normals, (cells, (strides, (map, (indices, _))))))))))))))))) = o .args in
+      let (_, (_, (_, (_, (_, (_, (_, (_, (_, (_, (_, (_, (_, (positions, (normals, (cells, (strides, (map, (indices, _))))))))))))))))))) = o .args in
       buffers (now positions) (now normals) (now cells) (now strides) (now map) (now indices)
 
   abbrev pub bedMeshExit : Buffers
   bedMeshExit =
-      let (_, (_, (_, (_, (_, (_, (_, (_, (_, (_, (_, (positions, (normals, (cells, (strides, (map, (indices, _))))))))))))))))) = o .exit in
+      let (_, (_, (_, (_, (_, (_, (_, (_, (_, (_, (_, (_, (_, (positions, (normals, (cells, (strides, (map, (indices, _))))))))))))))))))) = o .exit in
       buffers (now positions) (now normals) (now cells) (now strides) (now map) (now indices)
 
 abbrev pub BedTest : Type 0

@@ -16,8 +16,11 @@ point e = record { x = e .x; y = e .y; z = e .z }
 abbrev pub boxOf : Block → Box
 boxOf k = record { low = point (k .low); high = point (k .high) }
 
+abbrev pub flags : MaxPlane → Flags
+flags m = record { x = m .x; y = m .y; z = m .z }
+
 abbrev pub flagsOf : Block → Flags
-flagsOf k = record { x = k .«max_plane» .x; y = k .«max_plane» .y; z = k .«max_plane» .z }
+flagsOf k = flags (k .«max_plane»)
 
 -- the distances of a grid of these numbers
 abbrev pub fieldOf : List Float → Block → Field

@@ -12,11 +12,25 @@ pub struct Extent {
     pub z: u32,
 }
 
-// The max plane, for each axis apart; document 01's yes/no sets all three.
+// The max plane, for each axis apart (document 02, request 4); document 01's yes/no is all three, or none.
 pub struct MaxPlane {
     pub x: bool,
     pub y: bool,
     pub z: bool,
+}
+
+impl MaxPlane {
+    pub const NONE: MaxPlane = MaxPlane {
+        x: false,
+        y: false,
+        z: false,
+    };
+
+    pub const ALL: MaxPlane = MaxPlane {
+        x: true,
+        y: true,
+        z: true,
+    };
 }
 
 // A box with its max plane in a grid of these dimensions.

@@ -1,7 +1,7 @@
 -- Document 01, "Cutting a box", of what the calls on the pieces have written, lent lists and all: whoever cuts a box that conditions 1 to 5 let pass, and
 -- calls once for each piece, with a map as long as the grid and room for the piece's own mesh, is answered 0 each time, and the faces read from
--- the lists of all the pieces are those of the whole, each once. For any flags, the lower piece's off on the cut axis; document 01's law is the case with
--- no max plane. From the laws of cutting and of what is read back. Assumes nothing.
+-- the lists of all the pieces are those of the whole, each once. For any flags (document 02, request 4): "on the cut axis the lower piece has its flag off and
+-- the upper keeps the whole's; on the other axes both keep the whole's". Document 01's law is the case with none. From the laws of cutting and of what is read back. Assumes nothing.
 use Prim.Native.Nat.{ℕ, _+_, _*_, _≤_}
 use mathlib.Core.Bool.{false}
 use mathlib.Core.List.{List, [], _∷_, _++_, map}
@@ -11,7 +11,7 @@ use lib.Ieee.{Float, nan}
 use lib.ListN.{length, getD}
 use Rattle.rules.specs.Lists.{one, many, joined}
 use Rattle.rules.specs.Grid.{GridPoint, Axis, Box, Field, along}
-use Rattle.rules.specs.Faces.{Edge, allThree, flag, gives, edges, changingEdges}
+use Rattle.rules.specs.Faces.{Edge, flag, gives, edges, changingEdges}
 use Rattle.rules.specs.Call.{Call, Room, Answer, room, answer, vertexCount, indexCount}
 use Rattle.rules.specs.Cutting.{Piece, Cuts, pieces, Fits, upperPiece, Face, faceOf}
 use Rattle.rules.proofs.Lists.{All, none, more, all-then, many-map, total, total-same, total-scaled, length-joined}
@@ -21,7 +21,7 @@ use Rattle.rules.proofs.Edges.{sameEdge, edges-once}
 use Rattle.rules.proofs.Seen.{seen, seen-is}
 use Rattle.rules.proofs.Cutting.{cut-law, last-upper}
 use Rattle.grid.specs.declared.Extent.{Extent}
-use Rattle.grid.specs.Block.{point}
+use Rattle.grid.specs.Block.{point, flags}
 use Rattle.judge.proofs.Judging.{room-enough}
 use Rattle.promises.specs.Served.{Served, Done, pieceOf, facesRead}
 use Rattle.promises.proofs.Runs.{Run, gridOf, dimsOf, lowOf, highOf, planeOf, served, BedRun, bedGrid, bedDims, bedLow, bedHigh, bedPlane, bedServed}
@@ -40,10 +40,6 @@ fieldIn grid dims = record { dims = point dims; dist = λ i. getD grid i nan }
 -- the call on a piece of this grid: its box, and its flags
 abbrev pub pieceCall : List Float → Extent → Piece → Call
 pieceCall grid dims q = record { grid = fieldIn grid dims; size = length grid; box = q .box; flags = q .flags }
-
--- a box with no max plane
-abbrev pub bare : Box → Piece
-bare b = record { box = b; flags = allThree false }
 
 -- the lent lists have room: the map for the grid, and the five other lists for V and I
 pub record HasRoom (c : Call) (r : Room) : Type 0 where
@@ -169,31 +165,31 @@ module _ {U : Type 0} (made : U → Served) (grid : List Float) (dims : Extent) 
       → (m : Meshed (upperPiece a k w)) → Done (made (m .run)) → facesRead (made (m .run)) ≡ []
   last-upper-read a k w l h f m d = piece-faces (upperPiece a k w) m d ∙ last-upper (fieldIn grid dims) a k w l h f
 
--- ---- of surface_nets, and of bed_surface_nets, with no max plane
+-- ---- of surface_nets, and of bed_surface_nets, with any flags
 
 -- the arguments that make a run a call on a piece
 pub run-asks : (u : Run) (grid : List Float) (dims : Extent) (q : Piece) → gridOf u ≡ grid → dimsOf u ≡ dims
-    → lowOf u ≡ extentOf (q .box .low) → highOf u ≡ extentOf (q .box .high) → allThree (planeOf u) ≡ q .flags → served u .call ≡ pieceCall grid dims q
+    → lowOf u ≡ extentOf (q .box .low) → highOf u ≡ extentOf (q .box .high) → flags (planeOf u) ≡ q .flags → served u .call ≡ pieceCall grid dims q
 run-asks u grid dims q g d l h f = λ i. record { grid = fieldIn (g i) (d i); size = length (g i); box = record { low = point (l i); high = point (h i) }; flags = f i }
 
 pub bed-run-asks : (u : BedRun) (grid : List Float) (dims : Extent) (q : Piece) → bedGrid u ≡ grid → bedDims u ≡ dims
-    → bedLow u ≡ extentOf (q .box .low) → bedHigh u ≡ extentOf (q .box .high) → allThree (bedPlane u) ≡ q .flags → bedServed u .call ≡ pieceCall grid dims q
+    → bedLow u ≡ extentOf (q .box .low) → bedHigh u ≡ extentOf (q .box .high) → flags (bedPlane u) ≡ q .flags → bedServed u .call ≡ pieceCall grid dims q
 bed-run-asks u grid dims q g d l h f = λ i. record { grid = fieldIn (g i) (d i); size = length (g i); box = record { low = point (l i); high = point (h i) }; flags = f i }
 
-pub surface-nets-cut : (grid : List Float) (dims : Extent) (t : Cuts) (b : Box) → Passing grid dims b → Fits t (bare b)
-    → (ms : All (Meshed {U = Run} served grid dims) (pieces t (bare b))) → CutMesh (fieldIn grid dims) (bare b) (outcomes served grid dims (pieces t (bare b)) ms)
-surface-nets-cut grid dims t b = cut-mesh served grid dims t (bare b)
+pub surface-nets-cut : (grid : List Float) (dims : Extent) (t : Cuts) (w : Piece) → Passing grid dims (w .box) → Fits t w
+    → (ms : All (Meshed {U = Run} served grid dims) (pieces t w)) → CutMesh (fieldIn grid dims) w (outcomes served grid dims (pieces t w) ms)
+surface-nets-cut grid dims = cut-mesh served grid dims
 
-pub surface-nets-cut-whole : (grid : List Float) (dims : Extent) (t : Cuts) (b : Box) → Passing grid dims b → Fits t (bare b)
-    → (ms : All (Meshed {U = Run} served grid dims) (pieces t (bare b))) (whole : Meshed {U = Run} served grid dims (bare b))
-    → Done (served (whole .run)) × Perm (joined facesRead (outcomes served grid dims (pieces t (bare b)) ms)) (facesRead (served (whole .run)))
-surface-nets-cut-whole grid dims t b = cut-mesh-whole served grid dims t (bare b)
+pub surface-nets-cut-whole : (grid : List Float) (dims : Extent) (t : Cuts) (w : Piece) → Passing grid dims (w .box) → Fits t w
+    → (ms : All (Meshed {U = Run} served grid dims) (pieces t w)) (whole : Meshed {U = Run} served grid dims w)
+    → Done (served (whole .run)) × Perm (joined facesRead (outcomes served grid dims (pieces t w) ms)) (facesRead (served (whole .run)))
+surface-nets-cut-whole grid dims = cut-mesh-whole served grid dims
 
-pub bed-surface-nets-cut : (grid : List Float) (dims : Extent) (t : Cuts) (b : Box) → Passing grid dims b → Fits t (bare b)
-    → (ms : All (Meshed {U = BedRun} bedServed grid dims) (pieces t (bare b))) → CutMesh (fieldIn grid dims) (bare b) (outcomes bedServed grid dims (pieces t (bare b)) ms)
-bed-surface-nets-cut grid dims t b = cut-mesh bedServed grid dims t (bare b)
+pub bed-surface-nets-cut : (grid : List Float) (dims : Extent) (t : Cuts) (w : Piece) → Passing grid dims (w .box) → Fits t w
+    → (ms : All (Meshed {U = BedRun} bedServed grid dims) (pieces t w)) → CutMesh (fieldIn grid dims) w (outcomes bedServed grid dims (pieces t w) ms)
+bed-surface-nets-cut grid dims = cut-mesh bedServed grid dims
 
-pub bed-surface-nets-cut-whole : (grid : List Float) (dims : Extent) (t : Cuts) (b : Box) → Passing grid dims b → Fits t (bare b)
-    → (ms : All (Meshed {U = BedRun} bedServed grid dims) (pieces t (bare b))) (whole : Meshed {U = BedRun} bedServed grid dims (bare b))
-    → Done (bedServed (whole .run)) × Perm (joined facesRead (outcomes bedServed grid dims (pieces t (bare b)) ms)) (facesRead (bedServed (whole .run)))
-bed-surface-nets-cut-whole grid dims t b = cut-mesh-whole bedServed grid dims t (bare b)
+pub bed-surface-nets-cut-whole : (grid : List Float) (dims : Extent) (t : Cuts) (w : Piece) → Passing grid dims (w .box) → Fits t w
+    → (ms : All (Meshed {U = BedRun} bedServed grid dims) (pieces t w)) (whole : Meshed {U = BedRun} bedServed grid dims w)
+    → Done (bedServed (whole .run)) × Perm (joined facesRead (outcomes bedServed grid dims (pieces t w) ms)) (facesRead (bedServed (whole .run)))
+bed-surface-nets-cut-whole grid dims = cut-mesh-whole bedServed grid dims

@@ -19,7 +19,7 @@ use Rattle.grid.specs.declared.Extent.{Extent}
 use Rattle.promises.specs.Served.{Served, verticesRead}
 use Rattle.promises.proofs.Runs.{Run, served, BedRun, bedServed}
 use Rattle.promises.proofs.ReadBack.{vertices-back}
-use Rattle.promises.proofs.CutMesh.{fieldIn, bare, Passing, Meshed, piece-done}
+use Rattle.promises.proofs.CutMesh.{fieldIn, Passing, Meshed, piece-done}
 
 -- the vertices whose cell is of the layer k on an axis
 abbrev pub inLayer : Axis → ℕ → List Vertex → List Vertex
@@ -53,15 +53,15 @@ module _ {U : Type 0} (made : U → Served) (grid : List Float) (dims : Extent) 
     pub cut-vertices-whole : (whole : Meshed made grid dims w) → Perm (bothRead lower upper) (verticesRead (made (whole .run)) ++ inLayer a k (verticesRead (made (whole .run))))
     cut-vertices-whole whole = rw (piece-vertices w whole ok) cut-vertices
 
--- ---- of surface_nets, and of bed_surface_nets, with no max plane
+-- ---- of surface_nets, and of bed_surface_nets
 
-module _ (grid : List Float) (dims : Extent) (a : Axis) (k : ℕ) (b : Box) (ok : Passing grid dims b) (l : along a (b .low) ≤ k) (h : k < along a (b .high)) where
-  pub surface-nets-cut-vertices : (lower : Meshed {U = Run} served grid dims (lowerPiece a k (bare b)))
-      → (upper : Meshed {U = Run} served grid dims (upperPiece a k (bare b))) (whole : Meshed {U = Run} served grid dims (bare b))
+module _ (grid : List Float) (dims : Extent) (a : Axis) (k : ℕ) (w : Piece) (ok : Passing grid dims (w .box)) (l : along a (w .box .low) ≤ k) (h : k < along a (w .box .high)) where
+  pub surface-nets-cut-vertices : (lower : Meshed {U = Run} served grid dims (lowerPiece a k w))
+      → (upper : Meshed {U = Run} served grid dims (upperPiece a k w)) (whole : Meshed {U = Run} served grid dims w)
       → Perm (bothRead served grid dims lower upper) (verticesRead (served (whole .run)) ++ inLayer a k (verticesRead (served (whole .run))))
-  surface-nets-cut-vertices = cut-vertices-whole served grid dims a k (bare b) ok l h
+  surface-nets-cut-vertices = cut-vertices-whole served grid dims a k w ok l h
 
-  pub bed-surface-nets-cut-vertices : (lower : Meshed {U = BedRun} bedServed grid dims (lowerPiece a k (bare b)))
-      → (upper : Meshed {U = BedRun} bedServed grid dims (upperPiece a k (bare b))) (whole : Meshed {U = BedRun} bedServed grid dims (bare b))
+  pub bed-surface-nets-cut-vertices : (lower : Meshed {U = BedRun} bedServed grid dims (lowerPiece a k w))
+      → (upper : Meshed {U = BedRun} bedServed grid dims (upperPiece a k w)) (whole : Meshed {U = BedRun} bedServed grid dims w)
       → Perm (bothRead bedServed grid dims lower upper) (verticesRead (bedServed (whole .run)) ++ inLayer a k (verticesRead (bedServed (whole .run))))
-  bed-surface-nets-cut-vertices = cut-vertices-whole bedServed grid dims a k (bare b) ok l h
+  bed-surface-nets-cut-vertices = cut-vertices-whole bedServed grid dims a k w ok l h

@@ -1,18 +1,17 @@
 -- Document 01, "The answer and all that is written depend on the dimensions, box, max plane, all lengths, the grid's included, and the distances
 -- inside the box. Distances outside the box and the map's old numbers never matter": of two calls that were made. Assumes nothing.
 use Prim.Native.Nat.{_<_}
-use mathlib.Core.Bool.{Bool}
 use mathlib.Core.List.{List}
 use mathlib.Core.Path.{_≡_, sym, ap, ap₂, _∙_}
 use lib.Dec.{T}
 use lib.Ieee.{Float, nan}
 use lib.ListN.{length, getD}
 use Rattle.rules.specs.Grid.{GridPoint, index, inBox}
-use Rattle.rules.specs.Faces.{allThree}
 use Rattle.rules.specs.Call.{Call, Buffers, room, answer, afterwards}
 use Rattle.rules.proofs.Locality.{Alike, SameWritten, answer-local, local}
 use Rattle.grid.specs.declared.Extent.{Extent}
-use Rattle.grid.specs.Block.{point}
+use Rattle.grid.specs.declared.MaxPlane.{MaxPlane}
+use Rattle.grid.specs.Block.{point, flags}
 use Rattle.surface_nets.specs.Reading.{callMade}
 use Rattle.promises.specs.Served.{Served, Done}
 use Rattle.promises.proofs.Runs.{Run, gridOf, dimsOf, lowOf, highOf, planeOf, served, BedRun, bedGrid, bedDims, bedLow, bedHigh, bedPlane, bedServed}
@@ -30,7 +29,7 @@ module _ (u u' : Served) (same : Alike (u .call) (u' .call)) (rooms : room (u .b
   same-written d = rw (u .left, u' .left) (local (u .call) (u' .call) (u .before) (u' .before) same rooms (rw (← u .answered) d))
 
 -- by the arguments: grids of one length that have the same distance at each point of the box within the dimensions, and all else the same
-module _ (grid grid' : List Float) {dims dims' low low' high high' : Extent} {plane plane' : Bool} where
+module _ (grid grid' : List Float) {dims dims' low low' high high' : Extent} {plane plane' : MaxPlane} where
   pub calls-alike : dims ≡ dims' → low ≡ low' → high ≡ high' → plane ≡ plane' → length grid ≡ length grid'
       → ((p : GridPoint) → T (inBox (callMade grid dims low high plane .box) p) → (p .x < dims .x) × (p .y < dims .y) × (p .z < dims .z)
       → getD grid (index (point dims) p) nan ≡ getD grid' (index (point dims) p) nan)
@@ -40,7 +39,7 @@ module _ (grid grid' : List Float) {dims dims' low low' high high' : Extent} {pl
         dims = ap point d;
         size = s;
         box = λ i. record { low = point (l i); high = point (h i) };
-        flags = λ i. allThree (m i);
+        flags = λ i. flags (m i);
         distances = λ p t w. v p t w ∙ ap (λ (e : Extent). getD grid' (index (point e) p) nan) d;
       }
 

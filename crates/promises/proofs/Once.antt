@@ -166,5 +166,5 @@ bed-surface-nets-once κs a o o' l l' =
     λ i.
     record {
       result = s i .number;
-      last = (tt, (tt, (tt, (tt, (tt, (tt, (tt, (tt, (tt, (tt, (tt, (b i .positions, (b i .normals, (b i .cells, (b i .strides, (b i .map, (b i .indices, (s i .vertices, (s i .indices, tt)))))))))))))))))));
+      last = (tt, (tt, (tt, (tt, (tt, (tt, (tt, (tt, (tt, (tt, (tt, (tt, (tt, (b i .positions, (b i .normals, (b i .cells, (b i .strides, (b i .map, (b i .indices, (s i .vertices, (s i .indices, tt)))))))))))))))))))));
     }

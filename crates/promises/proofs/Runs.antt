@@ -1,15 +1,15 @@
 -- The calls of surface_nets, and of bed_surface_nets, with an outcome that fits the contract: each is a call of document 01 with what came of
 -- it. The two contracts say one thing. Assumes nothing.
-use mathlib.Core.Bool.{Bool}
 use mathlib.Core.List.{List}
 use lib.Ieee.{Float}
 use contract.Lifetimes.{Lfts}
 use borrow.Fn.Kinds.{Dens}
 use Rattle.grid.specs.declared.Extent.{Extent}
+use Rattle.grid.specs.declared.MaxPlane.{MaxPlane}
 use Rattle.judge.specs.Reading.{answerOf}
 use Rattle.pass.specs.Reading.{buffers}
 use Rattle.surface_nets.specs.Reading.{callMade}
-use Rattle.bed.specs.Boundary.{extent, said}
+use Rattle.bed.specs.Boundary.{extent, planes, said}
 use Rattle.promises.specs.Served.{Served}
 use Rattle.promises.proofs.OneOutcome.{Outcome, FitsContract}
 use Rattle.surface_nets.proofs.surface_nets.Kinds as surface-nets-kinds
@@ -39,7 +39,7 @@ lowOf u = u .args .1 .1 .0
 abbrev pub highOf : Run → Extent
 highOf u = u .args .1 .1 .1 .0
 
-abbrev pub planeOf : Run → Bool
+abbrev pub planeOf : Run → MaxPlane
 planeOf u = u .args .1 .1 .1 .1 .0
 
 abbrev pub served : Run → Served
@@ -77,14 +77,14 @@ bedLow u = let n = u .args .1 .1 .1 .1 in extent (n .0) (n .1 .0) (n .1 .1 .0)
 abbrev pub bedHigh : BedRun → Extent
 bedHigh u = let n = u .args .1 .1 .1 .1 .1 .1 .1 in extent (n .0) (n .1 .0) (n .1 .1 .0)
 
-abbrev pub bedPlane : BedRun → Bool
-bedPlane u = u .args .1 .1 .1 .1 .1 .1 .1 .1 .1 .1 .0
+abbrev pub bedPlane : BedRun → MaxPlane
+bedPlane u = let n = u .args .1 .1 .1 .1 .1 .1 .1 .1 .1 .1 in planes (n .0) (n .1 .0) (n .1 .1 .0)
 
 -- V and I stand behind the last two parameters
 abbrev pub bedServed : BedRun → Served
 bedServed u =
-    let lent = u .args .1 .1 .1 .1 .1 .1 .1 .1 .1 .1 .1 in
-    let last = u .outcome .last .1 .1 .1 .1 .1 .1 .1 .1 .1 .1 .1 in
+    let lent = u .args .1 .1 .1 .1 .1 .1 .1 .1 .1 .1 .1 .1 .1 in
+    let last = u .outcome .last .1 .1 .1 .1 .1 .1 .1 .1 .1 .1 .1 .1 .1 in
     record {
       call = callMade (bedGrid u) (bedDims u) (bedLow u) (bedHigh u) (bedPlane u);
       before = buffers (lent .0 .now) (lent .1 .0 .now) (lent .1 .1 .0 .now) (lent .1 .1 .1 .0 .now) (lent .1 .1 .1 .1 .0 .now) (lent .1 .1 .1 .1 .1 .0 .now);

@@ -1,6 +1,7 @@
 // A stored call, read from an open file: what is asked, and what it must answer.
 use crate::list::read;
 use grid::Extent;
+use grid::MaxPlane;
 use marks::stored::word;
 
 // What stands before the distances; `grid` is their number.
@@ -8,7 +9,7 @@ pub(crate) struct Asked {
     pub(crate) dims: Extent,
     pub(crate) low: Extent,
     pub(crate) high: Extent,
-    pub(crate) max_plane: bool,
+    pub(crate) max_plane: MaxPlane,
     pub(crate) grid: usize,
 }
 
@@ -25,7 +26,7 @@ pub(crate) struct Expected {
     pub(crate) index_count: u32,
 }
 
-// Malformed: a max plane that is neither 0 nor 1, or a list that is too long.
+// Malformed: a max plane that is above 7, or a list that is too long.
 pub(crate) enum Head {
     Call(Asked),
     Cut,
@@ -50,12 +51,21 @@ fn corner(head: &[u8], x: usize, y: usize, z: usize) -> Extent {
     }
 }
 
+// 1 for x, 2 for y and 4 for z.
+fn plane(word: u32) -> MaxPlane {
+    MaxPlane {
+        x: word % 2 == 1,
+        y: word / 2 % 2 == 1,
+        z: word / 4 % 2 == 1,
+    }
+}
+
 fn asked_in(head: &[u8]) -> Asked {
     Asked {
         dims: corner(head, 0, 1, 2),
         low: corner(head, 3, 4, 5),
         high: corner(head, 6, 7, 8),
-        max_plane: word(head, 9) == 1,
+        max_plane: plane(word(head, 9)),
         grid: word(head, 10) as usize,
     }
 }
@@ -65,7 +75,7 @@ pub(crate) fn read_head(fd: i32) -> Head {
     if !read(fd, 11, &mut head) {
         return Head::Cut;
     }
-    if 1 < word(&head, 9) {
+    if 7 < word(&head, 9) {
         return Head::Malformed;
     }
     if LONGEST_GRID < word(&head, 10) {

@@ -17,9 +17,10 @@ use Rattle.rules.specs.Lists.{run, upTo, keep, many, some, joined, place
 use Rattle.rules.specs.Grid.{GridPoint, axisX, axisY, Field, index}
 use Rattle.rules.specs.Cell.{Vector, zero32, one32, squaredDistance, fraction, pointBetween, crossingPoint, crossingPoints, summed, crossings, centroid, position, normal}
 use Rattle.rules.specs.Vertices.{rowCells, layerCells, cells, layerVertices, vertices, firstVertex, vertexPosition, vertexNormal, cellEntry, mapEntry}
-use Rattle.rules.specs.Faces.{Edge, allThree, owned, changes, cellEdges, layerEdges, edges, cell1, cell2, cell3, cell4, shorter, faceCells, layerIndices, indices, layerPoints, points, changingEdges}
+use Rattle.rules.specs.Faces.{Edge, edge, allThree, owned, changes, cellEdges, layerEdges, edges, cell1, cell2, cell3, cell4, shorter, faceCells, layerIndices, indices, layerPoints, points, changingEdges}
 use Rattle.rules.specs.Call.{Call, Buffers, room, Answer, badDimensions, badBox, badLength, beyond, badLayer, badDistance, roomAnswer, answer, written, afterwards}
-use Rattle.rules.specs.Cutting.{Piece, Cuts, uncut, cut, pieces, Fits}
+use Rattle.rules.specs.Cutting.{Piece, Cuts, uncut, cut, lowerPiece, upperPiece, pieces, Fits}
+use Rattle.rules.proofs.Edges.{sameEdge}
 
 -- ---- what a case asks for
 
@@ -112,6 +113,16 @@ whole dist = threes dist lowest (point 2 2 2)
 abbrev pub wholePlane : (ℕ → Float) → Call
 wholePlane dist = calls (point 3 3 3) 27 dist lowest (point 2 2 2) true
 
+-- Ball, with a flag for each axis
+abbrev flagged : Bool → Bool → Bool → Call
+flagged x y z =
+    record {
+      grid = record { dims = point 3 3 3; dist = ball };
+      size = 27;
+      box = record { low = lowest; high = point 2 2 2 };
+      flags = record { x = x; y = y; z = z };
+    }
+
 -- ---- the lent lists
 
 -- the bits of -5.0
@@ -181,6 +192,15 @@ cases =
     ∷ case (whole ball) roomy (positionOf 1) (0x3F955555 ∷ 0x3F555555 ∷ 0x3F555555 ∷ [])
     -- "Ball with max plane"
     ∷ answers (wholePlane ball) roomy 0 8 36
+    -- document 02, request 4: a face more for each axis with its flag
+    ∷ answers (flagged false false false) roomy 0 8 18
+    ∷ answers (flagged true false false) roomy 0 8 24
+    ∷ answers (flagged false true false) roomy 0 8 24
+    ∷ answers (flagged false false true) roomy 0 8 24
+    ∷ answers (flagged true true false) roomy 0 8 30
+    ∷ answers (flagged true false true) roomy 0 8 30
+    ∷ answers (flagged false true true) roomy 0 8 30
+    ∷ answers (flagged true true true) roomy 0 8 36
     -- "All 1.0, and Ball with -0.0 at the middle"
     ∷ answers (whole ones) roomy 0 0 0
     ∷ answers (whole (with 13 (fin true 0 (pos 0)) ones)) roomy 0 0 0
@@ -339,3 +359,21 @@ cut-fits = omega arith
 pub cut-case : (map faceNumber (pieces cutTwice cutWhole) ≡ 4 ∷ 3 ∷ 4 ∷ []) × (faceNumber cutWhole ≡ 11)
 unfolding opened
 cut-case = (refl, refl)
+
+-- ---- the flags of a cut: Ball with all three, cut on x at 0. The lower piece has its flag off on x; if it kept it, the face of the x edge at (0,1,1) would come twice
+
+abbrev ballPiece : Piece
+ballPiece = record { box = record { low = lowest; high = point 2 2 2 }; flags = allThree true }
+
+abbrev keptFlag : Piece
+keptFlag = record { box = lowerPiece axisX 0 ballPiece .box; flags = allThree true }
+
+abbrev ballEdges : Piece → List Edge
+ballEdges q = edges (record { dims = point 3 3 3; dist = ball }) (q .box) (q .flags)
+
+pub flags-cut :
+    (map (λ (q : Piece). length (ballEdges q)) (ballPiece ∷ lowerPiece axisX 0 ballPiece ∷ upperPiece axisX 0 ballPiece ∷ []) ≡ 6 ∷ 0 ∷ 6 ∷ [])
+    × (ballEdges keptFlag ≡ edge axisX (point 0 1 1) ∷ [])
+    × (many (sameEdge (edge axisX (point 0 1 1))) (ballEdges keptFlag ++ ballEdges (upperPiece axisX 0 ballPiece)) ≡ 2)
+unfolding opened
+flags-cut = (refl, refl, refl)

@@ -11,6 +11,7 @@ pub mod Edges
 pub mod Numbers
 pub mod Shown
 pub mod Ownership
+pub mod OneFlag
 pub mod Seen
 pub mod Cutting
 pub mod Twice

@@ -18,7 +18,7 @@ pub fn surface_nets(
     dims: Extent,
     low: Extent,
     high: Extent,
-    max_plane: bool,
+    max_plane: MaxPlane,
     positions: &mut [f32],
     normals: &mut [f32],
     cells: &mut [u32],
@@ -34,11 +34,7 @@ pub fn surface_nets(
         dims,
         low,
         high,
-        max_plane: MaxPlane {
-            x: max_plane,
-            y: max_plane,
-            z: max_plane,
-        },
+        max_plane,
     };
     let room = Lengths {
         positions: positions.len(),

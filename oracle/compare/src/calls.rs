@@ -2,7 +2,7 @@
 
 use crate::fields::Field;
 use crate::random::Random;
-use oracle::call::{Call, Room};
+use oracle::call::{Call, MaxPlane, Room};
 use oracle::expected::room_needed;
 
 /// A call that owns its grid.
@@ -12,7 +12,7 @@ pub struct OwnCall {
     pub dims: [u32; 3],
     pub min: [u32; 3],
     pub max: [u32; 3],
-    pub max_plane: bool,
+    pub max_plane: MaxPlane,
 }
 
 impl OwnCall {
@@ -47,6 +47,12 @@ pub fn accepted(random: &mut Random, field: &Field, longest: u32) -> OwnCall {
     in_dimensions(random, field, dims)
 }
 
+/// Any of the eight; all and none, where the Rust decides, twice as often as each other.
+pub fn some_flags(random: &mut Random) -> MaxPlane {
+    let word = random.pick(&[0, 0, 1, 2, 3, 4, 5, 6, 7, 7]);
+    MaxPlane::of_word(word).expect("it is 0 to 7")
+}
+
 /// Mostly three and more, so that faces come up; one and two on an axis now and then.
 fn some_dimension(random: &mut Random, longest: u32) -> u32 {
     let shortest = if random.one_in(8) { 1 } else { 3 };
@@ -61,7 +67,7 @@ pub fn in_dimensions(random: &mut Random, field: &Field, dims: [u32; 3]) -> OwnC
         dims,
         min,
         max,
-        max_plane: random.one_in(2),
+        max_plane: some_flags(random),
     };
     let length: u64 = dims.iter().map(|&dim| dim as u64).product();
     call.grid = vec![0.0; length as usize];

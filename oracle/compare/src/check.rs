@@ -88,7 +88,7 @@ impl Checker {
         }
         println!("DIFFERENT: {difference}");
         println!(
-            "    dimensions {:?}, box {:?} to {:?}, max plane {}, grid of {}, {room:?}",
+            "    dimensions {:?}, box {:?} to {:?}, {:?}, grid of {}, {room:?}",
             call.dims,
             call.min,
             call.max,

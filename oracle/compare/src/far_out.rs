@@ -4,6 +4,7 @@
 //! both maps are made once and used for all calls: the library's map and the Rust's start equal and
 //! must stay equal over their whole length.
 
+use crate::calls::some_flags;
 use crate::check::old_contents;
 use crate::fields::FIELDS;
 use crate::library;
@@ -59,7 +60,7 @@ fn far_box(random: &mut Random, axis: usize) -> Call<'static> {
         dims,
         min,
         max: dims.map(|dim| dim - 1),
-        max_plane: random.one_in(2),
+        max_plane: some_flags(random),
     }
 }
 

@@ -10,7 +10,7 @@ pub struct Field {
 }
 
 impl Field {
-    /// Fills a grid of these dimensions, x innermost. A grid longer than they ask is filled to its end.
+    /// Fills a grid of these dimensions, x innermost.
     pub fn fill(&self, random: &mut Random, dims: [u32; 3], grid: &mut [f32]) {
         (self.make)(random, dims, grid);
     }

@@ -13,6 +13,7 @@ pub fn run(call: &Call, lent: Lent<&mut [u32]>) -> Verdict {
         max,
         max_plane,
     } = *call;
+    let [x, y, z] = max_plane.0;
     let (mut vertices, mut indices) = (u64::MAX - 5, u64::MAX - 7);
     // SAFETY: each pointer and length come from one slice; the lent slices are borrowed apart from
     // each other; u32 and f32 have the same size and alignment and no invalid bit pattern.
@@ -29,7 +30,9 @@ pub fn run(call: &Call, lent: Lent<&mut [u32]>) -> Verdict {
             max[0],
             max[1],
             max[2],
-            max_plane,
+            x,
+            y,
+            z,
             lent.positions.as_mut_ptr().cast(),
             lent.positions.len(),
             lent.normals.as_mut_ptr().cast(),

@@ -1,13 +1,14 @@
 //! Compares the proved library with the published Rust at scale, bit for bit.
 //!
-//! `compare FOLDER` replays the stored answers of the folder and then makes calls of its own. These are
-//! made with a fixed seed, so that two runs make the same calls. Exit status 0: all calls agreed,
+//! `compare FOLDER` replays the stored answers of the folder, makes calls of its own, and cuts boxes of its
+//! own. These are made with fixed seeds, so that two runs make the same calls. Exit status 0: all calls agreed,
 //! enough were made, and each thing that must come up came up. Exit status 1: not so.
 //!
 //! `compare skin` counts the directed triangle sides of meshes instead (document 02, request 8).
 
 mod calls;
 mod check;
+mod cutting;
 mod far_out;
 mod fields;
 mod guarded;
@@ -62,7 +63,8 @@ fn main() -> ExitCode {
         false
     });
     let calls_agree = compare_at_scale();
-    if stored_agree && calls_agree {
+    let cuts_agree = cutting::run();
+    if stored_agree && calls_agree && cuts_agree {
         println!("ALL AGREE");
         ExitCode::SUCCESS
     } else {
@@ -207,6 +209,7 @@ impl Run {
 
     fn verdict(&self) -> bool {
         self.all.print("all calls");
+        println!("    the model's faces for all max planes and for none are the Rust's on each accepted call");
         let missing = self.all.missing();
         let enough = self.all.accepted() >= ENOUGH && self.all.refused() >= ENOUGH;
         if !missing.is_empty() {

@@ -1,6 +1,6 @@
 //! All 256 sign patterns of one cell, each with many sizes of distance.
 
-use crate::calls::OwnCall;
+use crate::calls::{some_flags, OwnCall};
 use crate::random::Random;
 
 /// How many sizes each pattern is tried with.
@@ -21,7 +21,7 @@ pub fn cell(random: &mut Random, pattern: u32, size: u32) -> OwnCall {
         dims: [2; 3],
         min: [0; 3],
         max: [1; 3],
-        max_plane: random.one_in(2),
+        max_plane: some_flags(random),
     }
 }
 

@@ -3,7 +3,7 @@
 //! Nothing here says what the answer should be: the model decides, and a spoiled call that is still
 //! accepted is compared like any other.
 
-use crate::calls::{accepted, some_room, OwnCall};
+use crate::calls::{accepted, some_flags, some_room, OwnCall};
 use crate::fields::FIELDS;
 use crate::random::Random;
 use oracle::call::Room;
@@ -131,7 +131,8 @@ fn grid_one_long(_: &mut Random, call: &mut OwnCall, _: &mut Room) {
 /// Longer by a row, a layer or anything, with a map that is long enough for it or not.
 fn grid_far_too_long(random: &mut Random, call: &mut OwnCall, room: &mut Room) {
     let [row, column, _] = call.dims.map(|dim| dim as u64);
-    let more = random.pick(&[row, row * column, random.between(1, 40)]);
+    let anything = random.between(1, 40);
+    let more = random.pick(&[row, row * column, anything]);
     call.grid.resize(call.grid.len() + more as usize, -1.0);
     room.map = random.pick(&[room.map, call.grid.len()]);
 }
@@ -245,7 +246,7 @@ pub fn near_origin(random: &mut Random, dims: [u32; 3]) -> OwnCall {
         dims,
         min: [0; 3],
         max,
-        max_plane: random.one_in(2),
+        max_plane: some_flags(random),
     };
     call.grid.iter_mut().for_each(|d| *d = random.signed(1.0));
     call

@@ -9,10 +9,11 @@ use crate::calls::{accepted, OwnCall};
 use crate::fields::FIELDS;
 use crate::random::Random;
 use crate::refused::{near_origin, spoiled, LIMITS, SPOILS};
+use crate::wrapper::wrapped;
 use bed::raw::bed_is_enclosed;
 use bed::{surface_nets, SurfaceNetsBuffer};
 use grids::{closed, Break, AT_MAX, AT_MIN, BEFORE_MAX, BREAKS};
-use oracle::call::Call;
+use oracle::call::{Call, MaxPlane};
 use oracle::enclosed::{enclosed, pairs, Enclosed};
 use oracle::published::Mesh;
 use sides::{face_sides, sides};
@@ -78,7 +79,7 @@ struct Tally {
 }
 
 /// Grids with the premise broken in one way, and those of them whose mesh has an unmatched side, without
-/// and with the max plane.
+/// and with max plane on all axes.
 #[derive(Default)]
 struct Broken {
     grids: u64,
@@ -90,7 +91,7 @@ impl Run {
         self.wrong += 1;
         if self.wrong <= 5 {
             println!(
-                "WRONG: {what}; dimensions {:?}, box {:?} to {:?}, max plane {}",
+                "WRONG: {what}; dimensions {:?}, box {:?} to {:?}, {:?}",
                 call.dims, call.min, call.max, call.max_plane
             );
         }
@@ -138,7 +139,7 @@ impl Run {
             }
         }
         println!(
-            "closed grids: {}, {} with a face, each meshed by both without and with max plane",
+            "closed grids: {}, {} with a face, each meshed by both with each of the eight max planes",
             tally.grids, tally.with_face
         );
         println!(
@@ -163,13 +164,13 @@ impl Run {
 
     fn count_closed(&mut self, call: &OwnCall, tally: &mut Tally) {
         tally.grids += 1;
-        for max_plane in [false, true] {
+        for max_plane in MaxPlane::every() {
             let call = with_plane(call, max_plane);
             let (unmatched, mut list) = self.unmatched(&call);
             if unmatched {
                 self.fail(&call, "a closed grid's mesh has an unmatched side");
             }
-            if max_plane || list.is_empty() {
+            if max_plane != MaxPlane::NONE || list.is_empty() {
                 continue;
             }
             let counted = sides(&list);
@@ -194,9 +195,9 @@ impl Run {
         if self.tested(&call).enclosed {
             self.fail(&call, "a broken premise goes unnoticed");
         }
-        for max_plane in [false, true] {
+        for (place, max_plane) in [MaxPlane::NONE, MaxPlane::ALL].into_iter().enumerate() {
             let (unmatched, _) = self.unmatched(&with_plane(&call, max_plane));
-            broken.unmatched[usize::from(max_plane)] += u64::from(unmatched);
+            broken.unmatched[place] += u64::from(unmatched);
         }
     }
 
@@ -249,7 +250,7 @@ impl Run {
     }
 }
 
-fn with_plane(call: &OwnCall, max_plane: bool) -> OwnCall {
+fn with_plane(call: &OwnCall, max_plane: MaxPlane) -> OwnCall {
     OwnCall {
         max_plane,
         ..call.clone()
@@ -302,7 +303,7 @@ impl Meshes {
             call.dims,
             call.min,
             call.max,
-            call.max_plane,
+            wrapped(call.max_plane),
             &mut self.proved,
         )
         .expect("the call is accepted");

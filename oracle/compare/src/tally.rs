@@ -9,6 +9,8 @@ use oracle::published::Mesh;
 pub struct Tally {
     pub answers: [u64; 8],
     pub with_face: u64,
+    /// Accepted calls with a face, by their flags' word.
+    pub flags: [u64; 8],
     pub vertices: u64,
     pub indices: u64,
     pub ties: u64,
@@ -36,6 +38,7 @@ impl Tally {
             return;
         }
         self.with_face += u64::from(verdict.indices > 0);
+        self.flags[call.max_plane.word() as usize] += u64::from(verdict.indices > 0);
         self.vertices += verdict.vertices;
         self.indices += verdict.indices;
         for face in mesh.indices.chunks_exact(6) {
@@ -70,6 +73,7 @@ impl Tally {
             mine.iter_mut().zip(theirs).for_each(|(a, b)| *a += b);
         };
         sum(&mut self.answers, &other.answers);
+        sum(&mut self.flags, &other.flags);
         sum(&mut self.branches, &other.branches);
         sum(&mut self.crossings, &other.crossings);
         self.with_face += other.with_face;
@@ -110,6 +114,10 @@ impl Tally {
             "    tied diagonals {}; v1-v4 taken: p1 negative {a}, not {b}; v2-v3 taken: p1 negative {c}, not {d}",
             self.ties
         );
+        println!(
+            "    calls with a face by max plane, 1 for x, 2 for y, 4 for z: {:?}",
+            self.flags
+        );
         println!("    vertices by crossings {}", crossings.join(", "));
     }
 
@@ -128,6 +136,7 @@ impl Tally {
             ("tied diagonals".to_string(), self.ties),
         ];
         totals.extend(named("answer", &self.answers));
+        totals.extend(named("max plane", &self.flags));
         totals.extend(named("branch", &self.branches));
         let by_crossings =
             POSSIBLE_CROSSINGS.map(|n| (format!("crossings {n}"), self.crossings[n]));

@@ -7,7 +7,8 @@ use crate::calls::accepted;
 use crate::fields::FIELDS;
 use crate::random::Random;
 use crate::tally::Tally;
-use bed::{surface_nets, SurfaceNetsBuffer};
+use bed::{surface_nets, MaxPlane, SurfaceNetsBuffer};
+use oracle::call;
 use oracle::expected::room_needed;
 use oracle::model::verdict;
 use oracle::published::Mesh;
@@ -27,7 +28,7 @@ pub fn run(tally: &mut Tally, random: &mut Random) {
             call.dims,
             call.min,
             call.max,
-            call.max_plane,
+            wrapped(call.max_plane),
             &mut buffer,
         );
         let room = room_needed(&view).expect("the call is accepted with enough room");
@@ -36,6 +37,11 @@ pub fn run(tally: &mut Tally, random: &mut Random) {
             tally.differing += 1;
         }
     }
+}
+
+/// The flags as the wrapper takes them.
+pub fn wrapped(call::MaxPlane([x, y, z]): call::MaxPlane) -> MaxPlane {
+    MaxPlane { x, y, z }
 }
 
 fn same(buffer: &SurfaceNetsBuffer, mesh: &Mesh) -> bool {

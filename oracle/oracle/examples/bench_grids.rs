@@ -3,7 +3,7 @@
 //!
 //!     cargo run --release --offline --package oracle --example bench_grids
 
-use oracle::call::{Call, Room};
+use oracle::call::{Call, MaxPlane, Room};
 use oracle::expected::{outcome, Contents};
 use oracle::model::{Verdict, DISTANCE_LIMIT};
 use oracle::published::Mesh;
@@ -23,7 +23,7 @@ struct Bench {
     dims: [u32; 3],
     min: [u32; 3],
     max: [u32; 3],
-    max_plane: bool,
+    max_plane: MaxPlane,
     room: Room,
 }
 
@@ -34,7 +34,7 @@ impl Bench {
             dims: [dims; 3],
             min: [0; 3],
             max: [dims - 1; 3],
-            max_plane: false,
+            max_plane: MaxPlane::NONE,
             room: Room {
                 positions: 27,
                 normals: 27,
@@ -120,7 +120,7 @@ fn main() {
     let ball = Bench::new(3, ball_with(13, -1.0));
     let grid = |grid: Vec<f32>| ball.with(|b| b.grid = grid.clone());
     let to = |max: [u32; 3]| ball.with(|b| b.max = max);
-    let plane = |b: &Bench| b.with(|b| b.max_plane = true);
+    let plane = |b: &Bench| b.with(|b| b.max_plane = MaxPlane::ALL);
     ball.print("Ball", Show::Mesh);
     plane(&ball).print("Ball with max plane", Show::Counts);
     grid(ball_with(13, 1.0)).print("All 1.0", Show::Counts);

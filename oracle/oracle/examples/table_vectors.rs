@@ -6,10 +6,10 @@
 //!
 //! A face's squared distances are those of its four positions, which the Rust gives, by document 01's formula.
 
-use oracle::call::Call;
+use oracle::call::{Call, MaxPlane};
 use oracle::published::Mesh;
 
-fn run(dims: u32, grid: &[f32], max_plane: bool) -> Mesh {
+fn run(dims: u32, grid: &[f32], max_plane: MaxPlane) -> Mesh {
     let mut mesh = Mesh {
         stride_to_index: vec![77; grid.len()],
         ..Mesh::default()
@@ -99,7 +99,7 @@ fn cells_of_edge_order(cells: &[[f32; 8]]) {
     for corners in cells {
         cell(*corners);
         assert_eq!(
-            run(2, corners, false).positions[0].map(f32::to_bits),
+            run(2, corners, MaxPlane::NONE).positions[0].map(f32::to_bits),
             centroid(corners, &CUBE_EDGES)
         );
         seen |= exchanges_seen(corners);
@@ -112,7 +112,7 @@ fn cells_of_edge_order(cells: &[[f32; 8]]) {
 
 /// One cell: its vertex.
 fn cell(corners: [f32; 8]) {
-    let mesh = run(2, &corners, false);
+    let mesh = run(2, &corners, MaxPlane::NONE);
     let (position, normal) = (bits(&mesh.positions[0]), bits(&mesh.normals[0]));
     println!("cell {corners:?}: position {position}, normal {normal}");
 }
@@ -142,7 +142,7 @@ fn four(mesh: &Mesh, face: &[u32]) -> [u32; 4] {
 }
 
 /// A grid of dimensions 3, 3, 3: the index list and, face by face, the squared distances v1-v4 and v2-v3.
-fn grid(name: &str, grid: &[f32], max_plane: bool) {
+fn grid(name: &str, grid: &[f32], max_plane: MaxPlane) {
     let mesh = run(3, grid, max_plane);
     println!(
         "{name}: V {}, I {}",
@@ -175,7 +175,7 @@ fn one_point(name: &str, min: [u32; 3], max: [u32; 3]) {
         dims: [4; 3],
         min,
         max,
-        max_plane: false,
+        max_plane: MaxPlane::NONE,
     });
     println!(
         "{name}: V {}, I {}",
@@ -208,18 +208,23 @@ fn main() {
         [3.0, 0.0, -3.0, -3.0, 1.0, 3.0, 1.0, -2.0],
     ]);
     let ball = signs(1 << 13);
-    grid("Ball", &ball, false);
-    grid("Ball with max plane", &ball, true);
+    for max_plane in MaxPlane::every() {
+        grid(
+            &format!("Ball with flags {}", max_plane.word()),
+            &ball,
+            max_plane,
+        );
+    }
     for pattern in [0x0A09214, 0x0166401, 0x2015] {
         grid(
             &format!("signs {pattern:#09x} with max plane"),
             &signs(pattern),
-            true,
+            MaxPlane::ALL,
         );
     }
     one_point("One point, whole", [0; 3], [3; 3]);
     one_point("One point, lower piece", [0; 3], [2, 3, 3]);
     one_point("One point, upper piece", [1, 0, 0], [3; 3]);
-    let outside = run(2, &[1.0; 8], false);
+    let outside = run(2, &[1.0; 8], MaxPlane::NONE);
     println!("a cell with no vertex: map {}", outside.stride_to_index[0]);
 }

@@ -7,7 +7,46 @@ pub struct Call<'a> {
     pub dims: [u32; 3],
     pub min: [u32; 3],
     pub max: [u32; 3],
-    pub max_plane: bool,
+    pub max_plane: MaxPlane,
+}
+
+impl Call<'_> {
+    /// The same call with other flags.
+    pub fn with(self, max_plane: MaxPlane) -> Self {
+        Self { max_plane, ..self }
+    }
+}
+
+/// The yes or no of each axis, x, y, z: whether faces are also made of edges along it that end on the box's
+/// max side.
+#[derive(Clone, Copy, Debug, PartialEq, Eq)]
+pub struct MaxPlane(pub [bool; 3]);
+
+impl MaxPlane {
+    /// Document 01's two cases: without max plane, and with it.
+    pub const NONE: Self = Self([false; 3]);
+    pub const ALL: Self = Self([true; 3]);
+
+    /// As one word: 1 for x, 2 for y and 4 for z.
+    pub fn word(self) -> u32 {
+        let [x, y, z] = self.0.map(u32::from);
+        x + 2 * y + 4 * z
+    }
+
+    /// The flags of a word, which is 0 to 7.
+    pub fn of_word(word: u32) -> Option<Self> {
+        (word <= 7).then_some(Self([1, 2, 4].map(|bit| word & bit != 0)))
+    }
+
+    /// All eight, in the order of their words.
+    pub fn every() -> impl Iterator<Item = Self> {
+        (0..8).filter_map(Self::of_word)
+    }
+
+    /// Whether they are one or two, which the Rust has no word for.
+    pub fn is_mixed(self) -> bool {
+        self != Self::NONE && self != Self::ALL
+    }
 }
 
 /// One number for each of the six lent buffers, or one thing of a kind for each.

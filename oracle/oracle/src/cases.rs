@@ -1,10 +1,11 @@
 //! The calls whose answers are stored: document 01's bench grids, each of its conditions and easy
-//! slips, and the smallest inputs on which other orders of the same arithmetic give other bits.
+//! slips, the smallest inputs on which other orders of the same arithmetic give other bits, and one and two
+//! max planes.
 
 mod meshes;
 mod refusals;
 
-use crate::call::{Call, Room};
+use crate::call::{Call, MaxPlane, Room};
 use crate::expected::room_needed;
 use crate::model::DISTANCE_LIMIT;
 
@@ -16,7 +17,7 @@ pub struct Case {
     pub dims: [u32; 3],
     pub min: [u32; 3],
     pub max: [u32; 3],
-    pub max_plane: bool,
+    pub max_plane: MaxPlane,
     pub room: Room,
 }
 
@@ -33,6 +34,7 @@ pub fn all() -> Vec<Case> {
         meshes::rounding_slips(),
         meshes::crossings_of_one_cell(),
         meshes::signs_with_and_without_max_plane(),
+        meshes::one_and_two_max_planes(),
         meshes::boxes_inside_a_spoiled_grid(),
         meshes::kinds_of_distances(),
         meshes::flat_boxes(),
@@ -64,7 +66,7 @@ impl Case {
             dims,
             min: [0; 3],
             max: dims.map(|dim| dim.saturating_sub(1)),
-            max_plane: false,
+            max_plane: MaxPlane::NONE,
             room: Room::default(),
         }
         .with_spare_room(3)
@@ -79,8 +81,12 @@ impl Case {
         self.with_spare_room(3)
     }
 
-    fn with_max_plane(mut self) -> Self {
-        self.max_plane = true;
+    fn with_max_plane(self) -> Self {
+        self.with_flags(MaxPlane::ALL)
+    }
+
+    fn with_flags(mut self, max_plane: MaxPlane) -> Self {
+        self.max_plane = max_plane;
         self.with_spare_room(3)
     }
 

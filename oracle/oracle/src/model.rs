@@ -1,4 +1,4 @@
-//! A plain model of the refusals: the answer number, V and I of any call.
+//! A plain model of the refusals: the answer number, V and I of any call, with a max plane for each axis apart.
 //!
 //! Written from document 01's table and its sections on cells and faces, by other code than the
 //! Rust's: faces are counted over the edges of the box and not over its surface cells, and every
@@ -104,7 +104,7 @@ pub fn distance(call: &Call, point: [u32; 3]) -> f32 {
     call.grid[index(call, point) as usize]
 }
 
-fn negative(call: &Call, point: [u32; 3]) -> bool {
+pub(crate) fn negative(call: &Call, point: [u32; 3]) -> bool {
     distance(call, point) < 0.0
 }
 
@@ -154,14 +154,19 @@ pub fn crossings(corners: &[f32; 8]) -> usize {
         .count()
 }
 
-/// Six indices for each owned edge with exactly one negative end.
+/// Six indices for each face.
 fn index_count(call: &Call) -> u64 {
-    let faces = (0..3).map(|axis| {
+    6 * face_count(call)
+}
+
+/// One face for each owned edge with exactly one negative end.
+pub fn face_count(call: &Call) -> u64 {
+    let along = |axis: usize| {
         cells(call)
             .filter(|&p1| owned(call, axis, p1) && changes_sign(call, axis, p1))
             .count() as u64
-    });
-    6 * faces.sum::<u64>()
+    };
+    (0..3).map(along).sum()
 }
 
 /// Whether the box owns the edge along `axis` from p1, the lowest corner of one of its cells.
@@ -169,10 +174,11 @@ pub(crate) fn owned(call: &Call, axis: usize, p1: [u32; 3]) -> bool {
     let above_min = |other: usize| p1[other] > call.min[other];
     above_min((axis + 1) % 3)
         && above_min((axis + 2) % 3)
-        && (call.max_plane || p1[axis] != call.max[axis] - 1)
+        && (call.max_plane.0[axis] || p1[axis] != call.max[axis] - 1)
 }
 
-fn changes_sign(call: &Call, axis: usize, p1: [u32; 3]) -> bool {
+/// Whether exactly one end of the edge along `axis` from p1 is negative.
+pub(crate) fn changes_sign(call: &Call, axis: usize, p1: [u32; 3]) -> bool {
     let mut p2 = p1;
     p2[axis] += 1;
     negative(call, p1) != negative(call, p2)

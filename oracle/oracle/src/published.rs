@@ -1,6 +1,7 @@
-//! Runs the published Rust on a call, in the build that fits its max plane.
+//! Runs the published Rust on a call, and beside it the plain model of the faces.
 
-use crate::call::Call;
+use crate::call::{Call, MaxPlane};
+use crate::faces::{index_list, Vertices};
 use ndshape::RuntimeShape;
 
 /// The Rust's buffers after a call, in the Rust's own shapes.
@@ -15,14 +16,51 @@ pub struct Mesh {
 }
 
 impl Mesh {
-    /// Runs the Rust over this mesh, as a caller who reuses a buffer does. `stride_to_index` holds the
-    /// old numbers before and the new ones after.
+    /// Runs the Rust over this mesh, as a caller who reuses a buffer does, on an accepted call.
+    /// `stride_to_index` holds the old numbers before and the new ones after.
+    ///
+    /// Both builds are run, and the model must make the index list of each. The list is then that of the
+    /// build that fits the call's flags, or, for one or two of them, the model's.
+    ///
+    /// # Panics
+    ///
+    /// If the model's list for all flags or for none is not the Rust's.
     pub fn run(&mut self, call: &Call) {
-        if call.max_plane {
-            self.run_with_max_plane(call);
-        } else {
-            self.run_without_max_plane(call);
-        }
+        self.run_with_max_plane(call);
+        let all = self.agreed(&call.with(MaxPlane::ALL));
+        self.run_without_max_plane(call);
+        let none = self.agreed(&call.with(MaxPlane::NONE));
+        self.indices = match call.max_plane {
+            MaxPlane::ALL => all,
+            MaxPlane::NONE => none,
+            _ => self.modelled(call),
+        };
+    }
+
+    /// Runs the Rust without max plane and nothing beside it, on a call that may be a bad one.
+    pub fn run_alone(&mut self, call: &Call) {
+        self.run_without_max_plane(call);
+    }
+
+    fn modelled(&self, call: &Call) -> Vec<u32> {
+        let vertices = Vertices {
+            cells: &self.surface_points,
+            positions: &self.positions,
+        };
+        index_list(call, vertices)
+    }
+
+    /// The Rust's list, which the model must make too.
+    fn agreed(&mut self, call: &Call) -> Vec<u32> {
+        assert!(
+            self.modelled(call) == self.indices,
+            "the model makes other faces than the Rust: dimensions {:?}, box {:?} to {:?}, {:?}",
+            call.dims,
+            call.min,
+            call.max,
+            call.max_plane
+        );
+        std::mem::take(&mut self.indices)
     }
 }
 

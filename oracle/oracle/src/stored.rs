@@ -4,7 +4,7 @@
 //! buffers' old contents need no storage, since a rule makes them. `README.md` beside the stored files
 //! gives the layout.
 
-use crate::call::{Call, Lent, Room};
+use crate::call::{Call, Lent, MaxPlane, Room};
 use crate::expected::{outcome, Contents};
 use crate::model::Verdict;
 use crate::published::Mesh;
@@ -16,7 +16,7 @@ pub struct StoredCall {
     pub dims: [u32; 3],
     pub min: [u32; 3],
     pub max: [u32; 3],
-    pub max_plane: bool,
+    pub max_plane: MaxPlane,
     pub verdict: Verdict,
     pub after: [Vec<u32>; 6],
 }
@@ -63,7 +63,7 @@ impl StoredCall {
         for corner in [self.dims, self.min, self.max] {
             words.extend(corner);
         }
-        words.push(u32::from(self.max_plane));
+        words.push(self.max_plane.word());
         words.push(length_word(&self.grid));
         words.extend(&self.grid);
         words.extend(self.after.iter().map(|buffer| length_word(buffer)));
@@ -77,7 +77,7 @@ impl StoredCall {
         let dims = three(words)?;
         let min = three(words)?;
         let max = three(words)?;
-        let max_plane = words.next()? == 1;
+        let max_plane = MaxPlane::of_word(words.next()?)?;
         let length = words.next()?;
         let grid = run(words, length)?;
         let lengths = run(words, 6)?;
@@ -109,7 +109,7 @@ pub fn to_bytes(calls: &[StoredCall]) -> Vec<u8> {
     words.iter().flat_map(|word| word.to_le_bytes()).collect()
 }
 
-/// The calls of a file, or nothing where it is cut short or has words left over.
+/// The calls of a file, or nothing where it is cut short, has words left over or a max plane above 7.
 pub fn from_bytes(bytes: &[u8]) -> Option<Vec<StoredCall>> {
     let mut words = bytes
         .chunks_exact(4)

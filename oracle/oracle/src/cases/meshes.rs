@@ -2,6 +2,7 @@
 //! make, and small meshes of every kind of distance.
 
 use super::{signs, Case};
+use crate::call::MaxPlane;
 use crate::model::DISTANCE_LIMIT;
 
 pub fn rounding_slips() -> Vec<Case> {
@@ -68,6 +69,24 @@ pub fn signs_with_and_without_max_plane() -> Vec<Case> {
         [case.clone(), case.with_max_plane().with_exact_room()]
     };
     patterns.map(both).concat()
+}
+
+/// Document 02, request 4: flags that are neither all nor none. Ball, three axes of other lengths with exact
+/// room, a box that ends before its grid does, and room for one index too few.
+pub fn one_and_two_max_planes() -> Vec<Case> {
+    let group = "one and two max planes";
+    let mixed = || MaxPlane::every().filter(|flags| flags.is_mixed());
+    let of_lengths = || Case::new(group, [5, 4, 3], signs(0x07B4_D85A_3C96_F10E, 60));
+    let inside = || Case::new(group, [4, 5, 4], signs(0x3C96_F10E_27B4_D85A, 80));
+    let mut cases = Vec::new();
+    cases.extend(mixed().map(|flags| Case::ball(group).with_flags(flags)));
+    cases.extend(mixed().map(|flags| of_lengths().with_flags(flags).with_exact_room()));
+    cases.extend(mixed().map(|flags| inside().with_box([1; 3], [3, 4, 3]).with_flags(flags)));
+    cases.extend(mixed().map(|flags| {
+        let ball = Case::ball(group).with_flags(flags).with_exact_room();
+        ball.with_room(|room| room.indices -= 1)
+    }));
+    cases
 }
 
 /// Boxes in the middle of a grid whose points outside are not-a-number or too large.

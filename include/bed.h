@@ -306,6 +306,65 @@ uint32_t bed_read_mesh(
 uint32_t bed_check_mesh(
     const uint8_t *file, size_t file_len,
     uint64_t *vertex_count, uint64_t *triangle_count);
+/* Fixtures: rakes, weirs and whatever else stands in a tank, cut out of a grid of distances before it is
+ * meshed. The library opens no file; the bytes are lent, as everything else is.
+ *
+ * A fixture file is records of 32 bytes without a header, each of eight 32-bit words, the lowest byte first.
+ * The first word is the kind. 1, a box: words two to seven are the bits of six floats, low x, y, z and then
+ * high x, y, z, in grid coordinates. 2, a union, 3, an intersection, or 4, a difference: word two is the
+ * count of members, which follow one after the other. All other words are zero. A member is a box or a
+ * group with its own members; the file is one solid, nested at most 8 deep, a lone box being 1.
+ *
+ * The value of a box at a point is the largest of low minus point and point minus high over the axes, so
+ * that it is below zero inside; a box with low above high is none the less one. The value of a union is
+ * the least of its members' values, of an intersection the greatest, of a difference the greater of the
+ * first and the negated second. The order of comparing is that of the records, and of two equal values
+ * the first stands, which shows where zeros of both signs meet. */
+
+/* What cutting fixtures answers. BED_DONE, BED_BAD_DIMENSIONS and BED_GRID_SHORT are as in bed_answer, but
+ * that BED_GRID_SHORT is given whenever the grid's length is not the product of the dimensions; those
+ * two are tried first. Then the first faulty record in file order answers, in one record the lowest
+ * number, and BED_FIXTURE_AFTER comes last of all. On every answer but BED_DONE nothing is changed. */
+enum bed_fixture_answer {
+    /* A record is needed and the file has fewer than 32 bytes left: it was cut off, or is empty. */
+    BED_FIXTURE_CUT = 51,
+    /* A record is of no known kind. */
+    BED_FIXTURE_KIND = 52,
+    /* A record lies deeper than 8. */
+    BED_FIXTURE_DEEP = 53,
+    /* A group's count is 0, or a difference's is not 2, or a word that should be zero is not. */
+    BED_FIXTURE_WORD = 54,
+    /* A float of a box is not finite or is above 2^24 in magnitude. */
+    BED_FIXTURE_FLOAT = 55,
+    /* Bytes follow the solid. */
+    BED_FIXTURE_AFTER = 56
+};
+
+/* Cuts the solid of a fixture file out of a grid of distances.
+ *
+ * In:
+ *   file             the bytes of the file, all of them and no more.
+ *   dim_x .. dim_z   the grid's dimensions, in points, as in bed_surface_nets.
+ *
+ * Lent for reading and writing:
+ *   sdf              the distances, x innermost, exactly dim_x * dim_y * dim_z of them.
+ *
+ * What is written on BED_DONE: each point whose distance is below the negated value of the solid there takes
+ * that negated value. Every other point keeps its bits, one that is not a number too. The whole file is
+ * checked before the first point is written. Cutting a second time with the same file changes nothing.
+ * A distance that bed_surface_nets takes stays one: the solid's value is finite and at most 2^25 in
+ * magnitude.
+ *
+ * The time taken is that of reading the file's records once for each point. A count larger than the file
+ * costs nothing: reading stops at the first fault.
+ *
+ * The file and the grid may not overlap. Pointers are aligned for their type; a pointer may be null only
+ * where its length is 0.
+ */
+uint32_t bed_cut_fixtures(
+    const uint8_t *file, size_t file_len,
+    uint32_t dim_x, uint32_t dim_y, uint32_t dim_z,
+    float *sdf, size_t sdf_len);
 
 #ifdef __cplusplus
 }

@@ -106,4 +106,19 @@ extern "C" {
         vertex_count: *mut u64,
         triangle_count: *mut u64,
     ) -> u32;
+
+    /// Cuts the solid of a fixture file out of a grid and returns the answer number: 0, 1, 3 or 51 to 56.
+    ///
+    /// # Safety
+    ///
+    /// As for [`bed_surface_nets`].
+    pub fn bed_cut_fixtures(
+        file: *const u8,
+        file_len: usize,
+        dim_x: u32,
+        dim_y: u32,
+        dim_z: u32,
+        sdf: *mut f32,
+        sdf_len: usize,
+    ) -> u32;
 }

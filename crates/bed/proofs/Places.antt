@@ -9,6 +9,7 @@ use contract.Lifetimes.{Lfts}
 use denote.Triple.Clauses.{Lasts, atExit}
 use borrow.Fn.Kinds.{PK, RK, Out, Dens, resT, endedOf}
 use Rattle.rules.specs.Call.{answer, room}
+use Rattle.grid.specs.Block.{point}
 use Rattle.pass.specs.Reading.{buffers}
 use Rattle.surface_nets.specs.Reading.{callMade}
 use Rattle.skin.specs.Scan.{answers, examined}
@@ -16,6 +17,7 @@ use Rattle.mesh_file.specs.Mesh.{Mesh, mesh, Held}
 use Rattle.mesh_file.specs.Writing.{writing, written}
 use Rattle.mesh_file.specs.Reading.{Bytes, readOf, checked, readingIn, filledIn}
 use Rattle.mesh_file.specs.declared.Read.{Read}
+use Rattle.fixtures.specs.Cut.{cutAnswer, cutGrid}
 use Rattle.bed.specs.Boundary.{extent, planes, said}
 use Rattle.bed.proofs.bed_surface_nets.Kinds as nets-kinds
 use Rattle.bed.proofs.bed_surface_nets.Reads as nets
@@ -27,6 +29,8 @@ use Rattle.bed.proofs.files.bed_read_mesh.Kinds as read-kinds
 use Rattle.bed.proofs.files.bed_read_mesh.Reads as read
 use Rattle.bed.proofs.files.bed_check_mesh.Kinds as check-kinds
 use Rattle.bed.proofs.files.bed_check_mesh.Reads as check
+use Rattle.bed.proofs.cut.bed_cut_fixtures.Kinds as cut-kinds
+use Rattle.bed.proofs.cut.bed_cut_fixtures.Reads as cut
 
 -- a call of a function and what it leaves: the result, and behind each `&mut` the value that it has last. `Learnt` of a function's Reads is what a
 -- caller learns from the function's own `ensures`, so this is no copy of it.
@@ -131,3 +135,14 @@ module _ (u : CheckCall) where
       × ((countsChecked .triangles ≡ checked (readOf fileChecked) .triangles)
       × Bytes fileChecked))
   check-by-place = u .fits
+
+-- ---- bed_cut_fixtures: the file, dimensions, the grid
+
+abbrev pub CutCall : Type 0
+CutCall = Called 2 cut-kinds.ps cut-kinds.r cut.Learnt
+
+pub cut-fixtures-by-place : (u : CutCall)
+    → (let (file, (dx, (dy, (dz, (sdf, _))))) = u .args in
+    let (_, (_, (_, (_, (left, _))))) = u .last in
+    (u .result ≡ cutAnswer (file .now) (point (extent dx dy dz)) (length (sdf .now))) × (left ≡ cutGrid (file .now) (point (extent dx dy dz)) (sdf .now)))
+cut-fixtures-by-place u = u .fits

@@ -1,0 +1,109 @@
+//! Fixtures cut out of a grid: the file and the grid are lent, and nothing is opened or allocated.
+
+use crate::environment::DefaultEnvironment;
+use crate::raw::bed_cut_fixtures;
+use std::fmt;
+
+/// Why fixtures were not cut out: the answers 1, 3 and 51 to 56. A refused call changes nothing.
+#[derive(Clone, Copy, Debug, PartialEq, Eq)]
+pub enum FixtureRefusal {
+    /// 1: a dimension is 0 or above 16,777,217, or their product is above 1,073,741,824.
+    Dimensions,
+    /// 3: the grid's length is not the product of the dimensions.
+    GridLength,
+    /// 51: a record is needed and the file has fewer than 32 bytes left: it was cut off, or is empty.
+    Cut,
+    /// 52: a record is of no known kind.
+    Kind,
+    /// 53: a record lies deeper than 8.
+    Deep,
+    /// 54: a group's count is 0, or a difference's is not 2, or a word that should be zero is not.
+    Word,
+    /// 55: a float of a box is not finite or is above 2^24 in magnitude.
+    Float,
+    /// 56: bytes follow the solid.
+    After,
+}
+
+impl FixtureRefusal {
+    /// The answer number: 1, 3 or 51 to 56.
+    pub fn number(self) -> u32 {
+        match self {
+            FixtureRefusal::Dimensions => 1,
+            FixtureRefusal::GridLength => 3,
+            FixtureRefusal::Cut => 51,
+            FixtureRefusal::Kind => 52,
+            FixtureRefusal::Deep => 53,
+            FixtureRefusal::Word => 54,
+            FixtureRefusal::Float => 55,
+            FixtureRefusal::After => 56,
+        }
+    }
+
+    /// What an answer number says: done, or the refusal.
+    fn of(answer: u32) -> Result<(), FixtureRefusal> {
+        match answer {
+            0 => Ok(()),
+            1 => Err(FixtureRefusal::Dimensions),
+            3 => Err(FixtureRefusal::GridLength),
+            51 => Err(FixtureRefusal::Cut),
+            52 => Err(FixtureRefusal::Kind),
+            53 => Err(FixtureRefusal::Deep),
+            54 => Err(FixtureRefusal::Word),
+            55 => Err(FixtureRefusal::Float),
+            56 => Err(FixtureRefusal::After),
+            _ => unreachable!("the library answers 0, 1, 3 or 51 to 56"),
+        }
+    }
+}
+
+impl fmt::Display for FixtureRefusal {
+    fn fmt(&self, out: &mut fmt::Formatter) -> fmt::Result {
+        out.write_str(match self {
+            FixtureRefusal::Dimensions => {
+                "a dimension is 0 or above 16777217, or the product of the dimensions is above 1073741824"
+            }
+            FixtureRefusal::GridLength => "the grid's length is not the product of the dimensions",
+            FixtureRefusal::Cut => "the fixture file is cut off",
+            FixtureRefusal::Kind => "a record is of no known kind",
+            FixtureRefusal::Deep => "a record lies deeper than 8",
+            FixtureRefusal::Word => "a count is wrong, or a word that should be zero is not",
+            FixtureRefusal::Float => "a float is not finite or is above 2^24 in magnitude",
+            FixtureRefusal::After => "bytes follow the solid",
+        })
+    }
+}
+
+impl std::error::Error for FixtureRefusal {}
+
+/// Cuts the solid of a fixture file out of a grid with the given dimensions, x innermost.
+///
+/// A point whose distance is below the negated value of the solid there takes that negated value; every
+/// other point keeps its bits. The grid's length is exactly the product of the dimensions. A refused call
+/// changes nothing, and a second call with the same file neither.
+///
+/// ```
+/// // One box, low (1, 1, 1) and high (2, 2, 2), out of a bed that is full.
+/// let words = [1, 1f32.to_bits(), 1f32.to_bits(), 1f32.to_bits(), 2f32.to_bits(), 2f32.to_bits(), 2f32.to_bits(), 0];
+/// let file: Vec<u8> = words.iter().flat_map(|word: &u32| word.to_le_bytes()).collect();
+/// let mut sdf = [-0.75; 64];
+/// bed::cut_fixtures(&file, [4; 3], &mut sdf).unwrap();
+/// assert_eq!((sdf[0], sdf[21], sdf[63]), (-0.75, 0.0, -0.75));
+/// ```
+pub fn cut_fixtures(file: &[u8], dims: [u32; 3], sdf: &mut [f32]) -> Result<(), FixtureRefusal> {
+    let _environment = DefaultEnvironment::enter();
+    // SAFETY: each pointer and length come from one slice, which is aligned and never null; the grid is
+    // borrowed mutably, so that it does not overlap the file.
+    let answer = unsafe {
+        bed_cut_fixtures(
+            file.as_ptr(),
+            file.len(),
+            dims[0],
+            dims[1],
+            dims[2],
+            sdf.as_mut_ptr(),
+            sdf.len(),
+        )
+    };
+    FixtureRefusal::of(answer)
+}

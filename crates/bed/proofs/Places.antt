@@ -10,7 +10,7 @@ use denote.Triple.Clauses.{Lasts, atExit}
 use borrow.Fn.Kinds.{PK, RK, Out, Dens, resT, endedOf}
 use Rattle.rules.specs.Call.{answer, room}
 use Rattle.grid.specs.Block.{point}
-use Rattle.pass.specs.Reading.{buffers}
+use Rattle.whole_box.specs.Reading.{buffers}
 use Rattle.surface_nets.specs.Reading.{callMade}
 use Rattle.skin.specs.Scan.{answers, examined}
 use Rattle.mesh_file.specs.Mesh.{Mesh, mesh, Held}

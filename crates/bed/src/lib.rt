@@ -5,7 +5,7 @@ pub mod files;
 
 ghost use mathlib.Core.Path.{_≡_};
 ghost use Rattle.rules.specs.Call.{answer, afterwards, room};
-ghost use Rattle.pass.specs.Reading.{buffers};
+ghost use Rattle.whole_box.specs.Reading.{buffers};
 ghost use Rattle.surface_nets.specs.Reading.{callMade, Binary32};
 ghost use Rattle.bed.specs.Boundary.{extent, planes, said};
 use grid::Extent;

@@ -12,7 +12,7 @@ use Rattle.rules.specs.Call.{Answer, Buffers}
 use Rattle.grid.specs.declared.Extent.{Extent}
 use Rattle.grid.specs.declared.MaxPlane.{MaxPlane}
 use Rattle.judge.specs.Reading.{answerOf}
-use Rattle.pass.specs.Reading.{buffers}
+use Rattle.whole_box.specs.Reading.{buffers}
 use Rattle.skin.specs.declared.Enclosed.{Enclosed as Tested}
 use Rattle.skin.specs.Scan.{answers, gridOf, boxFrom}
 use Rattle.bed.specs.Boundary.{extent, planes, said}

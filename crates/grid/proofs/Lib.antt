@@ -10,3 +10,6 @@ pub mod Rows
 pub mod Walks
 pub mod Order
 pub mod Eight
+pub mod Layers
+pub mod LayerWalks
+pub mod Slab

@@ -9,5 +9,10 @@ abbrev pub sideAt : List Float → ℕ → ℕ → ℕ → Side
 sideAt l at row layer =
     record { a = getD l at nan; b = getD l (at + row) nan; c = getD l (at + layer) nan; d = getD l (at + row + layer) nan }
 
+-- of two layers that are lent apart
+abbrev pub sideBetween : List Float → List Float → ℕ → ℕ → Side
+sideBetween lower upper at row =
+    record { a = getD lower at nan; b = getD lower (at + row) nan; c = getD upper at nan; d = getD upper (at + row) nan }
+
 abbrev pub eightOf : Side → Side → List Float
 eightOf low high = low .a ∷ high .a ∷ low .b ∷ high .b ∷ low .c ∷ high .c ∷ low .d ∷ high .d ∷ []

@@ -3,3 +3,4 @@ pub mod Block
 pub mod Inside
 pub mod Corners
 pub mod Order
+pub mod Layers

@@ -2,7 +2,7 @@
 ghost use mathlib.Core.Path.{_≡_};
 ghost use Prim.Native.Nat.{_+_, _<_};
 ghost use lib.ListN.{length};
-ghost use Rattle.grid.specs.Corners.{sideAt, eightOf};
+ghost use Rattle.grid.specs.Corners.{sideAt, sideBetween, eightOf};
 
 // The values at the corners of a cell's side, those with one x: at (y, z) = (0, 0), (1, 0), (0, 1), (1, 1).
 pub struct Side {
@@ -30,4 +30,17 @@ pub fn corners(low: Side, high: Side) -> [f32; 8]
     ensures { λ r. ⌜ r ≡ eightOf low high ⌝ }
 {
     [low.a, high.a, low.b, high.b, low.c, high.c, low.d, high.d]
+}
+
+// The same of two layers of distances that are lent apart, `at` being the place in each.
+pub fn side_between(lower: &[f32], upper: &[f32], at: usize, row: usize) -> Side
+    requires { ⌜ (at + row < length (now lower)) × (at + row < length (now upper)) ⌝ }
+    ensures { λ r. ⌜ r ≡ sideBetween (now (lower .entry)) (now (upper .entry)) at row ⌝ }
+{
+    Side {
+        a: lower[at],
+        b: lower[at + row],
+        c: upper[at],
+        d: upper[at + row],
+    }
 }

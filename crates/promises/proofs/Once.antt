@@ -48,10 +48,20 @@ use Rattle.marks.proofs.stored.floats_are.Kinds as floats-are-kinds
 use Rattle.marks.proofs.stored.floats_are.Reads as floats-are
 use Rattle.judge.proofs.answer_for.Kinds as answer-for-kinds
 use Rattle.judge.proofs.answer_for.Reads as answer-for
-use Rattle.step.proofs.mesh_cell.Kinds as mesh-cell-kinds
-use Rattle.step.proofs.mesh_cell.Reads as mesh-cell
-use Rattle.pass.proofs.mesh_box.Kinds as mesh-box-kinds
-use Rattle.pass.proofs.mesh_box.Reads as mesh-box
+use Rattle.grid.proofs.corners.side_between.Kinds as side-between-kinds
+use Rattle.grid.proofs.corners.side_between.Reads as side-between
+use Rattle.stores.proofs.put_vector.Kinds as put-vector-kinds
+use Rattle.stores.proofs.put_vector.Reads as put-vector
+use Rattle.stores.proofs.put_three.Kinds as put-three-kinds
+use Rattle.stores.proofs.put_three.Reads as put-three
+use Rattle.stores.proofs.put_six.Kinds as put-six-kinds
+use Rattle.stores.proofs.put_six.Reads as put-six
+use Rattle.layer_vertices.proofs.mark_layer.Kinds as mark-layer-kinds
+use Rattle.layer_vertices.proofs.mark_layer.Reads as mark-layer
+use Rattle.layer_faces.proofs.face_layer.Kinds as face-layer-kinds
+use Rattle.layer_faces.proofs.face_layer.Reads as face-layer
+use Rattle.whole_box.proofs.mesh_box.Kinds as mesh-box-kinds
+use Rattle.whole_box.proofs.mesh_box.Reads as mesh-box
 use Rattle.surface_nets.proofs.surface_nets.Kinds as surface-nets-kinds
 use Rattle.surface_nets.proofs.surface_nets.Reads as surface-nets
 use Rattle.bed.proofs.bed_surface_nets.Kinds as bed-surface-nets-kinds
@@ -76,6 +86,9 @@ bad-box-once κs a o o' l l' = let s = l ∙ sym l' in λ i. record { result = s
 
 pub side-at-once : OneOutcome 1 side-at-kinds.ps side-at-kinds.r side-at.Learnt
 side-at-once κs a o o' l l' = let s = l ∙ sym l' in λ i. record { result = s i; last = o .last }
+
+pub side-between-once : OneOutcome 2 side-between-kinds.ps side-between-kinds.r side-between.Learnt
+side-between-once κs a o o' l l' = let s = l ∙ sym l' in λ i. record { result = s i; last = o .last }
 
 pub corners-once : OneOutcome 0 corners-kinds.ps corners-kinds.r corners.Learnt
 corners-once κs a o o' l l' = let s = l ∙ sym l' in λ i. record { result = s i; last = o .last }
@@ -135,13 +148,31 @@ mark-floats-once κs a o o' l l' = let s = l ∙ sym l' in λ i. record { result
 
 -- ---- with lent lists
 
--- one cell's step: how much is written, and the six lists
-pub mesh-cell-once : OneOutcome 7 mesh-cell-kinds.ps mesh-cell-kinds.r mesh-cell.Learnt
-mesh-cell-once κs a o o' l l' =
-    let b = l ∙ sym l' in
-    λ i. record { result = record { vertices = b i .vertex; indices = b i .used }; last = (tt, (tt, (tt, (tt, (tt, (tt, (b i .positions, (b i .normals, (b i .cells, (b i .strides, (b i .map, (b i .indices, (tt, tt))))))))))))) }
+-- a few numbers in a row
+pub put-vector-once : OneOutcome 1 put-vector-kinds.ps put-vector-kinds.r put-vector.Learnt
+put-vector-once κs a o o' l l' = let s = l ∙ sym l' in λ i. record { result = tt; last = (s i, (tt, (tt, tt))) }
 
--- the write pass: the six lists
+pub put-three-once : OneOutcome 1 put-three-kinds.ps put-three-kinds.r put-three.Learnt
+put-three-once κs a o o' l l' = let s = l ∙ sym l' in λ i. record { result = tt; last = (s i, (tt, (tt, (tt, (tt, tt))))) }
+
+pub put-six-once : OneOutcome 1 put-six-kinds.ps put-six-kinds.r put-six.Learnt
+put-six-once κs a o o' l l' = let s = l ∙ sym l' in λ i. record { result = tt; last = (s i, (tt, (tt, (tt, (tt, (tt, (tt, (tt, tt)))))))) }
+
+-- a layer's vertices: how many, the four lists, and the layer's part of the map
+pub mark-layer-once : OneOutcome 7 mark-layer-kinds.ps mark-layer-kinds.r mark-layer.Learnt
+mark-layer-once κs a o o' l l' =
+    let b = l .0 ∙ sym (l' .0) in
+    let n = l .1 ∙ sym (l' .1) in
+    λ i. record { result = n i; last = (tt, (tt, (tt, (tt, (tt, (b i .positions, (b i .normals, (b i .cells, (b i .strides, (b i .map, tt)))))))))) }
+
+-- a layer's faces: how many indices, and the list of them
+pub face-layer-once : OneOutcome 8 face-layer-kinds.ps face-layer-kinds.r face-layer.Learnt
+face-layer-once κs a o o' l l' =
+    let b = l .0 ∙ sym (l' .0) in
+    let n = l .1 ∙ sym (l' .1) in
+    λ i. record { result = n i; last = (tt, (tt, (tt, (tt, (tt, (tt, (tt, (tt, (tt, (tt, (b i, (tt, tt)))))))))))) }
+
+-- the whole box: the six lists
 pub mesh-box-once : OneOutcome 7 mesh-box-kinds.ps mesh-box-kinds.r mesh-box.Learnt
 mesh-box-once κs a o o' l l' =
     let b = l ∙ sym l' in

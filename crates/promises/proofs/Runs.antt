@@ -7,7 +7,7 @@ use borrow.Fn.Kinds.{Dens}
 use Rattle.grid.specs.declared.Extent.{Extent}
 use Rattle.grid.specs.declared.MaxPlane.{MaxPlane}
 use Rattle.judge.specs.Reading.{answerOf}
-use Rattle.pass.specs.Reading.{buffers}
+use Rattle.whole_box.specs.Reading.{buffers}
 use Rattle.surface_nets.specs.Reading.{callMade}
 use Rattle.bed.specs.Boundary.{extent, planes, said}
 use Rattle.promises.specs.Served.{Served}

@@ -11,14 +11,13 @@ use Rattle.grid.specs.declared.Block.{Block}
 use Rattle.grid.specs.Block.{boxOf, flagsOf, fieldOf, callOf}
 use Rattle.grid.specs.Inside.{Inside}
 use Rattle.judge.proofs.Judging.{done-enough}
-use Rattle.step.specs.Turns.{Roomy}
-use Rattle.pass.proofs.Reading.{lentOf}
+use Rattle.whole_box.specs.Reading.{Roomy}
 
 module _ (grid : List Float) (k : Block) (s : Buffers) (e : answer (callOf grid k) (room s) .number ≡ 0) where
   pub done-inside : Inside grid k
   done-inside = let a = done-accepted (callOf grid k) (room s) e in record { dims = a .dims; box = a .box; size = a .length }
 
-  pub done-roomy : Roomy (fieldOf grid k) (boxOf k) (flagsOf k) (length grid) (lentOf s 0 0)
+  pub done-roomy : Roomy (fieldOf grid k) (boxOf k) (flagsOf k) (length grid) s
   done-roomy =
       let a = done-accepted (callOf grid k) (room s) e in
       let h = done-enough (callOf grid k) (room s) e in

@@ -1,9 +1,9 @@
-// The bed mesher: document 01's call. The conditions 1 to 7 are tried in their order before anything is written; then one pass over the cells
-// writes each surface cell's vertex and, right after it, its faces.
+// The bed mesher: document 01's call. The conditions 1 to 7 are tried in their order before anything is written; then each layer of cells is
+// written, its vertices first and then its faces.
 ghost use mathlib.Core.Path.{_≡_};
 ghost use Rattle.rules.specs.Call.{answer, afterwards, room};
 ghost use Rattle.judge.specs.Reading.{answerOf};
-ghost use Rattle.pass.specs.Reading.{buffers};
+ghost use Rattle.whole_box.specs.Reading.{buffers};
 ghost use Rattle.surface_nets.specs.Reading.{callMade, Binary32};
 use grid::Block;
 use grid::Extent;
@@ -49,7 +49,7 @@ pub fn surface_nets(
     if number != 0 {
         return a;
     }
-    pass::mesh_box(
+    whole_box::mesh_box(
         sdf,
         k,
         positions,

@@ -4,7 +4,7 @@ use mathlib.Core.Path.{_≡_, ap, sym, refl, _∙_}
 use native.Mathlib.Omega.{arith}
 use Rattle.rules.specs.Call.{Call, Buffers, Answer, answer, room}
 use Rattle.rules.proofs.Locality.{when-done, when-refused}
-use Rattle.pass.specs.Reading.{buffers}
+use Rattle.whole_box.specs.Reading.{buffers}
 use Rattle.surface_nets.specs.Reading.{blockOf, callMade, Binary32}
 use Rattle.surface_nets.proofs.Done.{done-inside, done-roomy}
 use borrow.Author.Needs.{needs}

@@ -1,0 +1,8 @@
+-- Laws of a layer's faces: what is looked up is the vertex that the rules name, so that the faces put are those that the rules say.
+pub mod Steps
+pub mod Lookups
+pub mod Cells
+pub mod Alike
+pub mod Puts
+pub mod Signs
+pub mod Vertices

@@ -1,0 +1,3 @@
+-- What marking a layer leaves of the lent lists.
+pub mod Marked
+pub mod Cells

@@ -1,0 +1,61 @@
+-- What marking the layer z leaves of the lent lists, in the rules' own words: the layer's vertices from a place on, and each cell's entry in the
+-- layer's part of the map. The place in the lists and the number that a vertex gets are apart. Definitions only. Assumes nothing.
+use Prim.Native.Nat.{ℕ, _+_, _*_, _/_, _%_, _≤_, _<_}
+use mathlib.Core.Bool.{cond}
+use mathlib.Core.List.{List, map}
+use lib.ListN.{length}
+use lib.Seq.{sets}
+use lib.Ieee.{Float}
+use Rattle.rules.specs.Lists.{placed}
+use Rattle.rules.specs.Grid.{GridPoint, Box, Field, index, isCell, inBox}
+use Rattle.rules.specs.Vertices.{surfaceCell, layerVertices, vertexPosition, vertexNormal, vertexNumber, nullVertex, edgeEntry}
+use Rattle.rules.specs.Call.{flatVectors, flatPoints}
+use Rattle.layer_vertices.specs.declared.Next.{Next}
+
+-- the lists that a layer's vertices go to, and the layer's part of the map
+pub record Lists : Type 0 where
+  pub positions : List Float
+  pub normals : List Float
+  pub cells : List ℕ
+  pub strides : List ℕ
+  pub map : List ℕ
+
+abbrev pub lists : List Float → List Float → List ℕ → List ℕ → List ℕ → Lists
+lists positions normals cells strides map = record { positions = positions; normals = normals; cells = cells; strides = strides; map = map }
+
+-- ---- the map
+
+-- "Its map entry is that number; any other cell's is 4,294,967,295.", where the layer's first vertex has the number `first`
+abbrev pub cellNumber : Field → Box → ℕ → GridPoint → ℕ
+cellNumber g b first c = cond (surfaceCell g c) (vertexNumber g b first c) nullVertex
+
+-- the point of the layer z that stands at a place of its part of the map
+abbrev pub layerPoint : GridPoint → ℕ → ℕ → GridPoint
+layerPoint d z j = record { x = j % d .x; y = j / d .x; z = z }
+
+-- the entry at a place of the layer's part afterwards, by the old one: of a cell, of a point of the box that is no cell, and of any other
+unfoldable pub layerEntry : Field → Box → ℕ → ℕ → ℕ → ℕ → ℕ
+layerEntry g b z first j old =
+    cond (isCell b (layerPoint (g .dims) z j)) (cellNumber g b first (layerPoint (g .dims) z j))
+    (cond (inBox b (layerPoint (g .dims) z j)) (edgeEntry old) old)
+
+-- ---- all lists
+
+-- stores in a row (`sets`) from a place on, three for each vector and each point
+unfoldable pub marked : Field → Box → ℕ → Next → Lists → Lists
+marked g b z next s =
+    record {
+      positions = sets (s .positions) (3 * next .place) (flatVectors (map (vertexPosition g) (layerVertices g b z)));
+      normals = sets (s .normals) (3 * next .place) (flatVectors (map (vertexNormal g) (layerVertices g b z)));
+      cells = sets (s .cells) (3 * next .place) (flatPoints (layerVertices g b z));
+      strides = sets (s .strides) (next .place) (map (index (g .dims)) (layerVertices g b z));
+      map = placed (layerEntry g b z (next .number)) 0 (s .map);
+    }
+
+-- there is room for n vertices from a place on, and none of their numbers is that of no vertex
+pub record Room (next : Next) (n : ℕ) (s : Lists) : Type 0 where
+  pub positions : 3 * (next .place + n) ≤ length (s .positions)
+  pub normals : 3 * (next .place + n) ≤ length (s .normals)
+  pub cells : 3 * (next .place + n) ≤ length (s .cells)
+  pub strides : next .place + n ≤ length (s .strides)
+  pub numbers : next .number + n ≤ nullVertex

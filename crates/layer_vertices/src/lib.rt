@@ -1,0 +1,177 @@
+// The vertices of one layer of cells, from the two layers of distances that hold its corners: the Rust's estimate_surface, a layer at a time. The
+// vertices go to the lent lists from a place on, and each cell's entry to the layer's part of the map, which nothing here reads.
+ghost use mathlib.Core.Path.{_≡_};
+ghost use mathlib.Core.List.{_∷_, []};
+ghost use Prim.Native.Nat.{_+_, _*_, _<_, _≤_};
+ghost use lib.ListN.{length, set};
+ghost use lib.Seq.{sets};
+ghost use Rattle.rules.specs.Lists.{one};
+ghost use Rattle.rules.specs.Cell.{surface, centroid, position, normal};
+ghost use Rattle.rules.specs.Vertices.{rowCells, layerVertices};
+ghost use Rattle.rules.specs.Grid.{index};
+ghost use Rattle.grid.specs.Block.{point, boxOf};
+ghost use Rattle.grid.specs.Inside.{PointInside};
+ghost use Rattle.grid.specs.Layers.{inLayer, twoLayers, InLayers};
+ghost use Rattle.layer_vertices.specs.Marked.{lists, marked, Room};
+ghost use Rattle.layer_vertices.specs.Cells.{advanced, passed, found, cellLeft, CellReady};
+use grid::Block;
+use grid::Extent;
+
+// The map's entry of a cell without a vertex.
+pub const NULL_VERTEX: u32 = 4294967295;
+
+// Where the next vertex goes: its place in the lists, and the number that it gets. In a call for the whole box the two are the same; who has the box
+// layer by layer begins each layer's lists anew, while the numbers run on.
+pub struct Next {
+    pub place: usize,
+    pub number: u32,
+}
+
+// A surface cell's position and normal, at a place of their lists.
+fn estimate_surface_in_cube(
+    d: &[f32; 8],
+    c: Extent,
+    place: usize,
+    positions: &mut [f32],
+    normals: &mut [f32],
+)
+    requires { ⌜ (3 * place + 2 < length (now positions)) × (3 * place + 2 < length (now normals)) ⌝ }
+    ensures { λ _. ⌜ now (positions .exit) ≡ sets (now (positions .entry)) (3 * place) (position (point c) (centroid (now (d .entry))) .x ∷ position (point c) (centroid (now (d .entry))) .y ∷ position (point c) (centroid (now (d .entry))) .z ∷ []) ⌝ }
+    ensures { λ _. ⌜ now (normals .exit) ≡ sets (now (normals .entry)) (3 * place) (normal (now (d .entry)) (centroid (now (d .entry))) .x ∷ normal (now (d .entry)) (centroid (now (d .entry))) .y ∷ normal (now (d .entry)) (centroid (now (d .entry))) .z ∷ []) ⌝ }
+{
+    let s = cube::centroid_of_edge_intersections(d);
+    stores::put_vector(positions, 3 * place, cube::position_in(c.x, c.y, c.z, s));
+    stores::put_vector(normals, 3 * place, cube::sdf_gradient(d, s));
+}
+
+// Its cell and its stride, at the same place.
+fn put_cell(dims: Extent, c: Extent, place: usize, cells: &mut [u32], strides: &mut [u32])
+    requires { ⌜ PointInside (point dims) (point c) ⌝ }
+    requires { ⌜ (3 * place + 2 < length (now cells)) × (place < length (now strides)) ⌝ }
+    ensures { λ _. ⌜ now (cells .exit) ≡ sets (now (cells .entry)) (3 * place) (c .x ∷ c .y ∷ c .z ∷ []) ⌝ }
+    ensures { λ _. ⌜ now (strides .exit) ≡ set (now (strides .entry)) place (index (point dims) (point c)) ⌝ }
+{
+    let stride = grid::place::linearize(dims, c);
+    strides[place] = stride as u32;
+    stores::put_three(cells, 3 * place, c.x, c.y, c.z);
+}
+
+// One cell, by its corner values, its lowest corner and its place in the layer: a vertex and its number, or the entry of none.
+fn mark_cell(
+    d: &[f32; 8],
+    dims: Extent,
+    c: Extent,
+    at: usize,
+    next: Next,
+    positions: &mut [f32],
+    normals: &mut [f32],
+    cells: &mut [u32],
+    strides: &mut [u32],
+    map: &mut [u32],
+) -> Next
+    requires { ⌜ CellReady (now d) (point dims) (point c) at next (lists (now positions) (now normals) (now cells) (now strides) (now map)) ⌝ }
+    ensures { λ r. ⌜ lists (now (positions .exit)) (now (normals .exit)) (now (cells .exit)) (now (strides .exit)) (now (map .exit)) ≡ cellLeft (now (d .entry)) (point c) at (index (point dims) (point c)) next (lists (now (positions .entry)) (now (normals .entry)) (now (cells .entry)) (now (strides .entry)) (now (map .entry))) ⌝ }
+    ensures { λ r. ⌜ r ≡ advanced next (one (surface (now (d .entry)))) ⌝ }
+{
+    if !cube::is_surface(d) {
+        map[at] = NULL_VERTEX;
+        return next;
+    }
+    let place = next.place;
+    estimate_surface_in_cube(d, c, place, positions, normals);
+    put_cell(dims, c, place, cells, strides);
+    map[at] = next.number;
+    Next {
+        place: place + 1,
+        number: next.number + 1,
+    }
+}
+
+// The row y of the layer z. Each x side is read once: the upper side of a cell is the lower one of the next.
+fn mark_row(
+    lower: &[f32],
+    upper: &[f32],
+    k: Block,
+    y: u32,
+    z: u32,
+    next: Next,
+    positions: &mut [f32],
+    normals: &mut [f32],
+    cells: &mut [u32],
+    strides: &mut [u32],
+    map: &mut [u32],
+) -> Next
+    requires { ⌜ InLayers (now lower) (now upper) k z ⌝ }
+    requires { ⌜ (k .low .y ≤ y) × (y < k .high .y) ⌝ }
+    requires { ⌜ inLayer (point (k .dims)) (point (k .high)) < length (now map) ⌝ }
+    requires { ⌜ Room next (found (twoLayers (now lower) (now upper) k z) (rowCells (boxOf k) z y)) (lists (now positions) (now normals) (now cells) (now strides) (now map)) ⌝ }
+    ensures { λ r. ⌜ lists (now (positions .exit)) (now (normals .exit)) (now (cells .exit)) (now (strides .exit)) (now (map .exit)) ≡ passed (twoLayers (now (lower .entry)) (now (upper .entry)) k z) next (rowCells (boxOf k) z y) (lists (now (positions .entry)) (now (normals .entry)) (now (cells .entry)) (now (strides .entry)) (now (map .entry))) ⌝ }
+    ensures { λ r. ⌜ r ≡ advanced next (found (twoLayers (now (lower .entry)) (now (upper .entry)) k z) (rowCells (boxOf k) z y)) ⌝ }
+{
+    let from = k.low.x;
+    let end = k.high.x;
+    let row = k.dims.x as usize;
+    let mut at = (from as usize) + row * (y as usize);
+    let mut low = grid::corners::side_between(lower, upper, at, row);
+    let mut state = next;
+    for x in from..end {
+        let high = grid::corners::side_between(lower, upper, at + 1, row);
+        let d = grid::corners::corners(low, high);
+        state = mark_cell(
+            &d,
+            k.dims,
+            Extent { x, y, z },
+            at,
+            state,
+            positions,
+            normals,
+            cells,
+            strides,
+            map,
+        );
+        low = high;
+        at += 1;
+    }
+    state
+}
+
+// The layer z of cells: how many vertices it has, all of them in the lists and their numbers in the layer's part of the map.
+pub fn mark_layer(
+    lower: &[f32],
+    upper: &[f32],
+    k: Block,
+    z: u32,
+    next: Next,
+    positions: &mut [f32],
+    normals: &mut [f32],
+    cells: &mut [u32],
+    strides: &mut [u32],
+    map: &mut [u32],
+) -> usize
+    requires { ⌜ InLayers (now lower) (now upper) k z ⌝ }
+    requires { ⌜ inLayer (point (k .dims)) (point (k .high)) < length (now map) ⌝ }
+    requires { ⌜ Room next (length (layerVertices (twoLayers (now lower) (now upper) k z) (boxOf k) z)) (lists (now positions) (now normals) (now cells) (now strides) (now map)) ⌝ }
+    ensures { λ r. ⌜ lists (now (positions .exit)) (now (normals .exit)) (now (cells .exit)) (now (strides .exit)) (now (map .exit)) ≡ marked (twoLayers (now (lower .entry)) (now (upper .entry)) k z) (boxOf k) z next (lists (now (positions .entry)) (now (normals .entry)) (now (cells .entry)) (now (strides .entry)) (now (map .entry))) ⌝ }
+    ensures { λ r. ⌜ r ≡ length (layerVertices (twoLayers (now (lower .entry)) (now (upper .entry)) k z) (boxOf k) z) ⌝ }
+{
+    let from = k.low.y;
+    let end = k.high.y;
+    let first = next.place;
+    let mut state = next;
+    for y in from..end {
+        state = mark_row(
+            lower,
+            upper,
+            k,
+            y,
+            z,
+            state,
+            positions,
+            normals,
+            cells,
+            strides,
+            map,
+        );
+    }
+    state.place - first
+}

@@ -1,2 +1,0 @@
--- How the lent lists render document 01's buffers.
-pub mod Reading

@@ -1,0 +1,2 @@
+-- Laws of stores in a row.
+pub mod Runs

@@ -1,0 +1,52 @@
+-- Three stores in a row. Assumes nothing.
+use lib.ListN.{length-set}
+use native.Mathlib.Omega.{arith}
+use borrow.Author.Needs.{needs}
+use Rattle.stores.proofs.Runs.{three-stores}
+use Rattle.stores.proofs.put_three.Statement.{statement}
+use Rattle.stores.proofs.put_three.Tie as tie
+
+mul-list : tie.Need-mul-list
+mul-list c = search needs
+
+slice-write-list : tie.Need-slice-write-list
+slice-write-list c = search needs
+
+add-list : tie.Need-add-list
+add-list c = search needs
+
+mul-list-2 : tie.Need-mul-list-2
+mul-list-2 c = search needs
+
+slice-write-list-2 : tie.Need-slice-write-list-2
+slice-write-list-2 c = simp length-set (omega arith)
+
+add-list-2 : tie.Need-add-list-2
+add-list-2 c = search needs
+
+mul-list-3 : tie.Need-mul-list-3
+mul-list-3 c = search needs
+
+slice-write-list-3 : tie.Need-slice-write-list-3
+slice-write-list-3 c = search needs
+
+same-length : tie.Need-same-length
+same-length c = search needs
+
+returns : tie.Need-returns
+returns c = let a = c .args in three-stores (a .list .now) (a .at) (a .x) (a .y) (a .z)
+
+pub put-three-spec : {M : Type 1} → statement M
+put-three-spec =
+    tie.close
+    (tie.spec
+    mul-list
+    slice-write-list
+    add-list
+    mul-list-2
+    slice-write-list-2
+    add-list-2
+    mul-list-3
+    slice-write-list-3
+    same-length
+    returns)

@@ -1,0 +1,109 @@
+-- What the whole call lends for a layer's vertices, and what comes back: the lists have room, and with the part of the map put back they are what the
+-- rules say of the layer in the whole grid. Assumes nothing.
+use Prim.Native.Nat.{ℕ, _+_, _-_, _*_, _≤_, _<_}
+use native.Mathlib.Nat.{mul-one, mul-le-mul-left}
+use native.Mathlib.Omega.{arith}
+use mathlib.Core.List.{List, _++_, map}
+use mathlib.Core.Path.{_≡_, refl, sym, ap, _∙_}
+use lib.Dec.{T}
+use lib.Ieee.{Float}
+use lib.ListN.{length, take, drop}
+use lib.Seq.{sets}
+use Rattle.rules.specs.Grid.{GridPoint, Box, Field}
+use Rattle.rules.specs.Vertices.{cells, surfaceCell, vertices, layerVertices, firstVertex}
+use Rattle.rules.specs.Call.{Buffers}
+use Rattle.rules.proofs.Lists.{many-most}
+use Rattle.rules.proofs.Counting.{cell-count}
+use Rattle.grid.specs.declared.Block.{Block}
+use Rattle.grid.specs.Block.{point, boxOf, flagsOf, fieldOf, callOf}
+use Rattle.grid.specs.Inside.{Inside}
+use Rattle.grid.specs.Layers.{layerDist, twoLayers}
+use Rattle.grid.proofs.Bounds.{fits}
+use Rattle.grid.proofs.Order.{box-ends}
+use Rattle.grid.proofs.Rows.{box-short}
+use Rattle.grid.proofs.Slab.{layer-alike}
+use Rattle.layer_vertices.specs.declared.Next.{Next}
+use Rattle.layer_vertices.specs.Marked.{Lists, lists, marked, Room}
+use Rattle.layer_vertices.proofs.Alike.{marked-alike}
+use Rattle.whole_box.specs.declared.Made.{Made}
+use Rattle.whole_box.specs.Layers.{layerMarked, Written}
+use Rattle.whole_box.proofs.Map.{part-back}
+use Rattle.whole_box.proofs.Parts.{part, rest, layers-agree, layer-end}
+use Rattle.whole_box.proofs.Steps.{vertices-within, first-is, first-more, SameLengths, written-lengths}
+
+module _ (sdf : List Float) (k : Block) (i : Inside sdf k) where
+  -- there are few vertices
+  pub vertices-few : length (vertices (fieldOf sdf k) (boxOf k)) ≤ 1073741824
+  vertices-few =
+      omega (arith, cell-count (fieldOf sdf k) (boxOf k), many-most (surfaceCell (fieldOf sdf k)) (cells (boxOf k)), ap length (box-ends (boxOf k)), box-short sdf k i (k .high .z) (omega arith))
+
+  -- a layer of the grid has distances
+  pub plane-up : 0 < k .dims .x * k .dims .y
+  plane-up = let f = fits sdf k i in let h : 1 ≤ k .dims .y = omega arith in let w : 1 ≤ k .dims .x = omega arith in omega (arith, mul-le-mul-left (k .dims .x) h, mul-one (k .dims .x))
+
+  module _ (z : ℕ) (zs : (k .low .z ≤ z) × (z < k .high .z)) where
+    abbrev g : Field
+    g = fieldOf sdf k
+
+    abbrev b : Box
+    b = boxOf k
+
+    abbrev two : ℕ → Float
+    two = layerDist (part (k .dims .x * k .dims .y * z) (k .dims .x * k .dims .y) sdf) (rest (k .dims .x * k .dims .y * z + k .dims .x * k .dims .y) sdf) (k .dims .x * k .dims .y) z
+
+    pub layer-same : layerVertices (twoLayers (part (k .dims .x * k .dims .y * z) (k .dims .x * k .dims .y) sdf) (rest (k .dims .x * k .dims .y * z + k .dims .x * k .dims .y) sdf) k z) (boxOf k) z ≡ layerVertices (fieldOf sdf k) (boxOf k) z
+    layer-same = layer-alike (point (k .dims)) two (g .dist) b z (layers-agree sdf k i z zs)
+
+    -- the room of the whole lists is that of what is lent
+    pub room-lent : {next : Next} {p n : List Float} {cs st mp mp' : List ℕ} → Room next (length (layerVertices (fieldOf sdf k) (boxOf k) z)) (lists p n cs st mp)
+        → Room next (length (layerVertices (twoLayers (part (k .dims .x * k .dims .y * z) (k .dims .x * k .dims .y) sdf) (rest (k .dims .x * k .dims .y * z + k .dims .x * k .dims .y) sdf) k z) (boxOf k) z)) (lists p n cs st mp')
+    room-lent r =
+        let e = ap length layer-same in
+        record {
+          positions = omega (arith, r .positions, e);
+          normals = omega (arith, r .normals, e);
+          cells = omega (arith, r .cells, e);
+          strides = omega (arith, r .strides, e);
+          numbers = omega (arith, r .numbers, e);
+        }
+
+    -- what comes back
+    pub marked-back : (first : ℕ) {p n : List Float} {cs st q : List ℕ} (p₀ n₀ : List Float) (cs₀ st₀ mp₀ : List ℕ) → length sdf ≤ length mp₀
+        → lists p n cs st q ≡ marked (twoLayers (part (k .dims .x * k .dims .y * z) (k .dims .x * k .dims .y) sdf) (rest (k .dims .x * k .dims .y * z + k .dims .x * k .dims .y) sdf) k z) (boxOf k) z (record { place = first; number = first }) (lists p₀ n₀ cs₀ st₀ (part (k .dims .x * k .dims .y * z) (k .dims .x * k .dims .y) mp₀))
+        → lists p n cs st (take (k .dims .x * k .dims .y * z) mp₀ ++ (q ++ drop (k .dims .x * k .dims .y * z + k .dims .x * k .dims .y - k .dims .x * k .dims .y * z) (drop (k .dims .x * k .dims .y * z) mp₀)))
+        ≡ layerMarked (fieldOf sdf k) (boxOf k) z first (lists p₀ n₀ cs₀ st₀ mp₀)
+    unfolding layerMarked marked
+    marked-back first {p} {n} {cs} {st} {q} p₀ n₀ cs₀ st₀ mp₀ long e =
+        let a = k .dims .x * k .dims .y * z in
+        let w = k .dims .x * k .dims .y in
+        ap (λ (s : Lists). lists (s .positions) (s .normals) (s .cells) (s .strides) (take a mp₀ ++ (s .map ++ drop (a + w - a) (drop a mp₀)))) (e ∙ marked-alike (point (k .dims)) two (g .dist) b z (layers-agree sdf k i z zs) (record { place = first; number = first }) (lists p₀ n₀ cs₀ st₀ (part a w mp₀)))
+        ∙ ap (λ (l : List ℕ). lists (marked g b z (record { place = first; number = first }) (lists p₀ n₀ cs₀ st₀ mp₀) .positions) (marked g b z (record { place = first; number = first }) (lists p₀ n₀ cs₀ st₀ mp₀) .normals) (marked g b z (record { place = first; number = first }) (lists p₀ n₀ cs₀ st₀ mp₀) .cells) (marked g b z (record { place = first; number = first }) (lists p₀ n₀ cs₀ st₀ mp₀) .strides) l)
+        (part-back g b plane-up z first mp₀ (omega (arith, layer-end sdf k i z zs)))
+
+    -- ---- the room on the way
+
+    module _ {t s : Buffers} {made : Made} (w : Written (callOf sdf k) z t made s) where
+      lengths : SameLengths s t
+      lengths = written-lengths (callOf sdf k) z (zs .0) (omega arith) w
+
+      pub first-at : made .vertices ≡ firstVertex (fieldOf sdf k) (boxOf k) z
+      first-at = ap (λ (m : Made). m .vertices) (w .on)
+
+      pub layer-within : made .vertices + length (layerVertices (fieldOf sdf k) (boxOf k) z) ≤ length (vertices (fieldOf sdf k) (boxOf k))
+      layer-within = omega (arith, first-at, first-more g b (flagsOf k) z (zs .0), first-is g b (flagsOf k) (z + 1), vertices-within g b (flagsOf k) (z + 1) (omega arith) (omega arith))
+
+      pub written-room : Room (record { place = made .vertices; number = made .vertices }) (length (layerVertices (fieldOf sdf k) (boxOf k) z)) (lists (s .positions) (s .normals) (s .cells) (s .strides) (s .map))
+      written-room =
+          let r = w .roomy in
+          let h = layer-within in
+          let e = lengths in
+          record {
+            positions = omega (arith, r .positions, e .positions);
+            normals = omega (arith, r .normals, e .normals);
+            cells = omega (arith, r .cells, e .cells);
+            strides = omega (arith, r .strides, e .strides);
+            numbers = omega (arith, vertices-few);
+          }
+
+      pub map-long : length sdf ≤ length (s .map)
+      map-long = omega (arith, w .roomy .map, lengths .map)

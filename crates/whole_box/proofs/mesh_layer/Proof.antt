@@ -1,0 +1,102 @@
+-- The two halves of a layer, one after the other. Assumes nothing.
+use mathlib.Core.Path.{_∙_}
+use native.Mathlib.Omega.{arith}
+use Rattle.grid.specs.Block.{callOf}
+use Rattle.whole_box.specs.Reading.{buffers}
+use Rattle.whole_box.specs.Layers.{Written}
+use Rattle.whole_box.proofs.Lent.{written-room, map-long}
+use Rattle.whole_box.proofs.Layer.{stands-marked, map-still, indices-room, vertices-room, layer-whole}
+use borrow.Author.Needs.{needs}
+use Rattle.whole_box.proofs.mesh_layer.Statement.{statement}
+use Rattle.whole_box.proofs.mesh_layer.Tie as tie
+
+-- ---- the places that a later one leads back to
+
+abbrev start-of : tie.After-mark-part → tie.Start
+start-of c = c .before .before .before .before .before .before .before .before .before .before .before .before .before
+
+-- the lists that the layers before leave
+so-far : (s : tie.Start) → let a = s .args in Written (callOf (a .sdf .now) (a .k)) (a .z) (s .pre .1 .1 .start) (a .made) (buffers (a .positions .now) (a .normals .now) (a .cells .now) (a .strides .now) (a .map .now) (a .indices .now))
+so-far s = s .pre .1 .1 .written
+
+-- ---- the needs
+
+mark-part-requires : tie.Need-mark-part-requires
+mark-part-requires c κs =
+    let s = c .before .before .before .before .before .before .before .before .before .before .before .before in
+    let a = s .args in
+    (s .pre .0, (s .pre .1 .0, (map-long (a .sdf .now) (a .k) (s .pre .0) (a .z) (s .pre .1 .0) (so-far s), written-room (a .sdf .now) (a .k) (s .pre .0) (a .z) (s .pre .1 .0) (so-far s))))
+
+face-part-requires : tie.Need-face-part-requires
+face-part-requires c κs =
+    let m = c .before .before .before .before .before .before .before .before .before .before .before .before .before .before in
+    let s = start-of m in
+    let a = s .args in
+    let e = m .mark-part .ensures in (
+      s .pre .0,
+      (
+        s .pre .1 .0,
+        (
+          map-still (a .sdf .now) (a .k) (s .pre .0) (a .z) (s .pre .1 .0) (so-far s) (e .0),
+          (
+            e .1,
+            (stands-marked (a .sdf .now) (a .k) (s .pre .0) (a .z) (s .pre .1 .0) (so-far s) (e .0), indices-room (a .sdf .now) (a .k) (s .pre .0) (a .z) (s .pre .1 .0) (so-far s)),
+          ),
+        ),
+      ),
+    )
+
+add-t32 : tie.Need-add-t32
+add-t32 c =
+    let m = c .before .before .before .before .before .before .before .before .before .before .before .before .before .before .before .before .before .before in
+    let s = start-of m in
+    let a = s .args in
+    omega (arith, m .mark-part .ensures .1, vertices-room (a .sdf .now) (a .k) (s .pre .0) (a .z) (s .pre .1 .0) (so-far s))
+
+add-t33 : tie.Need-add-t33
+add-t33 c =
+    let m = c .before .before .before .before .before .before .before .before .before .before .before .before .before .before .before .before .before .before .before in
+    let s = start-of m in
+    let a = s .args in
+    omega (arith, c .before .before .before .before .face-part .ensures .1, indices-room (a .sdf .now) (a .k) (s .pre .0) (a .z) (s .pre .1 .0) (so-far s), s .good .1 .1 .1 .1 .1 .1 .1 .1 .0)
+
+same-length : tie.Need-same-length
+same-length c = search needs
+
+same-length-2 : tie.Need-same-length-2
+same-length-2 c = search needs
+
+same-length-3 : tie.Need-same-length-3
+same-length-3 c = search needs
+
+same-length-4 : tie.Need-same-length-4
+same-length-4 c = search needs
+
+same-length-5 : tie.Need-same-length-5
+same-length-5 c = search needs
+
+same-length-6 : tie.Need-same-length-6
+same-length-6 c = search needs
+
+returns : tie.Need-returns
+returns c =
+    let m = c .before .before .before .before .before .before .before .before .before .before .before .before .before .before .before .before .before .before .before in
+    let s = start-of m in
+    let a = s .args in
+    layer-whole (a .sdf .now) (a .k) (s .pre .0) (a .z) (s .pre .1 .0) (so-far s) (m .mark-part .ensures .0) (c .before .before .before .before .face-part .ensures .0) (m .mark-part .ensures .1) (c .before .before .before .before .face-part .ensures .1)
+
+pub mesh-layer-spec : {M : Type 1} → statement M
+mesh-layer-spec =
+    tie.close
+    (tie.spec
+    mark-part-requires
+    face-part-requires
+    add-t32
+    add-t33
+    same-length
+    same-length-2
+    same-length-3
+    same-length-4
+    same-length-5
+    same-length-6
+    returns)

@@ -1,0 +1,108 @@
+-- What one layer, and the layers up to one, leave of the lent lists of a whole call. These stand in no contract that another crate sees.
+-- Definitions only. Assumes nothing.
+use Prim.Native.Nat.{ℕ, _+_, _-_, _*_, _≤_, _<_}
+use mathlib.Core.Bool.{Bool, cond}
+use mathlib.Core.List.{List, map}
+use mathlib.Core.Path.{_≡_}
+use lib.Dec.{T, ltb, eqb}
+use lib.ListN.{length, getD, take, drop}
+use lib.Seq.{sets}
+use lib.Ieee.{Float}
+use Rattle.rules.specs.Lists.{upTo, joined, placed, over}
+use Rattle.rules.specs.Grid.{GridPoint, Box, Field, index, pointAt, isCell}
+use Rattle.rules.specs.Vertices.{layerVertices, firstVertex, vertexPosition, vertexNormal, cellEntry, mapEntry}
+use Rattle.rules.specs.Faces.{Flags, layerIndices}
+use Rattle.rules.specs.Call.{Call, Buffers, flatVectors, flatPoints}
+use Rattle.layer_vertices.specs.Marked.{Lists, layerEntry}
+use Rattle.whole_box.specs.declared.Made.{Made}
+use Rattle.whole_box.specs.Reading.{Roomy}
+
+-- ---- the layer z, whose first vertex has the number `first`
+
+-- the entry at an index of the whole map: of the layer's points, and of any other
+abbrev pub entryAt : Field → Box → ℕ → ℕ → ℕ → ℕ → ℕ
+entryAt g b z first j old =
+    cond (eqb (pointAt (g .dims) j .z) z) (layerEntry g b z first (j - g .dims .x * g .dims .y * z) old) old
+
+-- the vertices, in the lists from place `first` on
+unfoldable pub layerMarked : Field → Box → ℕ → ℕ → Lists → Lists
+layerMarked g b z first s =
+    record {
+      positions = sets (s .positions) (3 * first) (flatVectors (map (vertexPosition g) (layerVertices g b z)));
+      normals = sets (s .normals) (3 * first) (flatVectors (map (vertexNormal g) (layerVertices g b z)));
+      cells = sets (s .cells) (3 * first) (flatPoints (layerVertices g b z));
+      strides = sets (s .strides) first (map (index (g .dims)) (layerVertices g b z));
+      map = placed (entryAt g b z first) 0 (s .map);
+    }
+
+-- ---- the layers from min up to z, which is left out
+
+abbrev pub verticesTo : Field → Box → ℕ → List GridPoint
+verticesTo g b z = joined (layerVertices g b) (upTo (b .low .z) z)
+
+abbrev pub indicesTo : Field → Box → Flags → ℕ → List ℕ
+indicesTo g b m z = joined (λ (y : ℕ). layerIndices g b m (firstVertex g b y) y) (upTo (b .low .z) z)
+
+abbrev pub entryTo : Field → Box → ℕ → ℕ → ℕ → ℕ
+entryTo g b z j old = cond (ltb (pointAt (g .dims) j .z) z) (mapEntry g b j old) old
+
+unfoldable pub writtenTo : Call → ℕ → Buffers → Buffers
+writtenTo c z s =
+    record {
+      positions = over (flatVectors (map (vertexPosition (c .grid)) (verticesTo (c .grid) (c .box) z))) (s .positions);
+      normals = over (flatVectors (map (vertexNormal (c .grid)) (verticesTo (c .grid) (c .box) z))) (s .normals);
+      cells = over (flatPoints (verticesTo (c .grid) (c .box) z)) (s .cells);
+      strides = over (map (index (c .grid .dims)) (verticesTo (c .grid) (c .box) z)) (s .strides);
+      map = placed (entryTo (c .grid) (c .box) z) 0 (s .map);
+      indices = over (indicesTo (c .grid) (c .box) (c .flags) z) (s .indices);
+    }
+
+abbrev pub madeTo : Call → ℕ → Made
+madeTo c z =
+    record {
+      vertices = firstVertex (c .grid) (c .box) z;
+      indices = length (indicesTo (c .grid) (c .box) (c .flags) z);
+      below = firstVertex (c .grid) (c .box) (z - 1);
+    }
+
+-- the lists s are what those layers leave of lists t with room, and so much is made
+pub record Written (c : Call) (z : ℕ) (t : Buffers) (made : Made) (s : Buffers) : Type 0 where
+  pub roomy : Roomy (c .grid) (c .box) (c .flags) (c .size) t
+  pub same : s ≡ writtenTo c z t
+  pub on : made ≡ madeTo c z
+
+pub record Reached (c : Call) (z : ℕ) (made : Made) (s : Buffers) : Type 0 where
+  pub start : Buffers
+  pub written : Written c z start made s
+
+-- one layer more
+unfoldable pub layerWritten : Call → ℕ → Made → Buffers → Buffers
+layerWritten c z made s =
+    record {
+      positions = sets (s .positions) (3 * made .vertices) (flatVectors (map (vertexPosition (c .grid)) (layerVertices (c .grid) (c .box) z)));
+      normals = sets (s .normals) (3 * made .vertices) (flatVectors (map (vertexNormal (c .grid)) (layerVertices (c .grid) (c .box) z)));
+      cells = sets (s .cells) (3 * made .vertices) (flatPoints (layerVertices (c .grid) (c .box) z));
+      strides = sets (s .strides) (made .vertices) (map (index (c .grid .dims)) (layerVertices (c .grid) (c .box) z));
+      map = placed (entryAt (c .grid) (c .box) z (made .vertices)) 0 (s .map);
+      indices = sets (s .indices) (made .indices) (layerIndices (c .grid) (c .box) (c .flags) (made .vertices) z);
+    }
+
+abbrev pub layerMade : Call → ℕ → Made → Made
+layerMade c z made =
+    record {
+      vertices = made .vertices + length (layerVertices (c .grid) (c .box) z);
+      indices = made .indices + length (layerIndices (c .grid) (c .box) (c .flags) (made .vertices) z);
+      below = made .vertices;
+    }
+
+-- ---- what the faces of the layer z look up in the whole lists
+
+pub record Stands (g : Field) (b : Box) (z first below : ℕ) (cs mp : List ℕ) (ps : List Float) : Type 0 where
+  pub cells : take (3 * length (layerVertices g b z)) (drop (3 * first) cs) ≡ flatPoints (layerVertices g b z)
+  pub cellsHold : 3 * (first + length (layerVertices g b z)) ≤ length cs
+  pub positions : take (3 * length (layerVertices g b z)) (drop (3 * first) ps) ≡ flatVectors (map (vertexPosition g) (layerVertices g b z))
+  pub positionsHold : 3 * (first + length (layerVertices g b z)) ≤ length ps
+  pub under : b .low .z < z → take (3 * (first - below)) (drop (3 * below) ps) ≡ flatVectors (map (vertexPosition g) (layerVertices g b (z - 1)))
+  pub numbers : (c : GridPoint) → T (isCell b c) → c .z ≤ z → getD mp (index (g .dims) c) 0 ≡ cellEntry g b c
+  pub here : first ≡ firstVertex g b z
+  pub before : below ≡ firstVertex g b (z - 1)

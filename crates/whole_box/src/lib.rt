@@ -1,0 +1,191 @@
+// The whole box, a layer of cells after the other: each layer's vertices, and then its faces. The layer's part of the grid, of the map and of the
+// lists of vertices are lent to the two functions that know one layer alone.
+ghost use mathlib.Core.Path.{_≡_};
+ghost use Prim.Native.Nat.{_+_, _-_, _*_, _<_, _≤_};
+ghost use lib.ListN.{length};
+ghost use lib.Seq.{sets};
+ghost use Rattle.rules.specs.Vertices.{layerVertices};
+ghost use Rattle.rules.specs.Faces.{layerIndices};
+ghost use Rattle.rules.specs.Call.{written};
+ghost use Rattle.grid.specs.Block.{boxOf, flagsOf, fieldOf, callOf};
+ghost use Rattle.grid.specs.Inside.{Inside};
+ghost use Rattle.layer_vertices.specs.Marked.{lists, Room};
+ghost use Rattle.whole_box.specs.Reading.{buffers, Roomy};
+ghost use Rattle.whole_box.specs.Layers.{layerMarked, layerWritten, layerMade, Reached, Stands};
+use grid::Block;
+use layer_faces::Firsts;
+use layer_vertices::Next;
+
+// How many vertices and indices are written, and how many vertices there were when the last layer began.
+pub struct Made {
+    pub vertices: usize,
+    pub indices: usize,
+    pub below: usize,
+}
+
+// The vertices of the layer z.
+fn mark_part(
+    sdf: &[f32],
+    k: Block,
+    z: u32,
+    first: usize,
+    positions: &mut [f32],
+    normals: &mut [f32],
+    cells: &mut [u32],
+    strides: &mut [u32],
+    map: &mut [u32],
+) -> usize
+    requires { ⌜ Inside (now sdf) k ⌝ }
+    requires { ⌜ (k .low .z ≤ z) × (z < k .high .z) ⌝ }
+    requires { ⌜ length (now sdf) ≤ length (now map) ⌝ }
+    requires { ⌜ Room (record { place = first; number = first }) (length (layerVertices (fieldOf (now sdf) k) (boxOf k) z)) (lists (now positions) (now normals) (now cells) (now strides) (now map)) ⌝ }
+    ensures { λ r. ⌜ lists (now (positions .exit)) (now (normals .exit)) (now (cells .exit)) (now (strides .exit)) (now (map .exit)) ≡ layerMarked (fieldOf (now (sdf .entry)) k) (boxOf k) z first (lists (now (positions .entry)) (now (normals .entry)) (now (cells .entry)) (now (strides .entry)) (now (map .entry))) ⌝ }
+    ensures { λ r. ⌜ r ≡ length (layerVertices (fieldOf (now (sdf .entry)) k) (boxOf k) z) ⌝ }
+{
+    let plane = (k.dims.x as usize) * (k.dims.y as usize);
+    let start = plane * (z as usize);
+    let end = start + plane;
+    let next = Next {
+        place: first,
+        number: first as u32,
+    };
+    layer_vertices::mark_layer(
+        &sdf[start..end],
+        &sdf[end..],
+        k,
+        z,
+        next,
+        positions,
+        normals,
+        cells,
+        strides,
+        &mut map[start..end],
+    )
+}
+
+// Where the part of the map of the layer below begins: for the first layer of the box, which has none below it, where the layer itself begins.
+fn part_below(low: u32, z: u32, start: usize, plane: usize) -> usize
+    requires { ⌜ (low < z → plane ≤ start) ⌝ }
+    ensures { λ r. ⌜ (low < z → r ≡ start - plane) × (r ≤ start) ⌝ }
+{
+    if low < z {
+        return start - plane;
+    }
+    start
+}
+
+// Its faces. No face of the first layer of the box needs one below it, and an empty part is lent.
+fn face_part(
+    sdf: &[f32],
+    k: Block,
+    z: u32,
+    made: Made,
+    count: usize,
+    cells: &[u32],
+    map: &[u32],
+    positions: &[f32],
+    indices: &mut [u32],
+) -> usize
+    requires { ⌜ Inside (now sdf) k ⌝ }
+    requires { ⌜ (k .low .z ≤ z) × (z < k .high .z) ⌝ }
+    requires { ⌜ length (now sdf) ≤ length (now map) ⌝ }
+    requires { ⌜ count ≡ length (layerVertices (fieldOf (now sdf) k) (boxOf k) z) ⌝ }
+    requires { ⌜ Stands (fieldOf (now sdf) k) (boxOf k) z (made .vertices) (made .below) (now cells) (now map) (now positions) ⌝ }
+    requires { ⌜ made .indices + length (layerIndices (fieldOf (now sdf) k) (boxOf k) (flagsOf k) (made .vertices) z) ≤ length (now indices) ⌝ }
+    ensures { λ r. ⌜ now (indices .exit) ≡ sets (now (indices .entry)) (made .indices) (layerIndices (fieldOf (now (sdf .entry)) k) (boxOf k) (flagsOf k) (made .vertices) z) ⌝ }
+    ensures { λ r. ⌜ r ≡ length (layerIndices (fieldOf (now (sdf .entry)) k) (boxOf k) (flagsOf k) (made .vertices) z) ⌝ }
+{
+    let plane = (k.dims.x as usize) * (k.dims.y as usize);
+    let start = plane * (z as usize);
+    let end = start + plane;
+    let under = part_below(k.low.z, z, start, plane);
+    let below = 3 * made.below;
+    let here = 3 * made.vertices;
+    let last = here + 3 * count;
+    let at = made.indices;
+    let first = Firsts {
+        here: made.vertices as u32,
+        below: made.below as u32,
+    };
+    layer_faces::face_layer(
+        &sdf[start..end],
+        &sdf[end..],
+        k,
+        z,
+        first,
+        &cells[here..last],
+        &map[start..end],
+        &positions[here..last],
+        &map[under..start],
+        &positions[below..here],
+        indices,
+        at,
+    )
+}
+
+// The layer z of cells: all its vertices and faces, and nothing else.
+fn mesh_layer(
+    sdf: &[f32],
+    k: Block,
+    z: u32,
+    positions: &mut [f32],
+    normals: &mut [f32],
+    cells: &mut [u32],
+    strides: &mut [u32],
+    map: &mut [u32],
+    indices: &mut [u32],
+    made: Made,
+) -> Made
+    requires { ⌜ Inside (now sdf) k ⌝ }
+    requires { ⌜ (k .low .z ≤ z) × (z < k .high .z) ⌝ }
+    requires { ⌜ Reached (callOf (now sdf) k) z made (buffers (now positions) (now normals) (now cells) (now strides) (now map) (now indices)) ⌝ }
+    ensures { λ r. ⌜ buffers (now (positions .exit)) (now (normals .exit)) (now (cells .exit)) (now (strides .exit)) (now (map .exit)) (now (indices .exit)) ≡ layerWritten (callOf (now (sdf .entry)) k) z made (buffers (now (positions .entry)) (now (normals .entry)) (now (cells .entry)) (now (strides .entry)) (now (map .entry)) (now (indices .entry))) ⌝ }
+    ensures { λ r. ⌜ r ≡ layerMade (callOf (now (sdf .entry)) k) z made ⌝ }
+{
+    let first = made.vertices;
+    let count = mark_part(sdf, k, z, first, positions, normals, cells, strides, map);
+    let used = face_part(sdf, k, z, made, count, cells, map, positions, indices);
+    Made {
+        vertices: made.vertices + count,
+        indices: made.indices + used,
+        below: made.vertices,
+    }
+}
+
+// The whole box, layer after layer, from no vertex and no index: all that document 01 says of an answer 0.
+pub fn mesh_box(
+    sdf: &[f32],
+    k: Block,
+    positions: &mut [f32],
+    normals: &mut [f32],
+    cells: &mut [u32],
+    strides: &mut [u32],
+    map: &mut [u32],
+    indices: &mut [u32],
+)
+    requires { ⌜ Inside (now sdf) k ⌝ }
+    requires { ⌜ Roomy (fieldOf (now sdf) k) (boxOf k) (flagsOf k) (length (now sdf)) (buffers (now positions) (now normals) (now cells) (now strides) (now map) (now indices)) ⌝ }
+    ensures { λ r. ⌜ buffers (now (positions .exit)) (now (normals .exit)) (now (cells .exit)) (now (strides .exit)) (now (map .exit)) (now (indices .exit)) ≡ written (callOf (now (sdf .entry)) k) (buffers (now (positions .entry)) (now (normals .entry)) (now (cells .entry)) (now (strides .entry)) (now (map .entry)) (now (indices .entry))) ⌝ }
+{
+    let from = k.low.z;
+    let end = k.high.z;
+    let mut state = Made {
+        vertices: 0,
+        indices: 0,
+        below: 0,
+    };
+    for z in from..end {
+        state = mesh_layer(
+            sdf,
+            k,
+            z,
+            positions,
+            normals,
+            cells,
+            strides,
+            map,
+            indices,
+            state,
+        );
+    }
+}

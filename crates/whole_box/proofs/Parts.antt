@@ -13,7 +13,7 @@ use lib.ListN.{length, getD, take, drop, length-take, length-drop}
 use lib.Seq.{length-take-le, take-all, getD-take, getD-drop}
 use Rattle.rules.specs.Grid.{GridPoint, index, inBox, value}
 use Rattle.rules.proofs.Tests.{less-or-not}
-use Rattle.rules.proofs.Indexes.{within, in-box, index-monotone}
+use Rattle.rules.proofs.Indexes.{within, in-box}
 use Rattle.grid.specs.declared.Block.{Block}
 use Rattle.grid.specs.Block.{point, boxOf, fieldOf}
 use Rattle.grid.specs.Inside.{Inside}

@@ -1,7 +1,7 @@
 /* bed.h: the bed mesher for C and C++.
  *
  * The library makes a triangle mesh of the surface where a grid of signed distances changes sign (naive
- * surface nets), and writes and reads meshes as files. It allocates nothing, keeps no state between calls
+ * surface nets), writes and reads meshes as files, and gives a mesh's volume. It allocates nothing, keeps no state between calls
  * and calls nothing of yours: all it reads and writes is lent by the caller for the length of the call. It
  * may be called from several threads at once on memory of their own.
  *
@@ -365,6 +365,53 @@ uint32_t bed_cut_fixtures(
     const uint8_t *file, size_t file_len,
     uint32_t dim_x, uint32_t dim_y, uint32_t dim_z,
     float *sdf, size_t sdf_len);
+
+/* What the volume of a mesh answers. The conditions are tried in the order of their numbers and the first
+ * that holds answers. */
+enum bed_volume_answer {
+    /* The volume was worked out. */
+    BED_VOLUME_DONE = 0,
+    /* positions or indices are not in threes. */
+    BED_VOLUME_THREES = 61,
+    /* There are more than 16,384 triangles. */
+    BED_VOLUME_TOO_MANY = 62,
+    /* A coordinate, of any vertex, whether or not a triangle has it, is not finite or not from 0 to 128.
+     * -0.0 counts as 0. */
+    BED_VOLUME_OUTSIDE = 63,
+    /* A triangle has an index that is not below the number of vertices. */
+    BED_VOLUME_INDEX = 64
+};
+
+/* Six times the signed volume of a mesh, as a whole number.
+ *
+ * In:
+ *   positions        three floats a vertex, each from 0 to 128.
+ *   indices          three vertex numbers a triangle, at most 16,384 triangles.
+ * After bed_surface_nets these are the first 3 V and I numbers of its lists: pass those lengths and not
+ * the lists' own.
+ *
+ * Out, on every answer:
+ *   volume           the sum, in cubed steps; 0 on every answer but BED_VOLUME_DONE.
+ *
+ * Each coordinate is turned into steps of 1/256, rounded down, worked out exactly: the whole part of
+ * 256 x. The volume is the sum, over the triangles, of the determinant whose rows are the triangle's
+ * three corners in steps. It is at most 2^60 in magnitude. Divide by 6 * 256^3 for cubed grid steps.
+ *
+ * Sign: the triangles of bed_surface_nets turn counter-clockwise as seen from outside the sludge, where
+ * the distances are not below zero, x, y and z being a right-handed system. A closed mesh that faces out
+ * so has a volume above zero; turned round, the same below zero, which is an answer like any other.
+ *
+ * The sum is a volume where the mesh has no hole (bed_is_enclosed) and does not cross itself; then it does
+ * not change when every vertex moves by the same whole steps. In any case the sums of the pieces of a box
+ * that was cut add up to that of the whole. Each coordinate moves by less than 1/256, down.
+ *
+ * volume is never null and may not overlap the lists; a list's pointer may be null only where its length
+ * is 0.
+ */
+uint32_t bed_volume(
+    const float *positions, size_t positions_len,
+    const uint32_t *indices, size_t indices_len,
+    int64_t *volume);
 
 #ifdef __cplusplus
 }

@@ -121,4 +121,17 @@ extern "C" {
         sdf: *mut f32,
         sdf_len: usize,
     ) -> u32;
+
+    /// Six times the signed volume of a mesh, and the answer number: 0 or 61 to 64.
+    ///
+    /// # Safety
+    ///
+    /// As for [`bed_write_mesh`]; `volume` is written on every answer.
+    pub fn bed_volume(
+        positions: *const f32,
+        positions_len: usize,
+        indices: *const u32,
+        indices_len: usize,
+        volume: *mut i64,
+    ) -> u32;
 }

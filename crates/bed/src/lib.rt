@@ -2,6 +2,7 @@
 pub mod cut;
 pub mod enclosed;
 pub mod files;
+pub mod weighing;
 
 ghost use mathlib.Core.Path.{_≡_};
 ghost use Rattle.rules.specs.Call.{answer, afterwards, room};

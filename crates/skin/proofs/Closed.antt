@@ -16,7 +16,7 @@ use Rattle.skin.specs.Links.{Link, link, reverse, sameLink, links, close
 use Rattle.skin.specs.Enclosed.{Enclosed}
 use Rattle.skin.proofs.Skin.{skin-law}
 
-sameLink-sound : (s t : Link) → T (sameLink s t) → s ≡ t
+pub sameLink-sound : (s t : Link) → T (sameLink s t) → s ≡ t
 sameLink-sound s t h = λ i. record { tail = tails i; head = heads i }
   where
     tails : s .tail ≡ t .tail
@@ -25,7 +25,7 @@ sameLink-sound s t h = λ i. record { tail = tails i; head = heads i }
     heads : s .head ≡ t .head
     heads = eqb→eq (s .head) (t .head) (and-r (eqb (s .tail) (t .tail)) (eqb (s .head) (t .head)) h)
 
-sameLink-itself : (s : Link) → T (sameLink s s)
+pub sameLink-itself : (s : Link) → T (sameLink s s)
 sameLink-itself s = and-i (eqb (s .tail) (s .tail)) (eqb (s .head) (s .head)) (eqb-refl (s .tail)) (eqb-refl (s .head))
 
 module _ (is : List ℕ) where

@@ -1,0 +1,39 @@
+-- `volume::steps::steps_of` meets its contract: by the fields of the bits. Assumes nothing.
+use Prim.Native.Nat.{_+_, _-_, _/_, _%_, _^_, _≤_}
+use native.Mathlib.Nat.{div-le-self}
+use native.Mathlib.Omega.{arith}
+use mathlib.Core.Path.{sym, subst}
+use borrow.Author.Needs.{needs}
+use lib.Dec.{T}
+use lib.Ieee.{binary32, fits, toBits}
+use Rattle.volume.proofs.Coordinate.{permitted-number, bits-small, bits-large}
+use Rattle.volume.proofs.steps.steps_of.Statement.{statement}
+use Rattle.volume.proofs.steps.steps_of.Tie as tie
+
+float-to-bits-bits : tie.Need-float-to-bits-bits
+float-to-bits-bits c = permitted-number (c .args .x) (c .pre)
+
+returns : tie.Need-returns
+returns c = sym (bits-small (c .before .args .x) (subst T (sym (c .before .good .0 .1)) tt) (c .if1 .taken))
+
+add-digits : tie.Need-add-digits
+add-digits c = search needs
+
+sub-result : tie.Need-sub-result
+sub-result c = omega (arith, bits-large (c .before .args .x) (subst T (sym (c .before .good .0 .1)) tt) (c .before .pre) (c .if1 .left) .0)
+
+shr-result : tie.Need-shr-result
+shr-result c = search needs
+
+cast-result : tie.Need-cast-result
+cast-result c =
+    let b = toBits binary32 (c .before .args .x) in
+    omega (arith, div-le-self (8388608 + b % 8388608) (2 ^ (142 - b % 2147483648 / 8388608)))
+
+returns-2 : tie.Need-returns-2
+returns-2 c = sym (bits-large (c .before .args .x) (subst T (sym (c .before .good .0 .1)) tt) (c .before .pre) (c .if1 .left) .1)
+
+pub steps-of-spec : {M : Type 1} → statement M
+steps-of-spec =
+    tie.close
+    (tie.spec float-to-bits-bits returns add-digits sub-result shr-result cast-result returns-2)

@@ -1,0 +1,2 @@
+-- A call of the volume with what came of it.
+pub mod Told

@@ -321,10 +321,9 @@ uint32_t bed_check_mesh(
  * first and the negated second. The order of comparing is that of the records, and of two equal values
  * the first stands, which shows where zeros of both signs meet. */
 
-/* What cutting fixtures answers. BED_DONE, BED_BAD_DIMENSIONS and BED_GRID_SHORT are as in bed_answer, but
- * that BED_GRID_SHORT is given whenever the grid's length is not the product of the dimensions; those
- * two are tried first. Then the first faulty record in file order answers, in one record the lowest
- * number, and BED_FIXTURE_AFTER comes last of all. On every answer but BED_DONE nothing is changed. */
+/* What cutting fixtures answers. BED_DONE, BED_BAD_DIMENSIONS and BED_BAD_GRID_LENGTH are as in bed_answer;
+ * those two refusals are tried first. Then the first faulty record in file order answers, in one record the
+ * lowest number, and BED_FIXTURE_AFTER comes last of all. On every answer but BED_DONE nothing is changed. */
 enum bed_fixture_answer {
     /* A record is needed and the file has fewer than 32 bytes left: it was cut off, or is empty. */
     BED_FIXTURE_CUT = 51,

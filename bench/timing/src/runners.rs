@@ -1,7 +1,7 @@
 //! Those who are timed: the proved library over lent buffers, builds of the original, and a plain loop that
 //! moves the same numbers and does nothing with them.
 
-use bed::{surface_nets_lent, Counts, Lent, Refusal};
+use bed::{surface_nets_lent, Counts, Lent, MaxPlane, Refusal};
 use std::ffi::{c_char, c_int, c_void, CString};
 use std::hint::black_box;
 
@@ -52,7 +52,8 @@ impl Library {
             stride_to_index,
             indices,
         };
-        surface_nets_lent(grid, [side; 3], [0; 3], [side - 1; 3], false, &mut lent)
+        let max = [side - 1; 3];
+        surface_nets_lent(grid, [side; 3], [0; 3], max, MaxPlane::NONE, &mut lent)
     }
 }
 

@@ -23,6 +23,7 @@ use Rattle.volume.specs.declared.Corner.{Corner}
 use Rattle.volume.specs.Steps.{steps}
 use Rattle.volume.specs.Volume.{corner, cornerAt, determinant, sumOver}
 use Rattle.volume.proofs.Laws.{joined-sum}
+use Rattle.weighed_mesh.specs.Facing.{stepsOf}
 
 -- ---- sums of whole numbers with a sign
 
@@ -51,10 +52,6 @@ perm-sumZ f (swap {x = x} {y = y} {s = s}) = past (f x) (f y) (sumZ f s)
 perm-sumZ f (trans p q) = perm-sumZ f p ∙ perm-sumZ f q
 
 -- ---- one face
-
--- a position in steps
-abbrev pub stepsOf : Vector → Corner
-stepsOf v = corner (steps (v .x)) (steps (v .y)) (steps (v .z))
 
 -- the determinants of a list of corners, three a triangle
 unfoldable pub cornersSum : List Corner → ℤ

@@ -7,3 +7,5 @@ pub mod Once
 pub mod Faces
 pub mod Cut
 pub mod Mesh
+pub mod Facing
+pub mod Instances

@@ -1,20 +1,28 @@
 -- Document 02, request 14, over the answers of the call itself: each law of the volume, for any calls with these arguments. Assumes nothing.
-use Prim.Native.Nat.{ℕ, _+_, _/_, _%_, _≤_, _<_}
-use mathlib.Core.Bool.{Bool, true, false, _||_, true≢false}
+use Prim.Native.Nat.{ℕ, _+_, _*_, _/_, _%_, _^_, _≤_, _<_}
+use native.Mathlib.Omega.{arith}
+use mathlib.Core.Bool.{Bool, true, false, not, _||_, true≢false}
 use mathlib.Core.List.{List, [], _∷_, _++_}
 use mathlib.Core.Path.{_≡_, refl, sym, ap, ap₂, subst, _∙_}
 use borrow.Author.Tests.{leb-false}
-use lib.IntN.{ℤ, negℤ, _+ℤ_}
-use lib.ListN.{length}
-use lib.Ieee.{Float}
+use lib.Dec.{T}
+use lib.IntN.{ℤ, negℤ, natAbs, _+ℤ_}
+use lib.ListN.{length, getD}
+use lib.Ieee.{Float, nan}
 use Rattle.rules.specs.Lists.{some}
 use Rattle.rules.proofs.Lists.{All, none, more, all-then}
 use Rattle.rules.proofs.Permutation.{Perm}
 use Rattle.skin.specs.Links.{links}
+use Rattle.volume.specs.declared.Corner.{Corner}
 use Rattle.volume.specs.declared.Weighed.{Weighed}
-use Rattle.volume.specs.Volume.{cornerAt}
+use Rattle.volume.specs.Steps.{outside, steps}
+use Rattle.volume.specs.Volume.{Near, cornerAt, determinant, sumOver}
 use Rattle.volume.specs.Answers.{notThrees, noVertex, someOutside, weighed, weighing}
 use Rattle.volume.specs.Triangles.{turnedRound, Rolled, triangles}
+use Rattle.volume.proofs.Answering.{in-threes, few-enough}
+use Rattle.volume.proofs.Bounds.{sum-most, determinant-most}
+use Rattle.volume.proofs.Coordinate.{steps-near}
+use Rattle.volume.proofs.Scanning.{none-at}
 use Rattle.volume.proofs.Weighing.{Accepted, accepted, weighs, round-weighs, rolled-weighs, order-weighs, joined-weighs}
 use Rattle.weighed_mesh.specs.Told.{Told}
 use Rattle.weighed_mesh.proofs.Sides.{Even}
@@ -83,4 +91,34 @@ told-moved s t u done even i long inside moves =
     all : All (λ (v : ℕ). Moves s (cornerAt (t .positions) v) (cornerAt (u .positions) v)) (t .indices)
     all =
         all-then (λ (v : ℕ) (e : noVertex (length (t .positions) / 3) v ≡ false). moves v (leb-false (length (t .positions) / 3) v e))
+        (none-all (noVertex (length (t .positions) / 3)) (t .indices) (a .vertices))
+
+-- ---- how large
+
+near-at : (p : List Float) → someOutside p ≡ false → (v : ℕ) → v < length p / 3 → Near (cornerAt p v)
+near-at p e v h = record { x = near (3 * v) (omega arith); y = near (3 * v + 1) (omega arith); z = near (3 * v + 2) (omega arith) }
+  where
+    near : (i : ℕ) → i < length p → steps (getD p i nan) ≤ 2 ^ 15
+    near i k = steps-near (getD p i nan) (subst (λ (t : Bool). T (not t)) (sym (none-at outside nan p e i k)) tt)
+
+sum-bound : (at : ℕ → Corner) {l : List ℕ} → All (λ (i : ℕ). Near (at i)) l → 3 * natAbs (sumOver at l) ≤ length l * 2 ^ 46
+unfolding sumOver
+sum-bound at none = omega arith
+sum-bound at (more p none) = omega arith
+sum-bound at (more p (more q none)) = omega arith
+sum-bound at (more {x = i} p (more {x = j} q (more {x = k} {xs = is} r rest))) =
+    omega (arith, sum-most (determinant (at i) (at j) (at k)) (sumOver at is), determinant-most (at i) (at j) (at k) p q r, sum-bound at rest)
+
+-- a volume is at most 2^60 in magnitude
+pub told-most : (t : Told) → t .says .answer ≡ 0 → natAbs (t .says .volume) ≤ 2 ^ 60
+told-most t done =
+    subst (λ (w : Weighed). natAbs (w .volume) ≤ 2 ^ 60) (sym (t .told ∙ weighs (t .positions) (t .indices) a))
+    (omega (arith, sum-bound (cornerAt (t .positions)) all, few-enough (t .indices) (a .few), in-threes (t .positions) (t .indices) (a .threes)))
+  where
+    a : Accepted (t .positions) (t .indices)
+    a = accepted (t .positions) (t .indices) (ap (λ (w : Weighed). w .answer) (sym (t .told)) ∙ done)
+
+    all : All (λ (v : ℕ). Near (cornerAt (t .positions) v)) (t .indices)
+    all =
+        all-then (λ (v : ℕ) (e : noVertex (length (t .positions) / 3) v ≡ false). near-at (t .positions) (a .inside) v (leb-false (length (t .positions) / 3) v e))
         (none-all (noVertex (length (t .positions) / 3)) (t .indices) (a .vertices))

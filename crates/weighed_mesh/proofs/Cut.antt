@@ -1,53 +1,24 @@
 -- The bed's volume does not depend on how the tank was cut: the determinants of all pieces' triangles, summed, are those of the whole, for any flags and
 -- any pieces that own each edge of the whole once, as the pieces of any run of cuts do. Over what the calls write. Assumes nothing.
-use Prim.Native.Nat.{ℕ, _*_}
-use native.Mathlib.Omega.{arith}
-use mathlib.Core.List.{List, [], _∷_, map}
+use mathlib.Core.List.{List, [], _∷_}
 use mathlib.Core.Path.{_≡_, refl, sym, ap, ap₂, _∙_}
 use lib.IntN.{ℤ, pos, _+ℤ_}
-use lib.ListN.{length, take, drop}
-use lib.Seq.{take-at}
-use lib.Ieee.{Float}
-use Rattle.rules.specs.Lists.{joined}
-use Rattle.rules.specs.Grid.{GridPoint, Box, Field}
-use Rattle.rules.specs.Vertices.{vertices, vertexPosition}
-use Rattle.rules.specs.Faces.{Edge, Flags, edges, indices}
-use Rattle.rules.specs.Call.{Call, Buffers, Answer, flatVectors, written}
+use Rattle.rules.specs.Grid.{Field}
+use Rattle.rules.specs.Faces.{edges}
 use Rattle.rules.specs.Cutting.{Piece, Cuts, pieces, Fits}
 use Rattle.rules.proofs.Lists.{All, none, more}
-use Rattle.rules.proofs.Seen.{length-vectors}
 use Rattle.rules.proofs.Cutting.{Plan, cuts-plan, edge-law}
 use Rattle.volume.specs.declared.Weighed.{Weighed}
 use Rattle.volume.specs.Volume.{sixfold}
-use Rattle.volume.specs.Answers.{weighed}
 use Rattle.volume.proofs.Weighing.{accepted, weighs}
 use Rattle.promises.specs.Served.{Served, Done}
-use Rattle.promises.proofs.Done.{done-counts, done-writes}
+use Rattle.promises.proofs.ReadBack.{positions-back, indices-back}
 use Rattle.weighed_mesh.specs.Told.{Told, positionsOf, indicesOf, weightOf}
 use Rattle.weighed_mesh.proofs.Faces.{sumZ, sumZ-joined, perm-sumZ, faceSum, mesh-sum}
 
-module _ (u : Served) (d : Done u) where
-  abbrev vs : List GridPoint
-  vs = vertices (u .call .grid) (u .call .box)
-
-  -- what is read back is what the rules define
-  pub positions-back : positionsOf u ≡ flatVectors (map (vertexPosition (u .call .grid)) vs)
-  unfolding written
-  positions-back =
-      let xs : List Float = flatVectors (map (vertexPosition (u .call .grid)) vs) in
-      ap₂ (λ (n : ℕ) (s : Buffers). take (3 * n) (s .positions)) (done-counts u d .0) (done-writes u d)
-      ∙ take-at xs (drop (length xs) (u .before .positions)) (3 * length vs) (length-vectors (vertexPosition (u .call .grid)) vs)
-
-  pub indices-back : indicesOf u ≡ indices (u .call .grid) (u .call .box) (u .call .flags)
-  unfolding written
-  indices-back =
-      let is : List ℕ = indices (u .call .grid) (u .call .box) (u .call .flags) in
-      ap₂ (λ (n : ℕ) (s : Buffers). take n (s .indices)) (done-counts u d .1) (done-writes u d)
-      ∙ take-at is (drop (length is) (u .before .indices)) (length is) refl
-
-  -- the sum over what is written is that over the faces of the rules
-  pub weight-is : weightOf u ≡ sumZ (faceSum (u .call .grid)) (edges (u .call .grid) (u .call .box) (u .call .flags))
-  weight-is = ap₂ sixfold positions-back indices-back ∙ mesh-sum (u .call .grid) (u .call .box) (u .call .flags)
+-- the sum over what is written is that over the faces of the rules
+pub weight-is : (u : Served) → Done u → weightOf u ≡ sumZ (faceSum (u .call .grid)) (edges (u .call .grid) (u .call .box) (u .call .flags))
+weight-is u d = ap₂ sixfold (positions-back u d) (indices-back u d) ∙ mesh-sum (u .call .grid) (u .call .box) (u .call .flags)
 
 -- ---- a call for each piece
 

@@ -1,27 +1,27 @@
 -- No face faces the wrong way. By the closed-cell law the four vertices of a face lie in the four quadrants round its edge, and steps keep the order; so the
 -- four go round, and the two triangles together have no area the wrong way. Over what a call wrote, for any flags. Assumes nothing.
-use Prim.Native.Nat.{ℕ, zero, suc, _+_, _-_, _*_, _/_, _≤_, _<_}
+use Prim.Native.Nat.{ℕ, zero, suc, _+_, _-_, _*_, _≤_, _<_}
 use native.Mathlib.Nat.{le-div-iff-mul-le, mul-le-mul-left, le-trans, le-of-eq, mul-comm, mul-zero, zero-mul, div-one}
 use native.Mathlib.Omega.{arith}
 use mathlib.Core.Bool.{Bool, true, false, not, cond}
-use mathlib.Core.List.{List, [], _∷_, map, map-map}
+use mathlib.Core.List.{map}
 use mathlib.Core.Path.{_≡_, refl, sym, ap, ap₂, subst, _∙_}
-use lib.Dec.{T, leb, ltb, leb·zero, nltb→le, ltb→lt}
+use lib.Dec.{T, ltb, leb·zero, ltb→lt}
 use lib.IntN.{ℤ, pos, negsuc, negℤ, _+ℤ_, _-ℤ_, _*ℤ_, *ℤ-comm, negℤ-negℤ, +ℤ-comm, +ℤ-idl}
-use lib.Signed.{_≤ℤ_, leZ}
+use lib.Signed.{_≤ℤ_}
 use lib.Ieee.{Float, nan, inf, fin, up, down, binary32, fits}
-use lib.Ieee.Positive.{num, den}
 use lib.Ieee.Bits.{is-true}
 use lib.Ieee.Fits.{down-pos}
 use lib.Ieee.Nearest.{div-mono}
-use Rattle.rounding.specs.Values.{Between}
-use Rattle.rules.specs.Grid.{GridPoint, Axis, axisX, axisY, axisZ, Box, Field, along, inBox, isCell, value, stepDown, turned}
+use Rattle.rules.specs.Grid.{GridPoint, Axis, axisX, axisY, axisZ, Box, Field, along, index, inBox, value, stepDown}
 use Rattle.rules.specs.Cell.{Vector, negative}
-use Rattle.rules.specs.Vertices.{surfaceCell, vertexPosition}
-use Rattle.rules.specs.Faces.{Edge, Flags, axisB, axisC, gives, edges, six, shorter, faceCells, cell1, cell2, cell3, cell4}
-use Rattle.rules.specs.Call.{badDimensions, badBox, badDistance}
-use Rattle.rules.specs.Cutting.{Face, faceOf, cornerAt, Corner as Seen}
+use Rattle.rules.specs.Vertices.{vertexPosition}
+use Rattle.rules.specs.Faces.{Edge, Flags, axisB, axisC, gives, six, shorter, faceCells, cell1, cell2, cell3, cell4}
+use Rattle.rules.specs.Call.{Call, room, badDimensions, badBox, badDistance}
+use Rattle.rules.specs.Cutting.{faceOf, cornerAt, Corner as Seen}
 use Rattle.rules.proofs.Lists.{All, all-then, all-map}
+use Rattle.rules.proofs.Accepted.{Accepted}
+use Rattle.rules.proofs.Indexes.{index-below}
 use Rattle.rules.proofs.FourCells.{Four, Owned, owned-says, gives-owned}
 use Rattle.rules.proofs.Edges.{edges-all}
 use Rattle.rules.proofs.Numbers.{four-each}
@@ -34,7 +34,7 @@ use Rattle.volume.proofs.Whole.{minus-plus, neg-minus}
 use Rattle.promises.specs.Served.{Served, Done, pieceOf, facesRead}
 use Rattle.promises.proofs.Done.{done-accepts}
 use Rattle.promises.proofs.ReadBack.{faces-back}
-use Rattle.weighed_mesh.specs.Facing.{stepsOf, onAxis, area, areas, faceArea, from, cross, GoesRound, vertexSteps, FacesOut}
+use Rattle.weighed_mesh.specs.Facing.{stepsOf, onAxis, areas, GoesRound, vertexSteps, FacesOut}
 
 -- ---- steps keep the order
 
@@ -273,48 +273,49 @@ module _ (g : Field) (b : Box) (m : Flags) (values32 : (p : GridPoint) → T (in
       d4 : (along (axisB (e .axis)) (cell4 e) ≡ along (axisB (e .axis)) (cell2 e)) × (along (axisC (e .axis)) (cell4 e) ≡ along (axisC (e .axis)) (cell2 e) - 1)
       d4 = down-c (e .axis) (cell2 e)
 
-  -- the face that an edge defines
-  edge-out : (e : Edge) → T (gives g b m e) → FacesOut g (faceOf g e)
-  unfolding faceCells
-  edge-out e t =
-      record {
-        round = go-round (e .axis) (e .from) v1 v2 v3 v4 q;
-        up = λ n. subst (λ (s : Bool). pos 0 ≤ℤ areas (e .axis) (map (λ (c : Seen). stepsOf (c .position)) (map (cornerAt g) (six (shorter g e) s (cell1 e) (cell2 e) (cell3 e) (cell4 e))))) (sym (is-true (negative (value g (e .from))) n)) (seen-up (shorter g e));
-        down = λ n. subst (λ (s : Bool). areas (e .axis) (map (λ (c : Seen). stepsOf (c .position)) (map (cornerAt g) (six (shorter g e) s (cell1 e) (cell2 e) (cell3 e) (cell4 e)))) ≤ℤ pos 0) (sym (not-true (negative (value g (e .from))) n)) (seen-down (shorter g e));
-      }
-    where
-      v1 : Corner
-      v1 = vertexSteps g (cell1 e)
+  -- the areas of the triangles of an edge's face, by which diagonal is drawn and whether p1 is negative
+  abbrev seenAreas : Edge → Bool → Bool → ℤ
+  seenAreas e s t = areas (e .axis) (map (λ (c : Seen). stepsOf (c .position)) (map (cornerAt g) (six s t (cell1 e) (cell2 e) (cell3 e) (cell4 e))))
 
-      v2 : Corner
-      v2 = vertexSteps g (cell2 e)
+  not-true : (s : Bool) → T (not s) → s ≡ false
+  not-true true h = absurd h
+  not-true false h = refl
 
-      v3 : Corner
-      v3 = vertexSteps g (cell3 e)
+  module _ (e : Edge) (t : T (gives g b m e)) where
+    abbrev v : (Edge → GridPoint) → Corner
+    v cell = vertexSteps g (cell e)
 
-      v4 : Corner
-      v4 = vertexSteps g (cell4 e)
+    seen-up : (s : Bool) → pos 0 ≤ℤ seenAreas e s true
+    seen-up true = six-up (e .axis) (e .from) (v cell1) (v cell2) (v cell3) (v cell4) (quadrants e t) true
+    seen-up false = six-up (e .axis) (e .from) (v cell1) (v cell2) (v cell3) (v cell4) (quadrants e t) false
 
-      q : Quadrants (e .axis) (e .from) (vertexSteps g (cell1 e)) (vertexSteps g (cell2 e)) (vertexSteps g (cell3 e)) (vertexSteps g (cell4 e))
-      q = quadrants e t
+    seen-down : (s : Bool) → seenAreas e s false ≤ℤ pos 0
+    seen-down true = six-down (e .axis) (e .from) (v cell1) (v cell2) (v cell3) (v cell4) (quadrants e t) true
+    seen-down false = six-down (e .axis) (e .from) (v cell1) (v cell2) (v cell3) (v cell4) (quadrants e t) false
 
-      not-true : (s : Bool) → T (not s) → s ≡ false
-      not-true true h = absurd h
-      not-true false h = refl
-
-      seen-up : (s : Bool) → pos 0 ≤ℤ areas (e .axis) (map (λ (c : Seen). stepsOf (c .position)) (map (cornerAt g) (six s true (cell1 e) (cell2 e) (cell3 e) (cell4 e))))
-      seen-up true = six-up (e .axis) (e .from) (vertexSteps g (cell1 e)) (vertexSteps g (cell2 e)) (vertexSteps g (cell3 e)) (vertexSteps g (cell4 e)) q true
-      seen-up false = six-up (e .axis) (e .from) (vertexSteps g (cell1 e)) (vertexSteps g (cell2 e)) (vertexSteps g (cell3 e)) (vertexSteps g (cell4 e)) q false
-
-      seen-down : (s : Bool) → areas (e .axis) (map (λ (c : Seen). stepsOf (c .position)) (map (cornerAt g) (six s false (cell1 e) (cell2 e) (cell3 e) (cell4 e)))) ≤ℤ pos 0
-      seen-down true = six-down (e .axis) (e .from) (vertexSteps g (cell1 e)) (vertexSteps g (cell2 e)) (vertexSteps g (cell3 e)) (vertexSteps g (cell4 e)) q true
-      seen-down false = six-down (e .axis) (e .from) (vertexSteps g (cell1 e)) (vertexSteps g (cell2 e)) (vertexSteps g (cell3 e)) (vertexSteps g (cell4 e)) q false
+    -- the face that an edge defines
+    edge-out : FacesOut g (faceOf g e)
+    unfolding faceCells
+    edge-out =
+        record {
+          round = go-round (e .axis) (e .from) (v cell1) (v cell2) (v cell3) (v cell4) (quadrants e t);
+          up = λ n. subst (λ (s : Bool). pos 0 ≤ℤ seenAreas e (shorter g e) s) (sym (is-true (negative (value g (e .from))) n)) (seen-up (shorter g e));
+          down = λ n. subst (λ (s : Bool). seenAreas e (shorter g e) s ≤ℤ pos 0) (sym (not-true (negative (value g (e .from))) n)) (seen-down (shorter g e));
+        }
 
 -- ---- over what is written
 
-pub faces-out : (u : Served) → ((p : GridPoint) → T (inBox (u .call .box) p) → T (fits binary32 (value (u .call .grid) p))) → Done u → All (FacesOut (u .call .grid)) (facesRead u)
-faces-out u values32 d =
-    let c = u .call in
-    let a = done-accepts u d in
+pub faces-out : (u : Served) → Done u → All (FacesOut (u .call .grid)) (facesRead u)
+faces-out u d =
     subst (All (FacesOut (c .grid))) (sym (faces-back u d ∙ seen-is (c .grid) (pieceOf c)))
     (all-map (faceOf (c .grid)) (all-then (edge-out (c .grid) (c .box) (c .flags) values32 (a .dims) (a .box) (a .distance)) (edges-all (c .grid) (c .box) (c .flags))))
+  where
+    c : Call
+    c = u .call
+
+    a : Accepted (u .call .grid) (u .call .size) (room (u .before) .map) (u .call .box)
+    a = done-accepts u d
+
+    -- condition 3 lets each point of the box stand in the grid, whose numbers are binary32 values
+    values32 : (p : GridPoint) → T (inBox (u .call .box) p) → T (fits binary32 (value (u .call .grid) p))
+    values32 p t = u .numbers (index (u .call .grid .dims) p) (index-below (u .call .grid .dims) (u .call .box) (u .call .size) p (a .box) (a .length) t)

@@ -11,13 +11,13 @@ use Rattle.skin.proofs.Skin.{skin-law}
 use Rattle.volume.specs.Volume.{cornerAt}
 use Rattle.volume.specs.Answers.{someOutside}
 use Rattle.promises.specs.Served.{Served, Done}
+use Rattle.promises.proofs.ReadBack.{indices-back}
 use Rattle.promises.proofs.Runs.{Run, served, BedRun, bedServed}
 use Rattle.weighed_mesh.specs.Told.{Told, positionsOf, indicesOf}
 use Rattle.weighed_mesh.proofs.Sides.{Even}
 use Rattle.weighed_mesh.proofs.Moved.{Shift, Moves}
 use Rattle.weighed_mesh.proofs.Answers.{told-moved}
 use Rattle.weighed_mesh.proofs.Outcomes.{Weigh, told, BedWeigh, bedTold}
-use Rattle.weighed_mesh.proofs.Cut.{indices-back}
 
 -- a call of the volume on what a mesh call wrote, answered 0
 pub record OwnMesh (u : Served) (t : Told) : Type 0 where

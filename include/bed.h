@@ -136,10 +136,10 @@ enum bed_answer {
  *
  * Cutting a box into blocks: a cut on an axis at k, min <= k < max there, gives a lower piece from min to
  * k + 1 and an upper piece from k to max on that axis; a piece may be cut again. On the cut axis the lower
- * piece has its max plane off and the upper keeps the whole's; on the other axes both keep the whole's. Then
- * the pieces make the faces of the whole, each exactly once: none is lost and none is doubled, for any max
- * planes of the whole. Both pieces hold the cells of layer k, so vertices there come twice. With the lower
- * piece's max plane left on, its faces at the cut come twice.
+ * piece has its max plane off and the upper keeps the whole's; on the other axes both keep the whole's.
+ * Then the pieces make the faces of the whole, each exactly once, none lost and none doubled, for any max
+ * planes of the whole. Both pieces hold the cells of layer k, so vertices there come twice. Were the lower
+ * piece's max plane left on, so would the faces of edges along the cut axis from k.
  *
  * Nothing that is lent may overlap anything else, the two counts included. Pointers are aligned for their
  * type; a pointer may be null only where its length is 0. The two counts' pointers are never null.

@@ -1,6 +1,6 @@
 //! Document 02, request 4, counted on meshes of the library: boxes with any flags are cut again and again, and
-//! the pieces' faces are the whole's, each once; with a flag that is wrong at the cut some face is made twice,
-//! or none of them.
+//! the pieces' faces are the whole's, each once. With a wrong flag at the cuts some face is made twice, or not
+//! at all, which must show.
 
 mod tree;
 

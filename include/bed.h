@@ -191,6 +191,52 @@ uint32_t bed_is_enclosed(
     uint32_t max_x, uint32_t max_y, uint32_t max_z,
     bool *enclosed);
 
+/* A tank's block plan: the blocks that a tank's box is meshed in, each by a call of its own. */
+
+/* What checking a plan answers. BED_PLAN_LIST is tried before BED_PLAN_BOX. */
+enum bed_plan_answer {
+    /* The plan was checked. */
+    BED_PLAN_CHECKED = 0,
+    /* The list has more than 200 blocks. */
+    BED_PLAN_LIST = 41,
+    /* A box, the whole's or a block's, has min above max on an axis or a coordinate above 16,777,216. */
+    BED_PLAN_BOX = 42
+};
+
+/* A block: the box of a call, min and max corner, and the max plane for each axis. 28 bytes, aligned to 4:
+ * six numbers, then three flags of one byte each, 0 or 1, then one byte that is never read. */
+struct bed_block {
+    uint32_t min_x, min_y, min_z;
+    uint32_t max_x, max_y, max_z;
+    bool max_plane_x, max_plane_y, max_plane_z;
+};
+
+/* Whether a list of blocks is a plan of a box.
+ *
+ * It is, exactly if every edge that the whole box owns with its flags is owned by exactly one block, and
+ * no block owns any other edge. Then the blocks' faces are the whole's faces, each once, however the blocks
+ * lie. An edge is owned by a box if its lower end is the lowest corner of a cell of the box, is above min on
+ * the two other axes and, unless the box has max plane on the edge's axis, is not at max - 1 along it. So a
+ * box of one cell owns nothing and may stand in any plan, anywhere and more than once; and so may a
+ * flat box. An empty list is a plan of a box that owns nothing.
+ *
+ * In:
+ *   blocks           the blocks, at most 200.
+ *   min_x .. max_plane_z    the whole: its corners and its max plane for each axis.
+ *
+ * Out, on every answer:
+ *   holds            yes or no; no on every answer but BED_PLAN_CHECKED. What stood there before never matters.
+ *
+ * No edge is visited: the time depends on the number of blocks alone. holds overlaps nothing else. Pointers
+ * are aligned for their type; blocks may be null only where its length is 0, holds never.
+ */
+uint32_t bed_check_plan(
+    const struct bed_block *blocks, size_t blocks_len,
+    uint32_t min_x, uint32_t min_y, uint32_t min_z,
+    uint32_t max_x, uint32_t max_y, uint32_t max_z,
+    bool max_plane_x, bool max_plane_y, bool max_plane_z,
+    bool *holds);
+
 /* Mesh files: a mesh as bytes that show a power cut. The library opens no file; the bytes are lent, as
  * everything else is.
  *

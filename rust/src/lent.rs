@@ -20,6 +20,7 @@ pub struct Counts {
 /// A box that is cut on an axis at k, min <= k < max there, gives a piece from min to k + 1 and one from k to
 /// max. If on that axis the lower piece has its flag off and the upper keeps the whole's, and on the other
 /// axes both keep the whole's, then the pieces make each face of the whole exactly once.
+#[repr(C)]
 #[derive(Clone, Copy, Debug, Default, PartialEq, Eq)]
 pub struct MaxPlane {
     pub x: bool,

@@ -1,6 +1,8 @@
 //! The C functions as `include/bed.h` declares them. They are to be called in the default floating-point
 //! environment; the crate's other functions see to that themselves.
 
+use crate::plan::Block;
+
 extern "C" {
     /// Meshes the box min..=max of a grid into lent buffers and returns the answer number, 0 to 7.
     ///
@@ -58,6 +60,26 @@ extern "C" {
         max_y: u32,
         max_z: u32,
         enclosed: *mut bool,
+    ) -> u32;
+
+    /// Checks a list of blocks against a whole and returns the answer number: 0, 41 or 42.
+    ///
+    /// # Safety
+    ///
+    /// As above; `holds` points to a `bool` that holds a value and is written on every answer.
+    pub fn bed_check_plan(
+        blocks: *const Block,
+        blocks_len: usize,
+        min_x: u32,
+        min_y: u32,
+        min_z: u32,
+        max_x: u32,
+        max_y: u32,
+        max_z: u32,
+        max_plane_x: bool,
+        max_plane_y: bool,
+        max_plane_z: bool,
+        holds: *mut bool,
     ) -> u32;
 
     /// Writes the file of a mesh into lent bytes and returns the answer number: 0, 26, 27, 29 or 30.

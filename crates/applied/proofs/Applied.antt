@@ -84,32 +84,32 @@ flat-none = surface-nets-flat flat (record { axis = axisX; flat = refl; accepted
 
 -- ---- a cut
 
-abbrev cutOnce : Cuts
+abbrev pub cutOnce : Cuts
 cutOnce = cut axisX 1 uncut uncut
 
 abbrev box : Box
 box = served whole .call .box
 
 -- with no max plane
-abbrev bare : Piece
+abbrev pub bare : Piece
 bare = record { box = box; flags = allThree false }
 
-fits-once : Fits cutOnce bare
+pub fits-once : Fits cutOnce bare
 fits-once = omega arith
 
-passes : Passing grid dims box
+pub passes : Passing grid dims box
 passes = done-accepts (served whole) done
 
 -- one call for each piece, with room
-lowerMeshed : Meshed {U = Run} served grid dims (lowerPiece axisX 1 bare)
+unfoldable pub lowerMeshed : Meshed {U = Run} served grid dims (lowerPiece axisX 1 bare)
 unfolding opened
 lowerMeshed = record { run = lower; asked = refl; roomy = record { map = lit≤ tt; positions = lit≤ tt; normals = lit≤ tt; cells = lit≤ tt; strides = lit≤ tt; indices = lit≤ tt } }
 
-upperMeshed : Meshed {U = Run} served grid dims (upperPiece axisX 1 bare)
+unfoldable pub upperMeshed : Meshed {U = Run} served grid dims (upperPiece axisX 1 bare)
 unfolding opened
 upperMeshed = record { run = upper; asked = refl; roomy = record { map = lit≤ tt; positions = lit≤ tt; normals = lit≤ tt; cells = lit≤ tt; strides = lit≤ tt; indices = lit≤ tt } }
 
-wholeMeshed : Meshed {U = Run} served grid dims bare
+unfoldable pub wholeMeshed : Meshed {U = Run} served grid dims bare
 unfolding opened
 wholeMeshed = record { run = whole; asked = refl; roomy = record { map = lit≤ tt; positions = lit≤ tt; normals = lit≤ tt; cells = lit≤ tt; strides = lit≤ tt; indices = lit≤ tt } }
 

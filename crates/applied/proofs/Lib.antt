@@ -2,3 +2,4 @@
 pub mod Made
 pub mod OnePoint
 pub mod Applied
+pub mod Planned

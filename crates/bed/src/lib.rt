@@ -2,6 +2,7 @@
 pub mod cut;
 pub mod enclosed;
 pub mod files;
+pub mod plans;
 pub mod weighing;
 
 ghost use mathlib.Core.Path.{_≡_};

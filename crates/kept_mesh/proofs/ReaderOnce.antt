@@ -32,7 +32,7 @@ module _ {M : Type 1} (𝓤 : URA M) (T : Ended) (clauses : Clauses 𝓤 T) wher
   OneOutcome = (κs : Lfts (T .signature .lifetimes)) (a : Args (T .signature) κs) (g : clauses κs a .ghost) (o o' : Outcome T κs a) → ent 𝓤 (sep 𝓤 (Ensured κs a g o) (Ensured κs a g o')) (fact 𝓤 (o ≡ o'))
 
 -- two facts, and what follows from them
-both : {M : Type 1} (𝓤 : URA M) (φ ψ χ : Type 0) → (φ → ψ → χ) → ent 𝓤 (sep 𝓤 (fact 𝓤 φ) (fact 𝓤 ψ)) (fact 𝓤 χ)
+pub both : {M : Type 1} (𝓤 : URA M) (φ ψ χ : Type 0) → (φ → ψ → χ) → ent 𝓤 (sep 𝓤 (fact 𝓤 φ) (fact 𝓤 ψ)) (fact 𝓤 χ)
 both 𝓤 φ ψ χ h = fact-use 𝓤 φ (fst∗ 𝓤 (fact 𝓤 φ) (fact 𝓤 ψ)) (λ x. fact-use 𝓤 ψ (snd∗ 𝓤 (fact 𝓤 φ) (fact 𝓤 ψ)) (λ y. factI 𝓤 χ _ (h x y)))
 
 module _ {M : Type 1} (𝓤 : URA M) (H : Heap 𝓤) (A : Atoms 𝓤) (mem : Memory → SProp 𝓤) (run : Routine → Fun 𝓤) where

@@ -1,7 +1,8 @@
 -- Document 01, "Cutting a box", of what the calls on the pieces have written, lent lists and all: whoever cuts a box that conditions 1 to 5 let pass, and
 -- calls once for each piece, with a map as long as the grid and room for the piece's own mesh, is answered 0 each time, and the faces read from
 -- the lists of all the pieces are those of the whole, each once. For any flags (document 02, request 4): "on the cut axis the lower piece has its flag off and
--- the upper keeps the whole's; on the other axes both keep the whole's". Document 01's law is the case with none. From the laws of cutting and of what is read back. Assumes nothing.
+-- the upper keeps the whole's; on the other axes both keep the whole's". Document 01's law is the case with none. The same for any plan, of which a run of cuts is a case. From the laws of cutting and of
+-- what is read back. Assumes nothing.
 use Prim.Native.Nat.{ℕ, _+_, _*_, _≤_}
 use mathlib.Core.Bool.{false}
 use mathlib.Core.List.{List, [], _∷_, _++_, map}
@@ -13,13 +14,13 @@ use Rattle.rules.specs.Lists.{one, many, joined}
 use Rattle.rules.specs.Grid.{GridPoint, Axis, Box, Field, along}
 use Rattle.rules.specs.Faces.{Edge, flag, gives, edges, changingEdges}
 use Rattle.rules.specs.Call.{Call, Room, Answer, room, answer, vertexCount, indexCount}
-use Rattle.rules.specs.Cutting.{Piece, Cuts, pieces, Fits, upperPiece, Face, faceOf}
+use Rattle.rules.specs.Cutting.{Piece, Cuts, pieces, Fits, Plan, upperPiece, Face, faceOf}
 use Rattle.rules.proofs.Lists.{All, none, more, all-then, many-map, total, total-same, total-scaled, length-joined}
 use Rattle.rules.proofs.Permutation.{Perm, perm-many}
 use Rattle.rules.proofs.Accepted.{Accepted, accepted-answer, pieces-accepted}
 use Rattle.rules.proofs.Edges.{sameEdge, edges-once}
 use Rattle.rules.proofs.Seen.{seen, seen-is}
-use Rattle.rules.proofs.Cutting.{cut-law, last-upper}
+use Rattle.rules.proofs.Cutting.{cuts-plan, mesh-law, number-law, last-upper}
 use Rattle.grid.specs.declared.Extent.{Extent}
 use Rattle.grid.specs.Block.{point, flags}
 use Rattle.judge.proofs.Judging.{room-enough}
@@ -134,17 +135,16 @@ module _ {U : Type 0} (made : U → Served) (grid : List Float) (dims : Extent) 
 
   -- ---- the law
 
-  -- conditions 1 to 5 do not hold of the whole, with a map as long as the grid; "min ≤ k < max" at each cut, to any depth; and one call for each piece
-  pub cut-mesh : (t : Cuts) (w : Piece) → Passing grid dims (w .box) → Fits t w → (ms : All Meshed (pieces t w))
-      → CutMesh (fieldIn grid dims) w (outcomes (pieces t w) ms)
-  cut-mesh t w a f ms =
+  -- of any plan: conditions 1 to 5 hold of no piece, with a map as long as the grid; and one call for each piece
+  pub plan-mesh : (ps : List Piece) (w : Piece) → Plan ps w → All (λ (q : Piece). Passing grid dims (q .box)) ps → (ms : All Meshed ps)
+      → CutMesh (fieldIn grid dims) w (outcomes ps ms)
+  plan-mesh ps w h pass ms =
       let g = fieldIn grid dims in
-      let us = outcomes (pieces t w) ms in
-      let d = all-done (pieces t w) ms (pieces-accepted g (length grid) (length grid) t w f a) in
-      let e : joined facesRead us ≡ joined (seen g) (pieces t w) = all-faces (pieces t w) ms d in
-      let l = cut-law g t w f in
-      let p : Perm (joined facesRead us) (map (faceOf g) (edges g (w .box) (w .flags))) = rw (e, ← seen-is g w) (l .0) in
-      let n : length (joined facesRead us) ≡ changingEdges g (w .box) (w .flags) = ap length e ∙ l .1 in
+      let us = outcomes ps ms in
+      let d = all-done ps ms pass in
+      let e : joined facesRead us ≡ joined (seen g) ps = all-faces ps ms d in
+      let p : Perm (joined facesRead us) (map (faceOf g) (edges g (w .box) (w .flags))) = rw (e, ← seen-is g w) (mesh-law g ps w h) in
+      let n : length (joined facesRead us) ≡ changingEdges g (w .box) (w .flags) = ap length e ∙ number-law g ps w h in
       record {
         done = d;
         faces = p;
@@ -154,11 +154,21 @@ module _ {U : Type 0} (made : U → Served) (grid : List Float) (dims : Extent) 
       }
 
   -- beside a call for the whole, with room: it is done too, and its lists show the same faces
+  pub plan-mesh-whole : (ps : List Piece) (w : Piece) → Plan ps w → All (λ (q : Piece). Passing grid dims (q .box)) ps → (ms : All Meshed ps)
+      → Passing grid dims (w .box) → (whole : Meshed w) → Done (made (whole .run)) × Perm (joined facesRead (outcomes ps ms)) (facesRead (made (whole .run)))
+  plan-mesh-whole ps w h pass ms a whole =
+      let d = piece-done w whole a in
+      (d, rw (piece-faces w whole d, seen-is (fieldIn grid dims) w) (plan-mesh ps w h pass ms .faces))
+
+  -- a run of cuts is a plan: conditions 1 to 5 do not hold of the whole, with a map as long as the grid; "min ≤ k < max" at each cut, to any depth; and one
+  -- call for each piece
+  pub cut-mesh : (t : Cuts) (w : Piece) → Passing grid dims (w .box) → Fits t w → (ms : All Meshed (pieces t w))
+      → CutMesh (fieldIn grid dims) w (outcomes (pieces t w) ms)
+  cut-mesh t w a f ms = plan-mesh (pieces t w) w (cuts-plan t w f) (pieces-accepted (fieldIn grid dims) (length grid) (length grid) t w f a) ms
+
   pub cut-mesh-whole : (t : Cuts) (w : Piece) → Passing grid dims (w .box) → Fits t w → (ms : All Meshed (pieces t w)) → (whole : Meshed w)
       → Done (made (whole .run)) × Perm (joined facesRead (outcomes (pieces t w) ms)) (facesRead (made (whole .run)))
-  cut-mesh-whole t w a f ms whole =
-      let d = piece-done w whole a in
-      (d, rw (piece-faces w whole d, seen-is (fieldIn grid dims) w) (cut-mesh t w a f ms .faces))
+  cut-mesh-whole t w a f ms whole = plan-mesh-whole (pieces t w) w (cuts-plan t w f) (pieces-accepted (fieldIn grid dims) (length grid) (length grid) t w f a) ms a whole
 
   -- "At k = max - 1 .. the upper has no face": nothing is read from its lists
   pub last-upper-read : (a : Axis) (k : ℕ) (w : Piece) → along a (w .box .low) ≤ k → k + 1 ≡ along a (w .box .high) → flag a (w .flags) ≡ false

@@ -9,16 +9,12 @@ use lib.ListN.{length, length-append}
 use Rattle.rules.specs.Lists.{one, many, joined}
 use Rattle.rules.specs.Grid.{Axis, axisX, axisY, axisZ, Field, along}
 use Rattle.rules.specs.Faces.{Edge, flag, owned, changes, gives, edges, changingEdges}
-use Rattle.rules.specs.Cutting.{Piece, Cuts, uncut, cut, pieces, Fits, lowerPiece, upperPiece, faceOf}
+use Rattle.rules.specs.Cutting.{Piece, Cuts, uncut, cut, pieces, Fits, Plan, lowerPiece, upperPiece, faceOf}
 use Rattle.rules.proofs.Lists.{all-each, map-joined, joined-same, many-append, many-and, many-joined-once}
 use Rattle.rules.proofs.Permutation.{Perm, perm-length, perm-map, perm-counts}
 use Rattle.rules.proofs.Edges.{sameEdge, sameEdge-sound, sameEdge-itself, edges-once}
 use Rattle.rules.proofs.Ownership.{has, two-pieces}
 use Rattle.rules.proofs.Seen.{edgesOf, seen, seen-is, seen-number}
-
--- pieces that part the ownership of every edge
-abbrev pub Plan : List Piece → Piece → Type 0
-Plan ps w = (e : Edge) → many (λ (q : Piece). owned (q .box) (q .flags) e) ps ≡ one (owned (w .box) (w .flags) e)
 
 pub cuts-plan : (t : Cuts) (w : Piece) → Fits t w → Plan (pieces t w) w
 unfolding pieces many

@@ -17,11 +17,11 @@ use Rattle.rules.proofs.Edges.{sameAxis}
 -- ---- ownership, one test for each axis
 
 -- on the edge's own axis: a cell, and not the last one unless max plane; on the two others: a cell above min
-abbrev side : Bool → Bool → ℕ → ℕ → ℕ → Bool
+abbrev pub side : Bool → Bool → ℕ → ℕ → ℕ → Bool
 side true f low high p = below low high p && (f || not (eqb p (high - 1)))
 side false f low high p = below low high p && ltb low p
 
-abbrev sideOn : Axis → Axis → Piece → GridPoint → Bool
+abbrev pub sideOn : Axis → Axis → Piece → GridPoint → Bool
 sideOn a d w p = side (sameAxis a d) (flag d (w .flags)) (along d (w .box .low)) (along d (w .box .high)) (along d p)
 
 abbrev pub has : Piece → Edge → Bool
@@ -39,7 +39,7 @@ pair-up x y z u v w = swap-middle x (y && z) u (v && w) ∙ ap (λ t. (x && u) &
 turn : (u v w : Bool) → (u && (v && w)) ≡ (v && (w && u))
 turn u v w = and-comm u (v && w) ∙ and-assoc v w u
 
-owned-sides : (w : Piece) (a : Axis) (p : GridPoint) → has w (edge a p) ≡ (sideOn a axisX w p && (sideOn a axisY w p && sideOn a axisZ w p))
+pub owned-sides : (w : Piece) (a : Axis) (p : GridPoint) → has w (edge a p) ≡ (sideOn a axisX w p && (sideOn a axisY w p && sideOn a axisZ w p))
 unfolding owned
 owned-sides w a p = go a
   where

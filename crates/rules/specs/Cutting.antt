@@ -1,16 +1,17 @@
--- Document 01, "Cutting a box": cuts, pieces, and the vertices and faces that a mesh's own lists show, each face with the grid edge that its six
+-- Document 01, "Cutting a box": cuts, pieces, plans, and the vertices and faces that a mesh's own lists show, each face with the grid edge that its six
 -- cells show. Definitions only. Assumes nothing.
 use Prim.Native.Nat.{ℕ, zero, suc, _+_, _*_, max, _≤_, _<_}
 use mathlib.Core.Bool.{Bool, false, _&&_}
 use mathlib.Core.List.{List, [], _∷_, _++_, map}
+use mathlib.Core.Path.{_≡_}
 use lib.Dec.{ltb, eqb}
 use lib.ListN.{length, getD}
 use lib.Ieee.{Float, nan}
-use Rattle.rules.specs.Lists.{upTo, keep, many, some, joined}
+use Rattle.rules.specs.Lists.{one, upTo, keep, many, some, joined}
 use Rattle.rules.specs.Grid.{GridPoint, Axis, axisX, axisY, axisZ, Box, Field, along, moved, samePoint}
 use Rattle.rules.specs.Cell.{Vector}
 use Rattle.rules.specs.Vertices.{vertexPosition, vertexNormal}
-use Rattle.rules.specs.Faces.{Edge, Flags, axisB, axisC, edgesAt, cell1, cell2, cell3, cell4, faceCells}
+use Rattle.rules.specs.Faces.{Edge, Flags, axisB, axisC, edgesAt, cell1, cell2, cell3, cell4, owned, faceCells}
 
 -- a box with the max plane's flags
 pub record Piece : Type 0 where
@@ -43,6 +44,10 @@ pieces (cut a k lower upper) w = pieces lower (lowerPiece a k w) ++ pieces upper
 abbrev pub Fits : Cuts → Piece → Type 0
 Fits uncut w = Unit {0}
 Fits (cut a k lower upper) w = (along a (w .box .low) ≤ k) × (k < along a (w .box .high)) × Fits lower (lowerPiece a k w) × Fits upper (upperPiece a k w)
+
+-- a plan: every edge that the whole owns is owned by exactly one of the pieces, and no piece owns any other edge
+abbrev pub Plan : List Piece → Piece → Type 0
+Plan ps w = (e : Edge) → many (λ (q : Piece). owned (q .box) (q .flags) e) ps ≡ one (owned (w .box) (w .flags) e)
 
 -- ---- a face
 

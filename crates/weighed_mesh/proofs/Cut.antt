@@ -5,9 +5,9 @@ use mathlib.Core.Path.{_≡_, refl, sym, ap, ap₂, _∙_}
 use lib.IntN.{ℤ, pos, _+ℤ_}
 use Rattle.rules.specs.Grid.{Field}
 use Rattle.rules.specs.Faces.{edges}
-use Rattle.rules.specs.Cutting.{Piece, Cuts, pieces, Fits}
+use Rattle.rules.specs.Cutting.{Piece, Cuts, pieces, Fits, Plan}
 use Rattle.rules.proofs.Lists.{All, none, more}
-use Rattle.rules.proofs.Cutting.{Plan, cuts-plan, edge-law}
+use Rattle.rules.proofs.Cutting.{cuts-plan, edge-law}
 use Rattle.volume.specs.declared.Weighed.{Weighed}
 use Rattle.volume.specs.Volume.{sixfold}
 use Rattle.volume.proofs.Weighing.{accepted, weighs}

@@ -1,0 +1,1 @@
+-- No definition of its own: what is said here is said in the words of `plan` and `promises`.

@@ -96,7 +96,7 @@ enum bed_answer {
     BED_INDICES_SHORT = 7
 };
 
-/* An entry of the cell map for a cell without a vertex. */
+/* An entry of the cell map for a point of the box without a vertex: a cell that has none, or no cell. */
 #define BED_NO_VERTEX UINT32_C(4294967295)
 
 /* Meshes a box of a grid of distances.
@@ -117,7 +117,7 @@ enum bed_answer {
  *   cells            the three coordinates of each vertex's cell.
  *   strides          the index of each vertex's cell in the grid.
  *   stride_to_index  the cell map, as long as the grid at least: entry i is the vertex of the cell at
- *                    grid index i, or BED_NO_VERTEX.
+ *                    grid index i, or BED_NO_VERTEX where a point of the box has none.
  *   indices          triangles, three vertex numbers each, two triangles a face. Counted from 0. A face
  *                    looks from the negative end of its grid edge to the other, out of the bed: seen from
  *                    there its corners run counter-clockwise round the edge, x, y, z being right-handed.
@@ -129,9 +129,11 @@ enum bed_answer {
  *   index_count      I, the number of indices:   BED_INDICES_SHORT. Both are 0 on answers 1 to 5.
  *
  * What is written on BED_DONE: the first 3 V numbers of positions, normals and cells, the first V of
- * strides, the first I of indices, and the map entry of each cell of the box. Everything else keeps what
- * it held: the rest of those buffers, and every map entry that is no cell of the box. What the buffers
- * held before never matters. To learn V and I, call with empty lists and a map, then lend enough and call
+ * strides, the first I of indices, and the map entry of each point of the box: a cell's vertex number, or
+ * BED_NO_VERTEX for a cell without a vertex and for a point that is no cell, on the box's max sides. A flat
+ * box has only such points. Everything else keeps what it held: the rest of those buffers, and every map
+ * entry of a point outside the box. What the buffers held before never matters: inside the box no entry
+ * of an earlier call is left. To learn V and I, call with empty lists and a map, then lend enough and call
  * again; where V is 0 the first call is already done.
  *
  * Cutting a box into blocks: a cut on an axis at k, min <= k < max there, gives a lower piece from min to

@@ -3,7 +3,7 @@
 use crate::lent::{surface_nets_lent, Counts, Lent, MaxPlane};
 use crate::refusal::Refusal;
 
-/// A grid index with this entry in `stride_to_index` made no vertex.
+/// A grid index with this entry in `stride_to_index` made no vertex: a cell without one, or a point that is no cell.
 pub const NULL_VERTEX: u32 = u32::MAX;
 
 /// The mesh of the last call, in the fields of fast-surface-nets. Reuse it to keep its memory.
@@ -20,8 +20,9 @@ pub struct SurfaceNetsBuffer {
     pub surface_points: Vec<[u32; 3]>,
     /// The grid index of each vertex's cell.
     pub surface_strides: Vec<u32>,
-    /// The vertex number of each cell, by grid index. Entries of points that are no cell of the box
-    /// keep what an earlier call left, as in fast-surface-nets.
+    /// The vertex number of each cell, by grid index, and [`NULL_VERTEX`] at every other point of the box.
+    /// Entries of points outside the box keep what an earlier call left. In fast-surface-nets the points
+    /// of the box that are no cell keep theirs too.
     pub stride_to_index: Vec<u32>,
 }
 

@@ -51,7 +51,8 @@ pub struct Lent<'a> {
     pub normals: &'a mut [f32],
     pub cells: &'a mut [u32],
     pub strides: &'a mut [u32],
-    /// At least as long as the grid. Each cell's entry is written, every other entry kept.
+    /// At least as long as the grid. The entry of each point of the box is written: a cell's vertex number,
+    /// and 4,294,967,295 for a cell without one and a point that is no cell. Entries outside the box are kept.
     pub stride_to_index: &'a mut [u32],
     pub indices: &'a mut [u32],
 }

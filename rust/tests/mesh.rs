@@ -218,7 +218,10 @@ fn lent_slices_are_refused_or_keep_their_rest() {
     assert_eq!(answer, Ok(ROOM_FOR_BALL));
     assert_eq!(places[24..], [7.0; 6]);
     assert_eq!(strides[8..], [7; 2]);
-    assert_eq!((entries[2], entries[8], entries[27]), (7, 7, 7));
+    assert_eq!(
+        (entries[2], entries[8], entries[27]),
+        (NULL_VERTEX, NULL_VERTEX, 7)
+    );
     assert_eq!(faces[18..], [7; 2]);
 }
 
@@ -242,10 +245,43 @@ fn a_reused_buffer_gives_the_same_mesh() {
 #[test]
 fn entries_outside_the_box_are_kept_from_an_earlier_call() {
     let mut buffer = mesh_of(&ball(), [2; 3]).unwrap();
-    surface_nets(&ball(), [3; 3], [0; 3], [1; 3], MaxPlane::NONE, &mut buffer).unwrap();
+    let before = buffer.stride_to_index.clone();
+    surface_nets(&ball(), [3; 3], [1; 3], [2; 3], MaxPlane::NONE, &mut buffer).unwrap();
     assert_eq!(buffer.positions.len(), 1);
-    assert_eq!(buffer.stride_to_index[0], 0);
-    assert_eq!(buffer.stride_to_index[13], 7);
+    for (place, &entry) in buffer.stride_to_index.iter().enumerate() {
+        let inside = [place % 3, place / 3 % 3, place / 9]
+            .iter()
+            .all(|&n| n >= 1);
+        let wanted = match place {
+            13 => 0,
+            _ if inside => NULL_VERTEX,
+            _ => before[place],
+        };
+        assert_eq!(entry, wanted, "at {place}");
+    }
+    assert_eq!(before[..2], [0, 1]);
+}
+
+/// Each point of the box that is no cell loses what an earlier call left there, in a flat box too.
+#[test]
+fn no_entry_of_an_earlier_call_is_left_inside_the_box() {
+    let mut buffer = SurfaceNetsBuffer {
+        stride_to_index: vec![7; 27],
+        ..SurfaceNetsBuffer::default()
+    };
+    let mut mesh = |max| {
+        surface_nets(&ball(), [3; 3], [0; 3], max, MaxPlane::NONE, &mut buffer).unwrap();
+        buffer.stride_to_index.clone()
+    };
+    let entries = mesh([2, 2, 0]);
+    assert!(entries[..9].iter().all(|&entry| entry == NULL_VERTEX));
+    assert!(entries[9..].iter().all(|&entry| entry == 7));
+    let entries = mesh([2; 3]);
+    let cells = [0, 1, 3, 4, 9, 10, 12, 13];
+    for (place, &entry) in entries.iter().enumerate() {
+        let wanted = cells.iter().position(|&cell| cell == place);
+        assert_eq!(entry, wanted.map_or(NULL_VERTEX, |number| number as u32));
+    }
 }
 
 #[test]

@@ -28,6 +28,7 @@ use Rattle.promises.proofs.Once.{surface-nets-once}
 use Rattle.promises.proofs.Runs.{Run, served, BedRun, bedServed}
 use Rattle.promises.proofs.Done.{done-accepts}
 use Rattle.promises.proofs.Local.{runs-alike, surface-nets-local, bed-is-surface-nets}
+use Rattle.promises.proofs.Again.{no-cell-shows, outside-keeps, surface-nets-again}
 use Rattle.promises.proofs.Flat.{surface-nets-flat}
 use Rattle.promises.proofs.ClosedMesh.{ClosedMesh, surface-nets-closed, bed-surface-nets-closed}
 use Rattle.promises.proofs.CutMesh.{CutMesh, fieldIn, Passing, Meshed, outcomes, surface-nets-cut, surface-nets-cut-whole}
@@ -41,7 +42,7 @@ use Rattle.mesh_file.specs.Reading as reading
 use Rattle.mesh_file.specs.Writing.{wrote, writing, written}
 use Rattle.kept_mesh.specs.Parts.{meshOf}
 use Rattle.kept_mesh.proofs.Kept.{KeptMesh, surface-nets-kept, bed-surface-nets-kept}
-use Rattle.applied.proofs.OnePoint.{front, grid, spoiled, dims, opened, wholeIndices, whole, bedWhole, wholeMesh, wholeTest, lower, upper, elsewhere, flat}
+use Rattle.applied.proofs.OnePoint.{front, grid, spoiled, dims, opened, wholeIndices, whole, bedWhole, wholeMesh, wholeTest, lower, upper, elsewhere, flat, again, alone}
 
 -- ---- one outcome alone
 
@@ -76,6 +77,20 @@ pub lower-local : (served lower .says ≡ served elsewhere .says) × SameWritten
 lower-local =
     let l = surface-nets-local lower elsewhere (runs-alike lower elsewhere refl refl refl refl refl same-distance) refl in
     (l .0, l .1 refl)
+
+-- ---- two calls in a row
+
+pub upper-again : (served again .says ≡ served alone .says) × SameWritten (served again .call) (served again .after) (served alone .after)
+upper-again =
+    let l = surface-nets-again whole again alone refl refl (runs-alike again alone refl refl refl refl refl (λ p t d. refl)) in
+    (l .0, l .1 refl)
+
+-- of the second, the point (3, 0, 0) on the max side in x, and the point (0, 1, 0) outside its box, which keeps vertex 2 of the first
+pub side-blank : getD (served again .after .map) 3 0 ≡ 4294967295
+side-blank = no-cell-shows (served again) refl 3 (lit≤ tt) tt (λ t. t)
+
+pub outside-kept : getD (served again .after .map) 4 0 ≡ 2
+outside-kept = outside-keeps (served again) refl 4 (lit≤ tt) (λ t. t)
 
 -- ---- a flat box
 

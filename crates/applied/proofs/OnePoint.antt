@@ -7,9 +7,10 @@ use mathlib.Core.List.{List, [], _∷_, _++_, map}
 use mathlib.Core.Path.{_≡_, refl}
 use lib.Dec.{T}
 use lib.IntN.{pos}
-use lib.ListN.{getD, length, replicate}
+use lib.ListN.{getD, length, drop, replicate}
 use lib.Ieee.{Float, nan, fin, binary32, fits, ofBits}
 use lib.Ieee.Fits.{and-l, and-r}
+use Rattle.rules.specs.Lists.{run, joined}
 use Rattle.rules.specs.Cell.{one32}
 use Rattle.rules.specs.Call.{Buffers, room, answer, afterwards}
 use Rattle.rules.specs.Cutting.{facesSeen}
@@ -98,7 +99,7 @@ left w positions normals cells strides map' indices' =
       indices = indices' ++ (w ∷ []);
     }
 
--- a cell with no vertex
+-- a cell with no vertex, and a point of the box that is no cell
 abbrev none : ℕ
 none = 4294967295
 
@@ -125,10 +126,10 @@ wholeStrides = 0 ∷ 1 ∷ 4 ∷ 5 ∷ 16 ∷ 17 ∷ 20 ∷ 21 ∷ []
 
 abbrev wholeMap : List ℕ
 wholeMap =
-    0 ∷ 1 ∷ none ∷ 77 ∷ 2 ∷ 3 ∷ none ∷ 77 ∷ none ∷ none ∷ none ∷ 77 ∷ 77 ∷ 77 ∷ 77 ∷ 77
-    ∷ 4 ∷ 5 ∷ none ∷ 77 ∷ 6 ∷ 7 ∷ none ∷ 77 ∷ none ∷ none ∷ none ∷ 77 ∷ 77 ∷ 77 ∷ 77 ∷ 77
-    ∷ none ∷ none ∷ none ∷ 77 ∷ none ∷ none ∷ none ∷ 77 ∷ none ∷ none ∷ none ∷ 77 ∷ 77 ∷ 77 ∷ 77 ∷ 77
-    ∷ 77 ∷ 77 ∷ 77 ∷ 77 ∷ 77 ∷ 77 ∷ 77 ∷ 77 ∷ 77 ∷ 77 ∷ 77 ∷ 77 ∷ 77 ∷ 77 ∷ 77 ∷ 77 ∷ []
+    0 ∷ 1 ∷ none ∷ none ∷ 2 ∷ 3 ∷ none ∷ none ∷ none ∷ none ∷ none ∷ none ∷ none ∷ none ∷ none ∷ none
+    ∷ 4 ∷ 5 ∷ none ∷ none ∷ 6 ∷ 7 ∷ none ∷ none ∷ none ∷ none ∷ none ∷ none ∷ none ∷ none ∷ none ∷ none
+    ∷ none ∷ none ∷ none ∷ none ∷ none ∷ none ∷ none ∷ none ∷ none ∷ none ∷ none ∷ none ∷ none ∷ none ∷ none ∷ none
+    ∷ none ∷ none ∷ none ∷ none ∷ none ∷ none ∷ none ∷ none ∷ none ∷ none ∷ none ∷ none ∷ none ∷ none ∷ none ∷ none ∷ []
 
 abbrev pub wholeIndices : List ℕ
 wholeIndices =
@@ -138,10 +139,10 @@ wholeIndices =
 -- the lower piece has the same vertices
 abbrev lowerMap : ℕ → List ℕ
 lowerMap w =
-    0 ∷ 1 ∷ w ∷ w ∷ 2 ∷ 3 ∷ w ∷ w ∷ none ∷ none ∷ w ∷ w ∷ w ∷ w ∷ w ∷ w
-    ∷ 4 ∷ 5 ∷ w ∷ w ∷ 6 ∷ 7 ∷ w ∷ w ∷ none ∷ none ∷ w ∷ w ∷ w ∷ w ∷ w ∷ w
-    ∷ none ∷ none ∷ w ∷ w ∷ none ∷ none ∷ w ∷ w ∷ none ∷ none ∷ w ∷ w ∷ w ∷ w ∷ w ∷ w
-    ∷ w ∷ w ∷ w ∷ w ∷ w ∷ w ∷ w ∷ w ∷ w ∷ w ∷ w ∷ w ∷ w ∷ w ∷ w ∷ w ∷ []
+    0 ∷ 1 ∷ none ∷ w ∷ 2 ∷ 3 ∷ none ∷ w ∷ none ∷ none ∷ none ∷ w ∷ none ∷ none ∷ none ∷ w
+    ∷ 4 ∷ 5 ∷ none ∷ w ∷ 6 ∷ 7 ∷ none ∷ w ∷ none ∷ none ∷ none ∷ w ∷ none ∷ none ∷ none ∷ w
+    ∷ none ∷ none ∷ none ∷ w ∷ none ∷ none ∷ none ∷ w ∷ none ∷ none ∷ none ∷ w ∷ none ∷ none ∷ none ∷ w
+    ∷ none ∷ none ∷ none ∷ w ∷ none ∷ none ∷ none ∷ w ∷ none ∷ none ∷ none ∷ w ∷ none ∷ none ∷ none ∷ w ∷ []
 
 abbrev pub lowerIndices : List ℕ
 lowerIndices =
@@ -167,10 +168,10 @@ upperStrides = 1 ∷ 5 ∷ 17 ∷ 21 ∷ []
 
 abbrev upperMap : List ℕ
 upperMap =
-    77 ∷ 0 ∷ none ∷ 77 ∷ 77 ∷ 1 ∷ none ∷ 77 ∷ 77 ∷ none ∷ none ∷ 77 ∷ 77 ∷ 77 ∷ 77 ∷ 77
-    ∷ 77 ∷ 2 ∷ none ∷ 77 ∷ 77 ∷ 3 ∷ none ∷ 77 ∷ 77 ∷ none ∷ none ∷ 77 ∷ 77 ∷ 77 ∷ 77 ∷ 77
-    ∷ 77 ∷ none ∷ none ∷ 77 ∷ 77 ∷ none ∷ none ∷ 77 ∷ 77 ∷ none ∷ none ∷ 77 ∷ 77 ∷ 77 ∷ 77 ∷ 77
-    ∷ 77 ∷ 77 ∷ 77 ∷ 77 ∷ 77 ∷ 77 ∷ 77 ∷ 77 ∷ 77 ∷ 77 ∷ 77 ∷ 77 ∷ 77 ∷ 77 ∷ 77 ∷ 77 ∷ []
+    77 ∷ 0 ∷ none ∷ none ∷ 77 ∷ 1 ∷ none ∷ none ∷ 77 ∷ none ∷ none ∷ none ∷ 77 ∷ none ∷ none ∷ none
+    ∷ 77 ∷ 2 ∷ none ∷ none ∷ 77 ∷ 3 ∷ none ∷ none ∷ 77 ∷ none ∷ none ∷ none ∷ 77 ∷ none ∷ none ∷ none
+    ∷ 77 ∷ none ∷ none ∷ none ∷ 77 ∷ none ∷ none ∷ none ∷ 77 ∷ none ∷ none ∷ none ∷ 77 ∷ none ∷ none ∷ none
+    ∷ 77 ∷ none ∷ none ∷ none ∷ 77 ∷ none ∷ none ∷ none ∷ 77 ∷ none ∷ none ∷ none ∷ 77 ∷ none ∷ none ∷ none ∷ []
 
 abbrev pub upperIndices : List ℕ
 upperIndices =
@@ -268,17 +269,74 @@ elsewhere-left = refl
 abbrev pub elsewhere : Run
 elsewhere = runOf spoiled dims lowest lowerHigh noPlane (counts 8 30) (lent 8 30 88) (lowerLeft 88) elsewhere-answered elsewhere-left spoiled-fits
 
--- a flat box, x from 0 to 0: V 0, I 0, and the lists as they were
+-- a flat box, x from 0 to 0: V 0, I 0, and the lists as they were but the map, where its 16 points have no vertex
+abbrev flatLeft : Buffers
+flatLeft =
+    record {
+      positions = lent 8 36 77 .positions;
+      normals = lent 8 36 77 .normals;
+      cells = lent 8 36 77 .cells;
+      strides = lent 8 36 77 .strides;
+      map = joined (λ (n : ℕ). none ∷ 77 ∷ 77 ∷ 77 ∷ []) (run 16);
+      indices = lent 8 36 77 .indices;
+    }
+
 pub flat-answered : answerOf (counts 0 0) ≡ answer (callMade grid dims lowest flatHigh noPlane) (room (lent 8 36 77))
 unfolding opened
 flat-answered = refl
 
-pub flat-left : lent 8 36 77 ≡ afterwards (callMade grid dims lowest flatHigh noPlane) (lent 8 36 77)
+pub flat-left : flatLeft ≡ afterwards (callMade grid dims lowest flatHigh noPlane) (lent 8 36 77)
 unfolding opened
 flat-left = refl
 
 abbrev pub flat : Run
-flat = runOf grid dims lowest flatHigh noPlane (counts 0 0) (lent 8 36 77) (lent 8 36 77) flat-answered flat-left grid-fits
+flat = runOf grid dims lowest flatHigh noPlane (counts 0 0) (lent 8 36 77) flatLeft flat-answered flat-left grid-fits
+
+-- the upper piece once more, in the lists that the whole left: with x 0 the map shows the whole's vertices, and else its own
+abbrev againMap : List ℕ
+againMap =
+    0 ∷ 0 ∷ none ∷ none ∷ 2 ∷ 1 ∷ none ∷ none ∷ none ∷ none ∷ none ∷ none ∷ none ∷ none ∷ none ∷ none
+    ∷ 4 ∷ 2 ∷ none ∷ none ∷ 6 ∷ 3 ∷ none ∷ none ∷ none ∷ none ∷ none ∷ none ∷ none ∷ none ∷ none ∷ none
+    ∷ replicate 32 none
+
+abbrev againLeft : Buffers
+againLeft =
+    left 77 (upperPositions ++ drop 12 wholePositions) (upperNormals ++ drop 12 wholeNormals) (upperCells ++ drop 12 wholeCells) (upperStrides ++ drop 4 wholeStrides) againMap
+    (upperIndices ++ drop 6 wholeIndices)
+
+pub again-answered : answerOf (counts 4 6) ≡ answer (callMade grid dims upperLow highest noPlane) (room wholeLeft)
+unfolding opened
+again-answered = refl
+
+pub again-left : againLeft ≡ afterwards (callMade grid dims upperLow highest noPlane) wholeLeft
+unfolding opened
+again-left = refl
+
+abbrev pub again : Run
+again = runOf grid dims upperLow highest noPlane (counts 4 6) wholeLeft againLeft again-answered again-left grid-fits
+
+-- and alone, in the lists that the whole was lent
+abbrev aloneLeft : Buffers
+aloneLeft =
+    record {
+      positions = floats upperPositions ++ replicate 13 (fin true 5 (pos 0));
+      normals = floats upperNormals ++ replicate 13 (fin true 5 (pos 0));
+      cells = upperCells ++ replicate 13 77;
+      strides = upperStrides ++ replicate 5 77;
+      map = upperMap;
+      indices = upperIndices ++ replicate 31 77;
+    }
+
+pub alone-answered : answerOf (counts 4 6) ≡ answer (callMade grid dims upperLow highest noPlane) (room (lent 8 36 77))
+unfolding opened
+alone-answered = refl
+
+pub alone-left : aloneLeft ≡ afterwards (callMade grid dims upperLow highest noPlane) (lent 8 36 77)
+unfolding opened
+alone-left = refl
+
+abbrev pub alone : Run
+alone = runOf grid dims upperLow highest noPlane (counts 4 6) (lent 8 36 77) aloneLeft alone-answered alone-left grid-fits
 
 -- the test of the premise of request 8: yes
 pub whole-examined : scan.answers 0 true ≡ examined grid dims lowest highest

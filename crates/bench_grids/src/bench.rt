@@ -72,7 +72,7 @@ fn written(number: u32, count: u64) -> usize
     count as usize
 }
 
-// The map's entries that are no cell's hold their marks, and after a refusal all do.
+// The map's entries outside the box hold their marks, those of no cell inside it hold that of no vertex, and after a refusal all are marks.
 fn is_map_kept(list: &[u32], call: Call, number: u32) -> bool {
     if number != 0 {
         return marks::words_kept(list, 0, MAP);

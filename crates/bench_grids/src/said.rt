@@ -17,8 +17,9 @@ pub(crate) fn head() {
         b"# no number is copied from this program. Every lent number holds a mark before the call. \"rest kept\": all that answer 0\n",
     );
     text(
-        b"# does not write still holds its mark, the map's entries of no cell too. \"all kept\": the refusal changed nothing.\n",
+        b"# does not write still holds its mark, the map's entries outside the box too; those of no cell inside it hold 4294967295.\n",
     );
+    text(b"# \"all kept\": the refusal changed nothing.\n");
 }
 
 fn number(n: u64) {

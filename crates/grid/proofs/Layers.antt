@@ -14,7 +14,7 @@ use lib.ListN.{length, getD, replicate, length-replicate}
 use lib.Ieee.{Float, nan}
 use Rattle.rules.specs.Grid.{GridPoint, index, value, isCell}
 use Rattle.rules.specs.Cell.{values, cornerOf}
-use Rattle.rules.specs.Call.{badLength}
+use Rattle.rules.specs.Call.{badDimensions, badBox, badLength}
 use Rattle.rules.proofs.Indexes.{BoxFits, box-fits, cell-within}
 use Rattle.grid.specs.declared.Block.{Block}
 use Rattle.grid.specs.declared.corners.Side.{Side}
@@ -87,16 +87,20 @@ module _ (lower upper : List Float) (k : Block) (z : ℕ) (c : GridPoint) (ez : 
 
 -- ---- a box between two layers
 
+-- such a box lies in a grid of its dimensions, so that what is known of loops over a grid holds here too
+pub in-some-grid : {k : Block} → T (not (badDimensions (point (k .dims)))) → T (not (badBox (point (k .dims)) (boxOf k)))
+    → Inside (replicate (k .dims .x * k .dims .y * k .dims .z) nan) k
+unfolding badLength
+in-some-grid {k} d b =
+    let n = k .dims .x * k .dims .y * k .dims .z in
+    record { dims = d; box = b; size = rw (length-replicate n nan, eq-eqb n n refl) tt }
+
 module _ {lower upper : List Float} {k : Block} {z : ℕ} (i : InLayers lower upper k z) where
   pub layers-fit : BoxFits (point (k .dims)) (boxOf k)
   layers-fit = box-fits (point (k .dims)) (boxOf k) (i .box)
 
-  -- such a box lies in a grid of its dimensions, so that what is known of loops over a grid holds here too
   pub somewhere : Inside (replicate (k .dims .x * k .dims .y * k .dims .z) nan) k
-  unfolding badLength
-  somewhere =
-      let n = k .dims .x * k .dims .y * k .dims .z in
-      record { dims = i .dims; box = i .box; size = rw (length-replicate n nan, eq-eqb n n refl) tt }
+  somewhere = in-some-grid (i .dims) (i .box)
 
   pub plane-small : k .dims .x * k .dims .y ≤ 1073741824
   plane-small =

@@ -30,7 +30,7 @@ module _ (d : GridPoint) (f f' : ℕ → Float) (b : Box) (z : ℕ) (agree : (p 
       p = layerPoint d z j
 
       rest : ℕ
-      rest = cond (inBox b p) (edgeEntry old) old
+      rest = cond (inBox b p) edgeEntry old
 
       go : (t : Bool) → isCell b p ≡ t → cond t (cellNumber g b first p) rest ≡ cond t (cellNumber g' b first p) rest
       go true e = ap₂ (λ (s : Bool) (n : ℕ). cond s n nullVertex) (surface-alike d f f' b z agree p (is-test (isCell b p) e) refl) (number-alike d f f' b z agree first p refl)

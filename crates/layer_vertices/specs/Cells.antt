@@ -1,14 +1,15 @@
--- What the loops have left of the lists once some cells are passed, one after the other. These follow the code and stand in no contract that
--- another crate sees: proofs/ shows that a layer's cells leave what `marked` says. Definitions only. Assumes nothing.
-use Prim.Native.Nat.{ℕ, _+_, _*_, _<_}
-use mathlib.Core.Bool.{cond}
+-- What the loops have left of the lists once some points of the box are passed, one after the other: cells, and the last of each row, of each layer
+-- and of the box, which are none. These follow the code and stand in no contract that another crate sees: proofs/ shows that a layer's points leave
+-- what `marked` says. Definitions only. Assumes nothing.
+use Prim.Native.Nat.{ℕ, _+_, _-_, _*_, _<_}
+use mathlib.Core.Bool.{Bool, false, _&&_, cond}
 use mathlib.Core.List.{List, [], _∷_, map}
 use lib.Dec.{T}
-use lib.ListN.{length, set}
+use lib.ListN.{length, set, replicate}
 use lib.Seq.{sets}
 use lib.Ieee.{Float}
 use Rattle.rules.specs.Lists.{one, keep}
-use Rattle.rules.specs.Grid.{GridPoint, Field, index}
+use Rattle.rules.specs.Grid.{GridPoint, Box, Field, index, isCell}
 use Rattle.rules.specs.Cell.{surface, centroid, position, normal}
 use Rattle.rules.specs.Vertices.{surfaceCell, vertexPosition, vertexNormal, nullVertex}
 use Rattle.rules.specs.Call.{flatVectors, flatPoints}
@@ -21,29 +22,45 @@ use Rattle.layer_vertices.specs.Marked.{Lists, Room}
 abbrev pub advanced : Next → ℕ → Next
 advanced next n = record { place = next .place + n; number = next .number + n }
 
--- the entries of cells, numbered on from n
-unfoldable pub entered : Field → ℕ → List GridPoint → List ℕ → List ℕ
-entered g n [] l = l
-entered g n (c ∷ cs) l = entered g (n + one (surfaceCell g c)) cs (set l (inLayer (g .dims) c) (cond (surfaceCell g c) n nullVertex))
+-- the box whose cells are the points of b: what is known of a box's cells is so known of its points
+abbrev pub pointsOf : Box → Box
+pointsOf b = record { low = b .low; high = record { x = b .high .x + 1; y = b .high .y + 1; z = b .high .z + 1 } }
 
--- the lists of s once the vertices of vs and the entries of cs are written
-abbrev pub written : Field → Next → List GridPoint → List GridPoint → Lists → Lists
-written g next vs cs s =
+-- a point of the box gets a vertex exactly if it is a cell, and a surface cell
+abbrev pub hasVertex : Field → Box → GridPoint → Bool
+hasVertex g b p = isCell b p && surfaceCell g p
+
+-- the entries of points, those that have a vertex numbered on from n
+unfoldable pub entered : GridPoint → (GridPoint → Bool) → ℕ → List GridPoint → List ℕ → List ℕ
+entered d has n [] l = l
+entered d has n (p ∷ ps) l = entered d has (n + one (has p)) ps (set l (inLayer d p) (cond (has p) n nullVertex))
+
+-- the same of points none of which has one
+abbrev pub cleared : GridPoint → List GridPoint → List ℕ → List ℕ
+cleared d ps l = entered d (λ p. false) 0 ps l
+
+-- the row y with the entries of no vertex from the box's first point to its last
+abbrev pub blanked : GridPoint → Box → ℕ → List ℕ → List ℕ
+blanked d b y l = sets l (b .low .x + d .x * y) (replicate (b .high .x + 1 - b .low .x) nullVertex)
+
+-- the lists of s once the vertices of vs and the entries of ps are written
+abbrev pub written : Field → Box → Next → List GridPoint → List GridPoint → Lists → Lists
+written g b next vs ps s =
     record {
       positions = sets (s .positions) (3 * next .place) (flatVectors (map (vertexPosition g) vs));
       normals = sets (s .normals) (3 * next .place) (flatVectors (map (vertexNormal g) vs));
       cells = sets (s .cells) (3 * next .place) (flatPoints vs);
       strides = sets (s .strides) (next .place) (map (index (g .dims)) vs);
-      map = entered g (next .number) cs (s .map);
+      map = entered (g .dims) (hasVertex g b) (next .number) ps (s .map);
     }
 
--- the lists of s once the cells of cs are passed
-unfoldable pub passed : Field → Next → List GridPoint → Lists → Lists
-passed g next cs s = written g next (keep (surfaceCell g) cs) cs s
+-- the lists of s once the points of ps are passed
+unfoldable pub passed : Field → Box → Next → List GridPoint → Lists → Lists
+passed g b next ps s = written g b next (keep (hasVertex g b) ps) ps s
 
 -- how many of them have a vertex
-abbrev pub found : Field → List GridPoint → ℕ
-found g cs = length (keep (surfaceCell g) cs)
+abbrev pub found : Field → Box → List GridPoint → ℕ
+found g b ps = length (keep (hasVertex g b) ps)
 
 -- ---- one cell, by its corner values d, its place in the layer and its stride
 

@@ -1,15 +1,19 @@
--- What marking the layer z leaves of the lent lists, in the rules' own words: the layer's vertices from a place on, and each cell's entry in the
--- layer's part of the map. The place in the lists and the number that a vertex gets are apart. Definitions only. Assumes nothing.
+-- What marking the layer z leaves of the lent lists, in the rules' own words: the layer's vertices from a place on, and the entry of each of
+-- the box's points in the layer's part of the map. The place in the lists and the number that a vertex gets are apart. Definitions only. Assumes nothing.
 use Prim.Native.Nat.{ℕ, _+_, _*_, _/_, _%_, _≤_, _<_}
-use mathlib.Core.Bool.{cond}
+use mathlib.Core.Bool.{not, cond}
 use mathlib.Core.List.{List, map}
+use lib.Dec.{T}
 use lib.ListN.{length}
 use lib.Seq.{sets}
 use lib.Ieee.{Float}
 use Rattle.rules.specs.Lists.{placed}
 use Rattle.rules.specs.Grid.{GridPoint, Box, Field, index, isCell, inBox}
 use Rattle.rules.specs.Vertices.{surfaceCell, layerVertices, vertexPosition, vertexNormal, vertexNumber, nullVertex, edgeEntry}
-use Rattle.rules.specs.Call.{flatVectors, flatPoints}
+use Rattle.rules.specs.Call.{badDimensions, badBox, flatVectors, flatPoints}
+use Rattle.grid.specs.declared.Block.{Block}
+use Rattle.grid.specs.Block.{point, boxOf}
+use Rattle.grid.specs.Layers.{inLayer}
 use Rattle.layer_vertices.specs.declared.Next.{Next}
 
 -- the lists that a layer's vertices go to, and the layer's part of the map
@@ -37,7 +41,17 @@ layerPoint d z j = record { x = j % d .x; y = j / d .x; z = z }
 unfoldable pub layerEntry : Field → Box → ℕ → ℕ → ℕ → ℕ → ℕ
 layerEntry g b z first j old =
     cond (isCell b (layerPoint (g .dims) z j)) (cellNumber g b first (layerPoint (g .dims) z j))
-    (cond (inBox b (layerPoint (g .dims) z j)) (edgeEntry old) old)
+    (cond (inBox b (layerPoint (g .dims) z j)) edgeEntry old)
+
+-- the same in the box's last layer, which has no cells and asks no distance
+unfoldable pub lastEntry : GridPoint → Box → ℕ → ℕ → ℕ
+lastEntry d b j old = cond (inBox b (layerPoint d (b .high .z) j)) edgeEntry old
+
+-- neither of the conditions 1 and 2 applies, and a layer's part of the map holds the box's points
+pub record InPart (map : List ℕ) (k : Block) : Type 0 where
+  pub dims : T (not (badDimensions (point (k .dims))))
+  pub box : T (not (badBox (point (k .dims)) (boxOf k)))
+  pub holds : inLayer (point (k .dims)) (point (k .high)) < length map
 
 -- ---- all lists
 

@@ -1,23 +1,23 @@
 // The vertices of one layer of cells, from the two layers of distances that hold its corners: the Rust's estimate_surface, a layer at a time. The
-// vertices go to the lent lists from a place on, and each cell's entry to the layer's part of the map, which nothing here reads.
+// vertices go to the lent lists from a place on, and the entry of each point of the box to the layer's part of the map, which nothing here reads.
 ghost use mathlib.Core.Path.{_≡_};
 ghost use mathlib.Core.List.{_∷_, []};
 ghost use Prim.Native.Nat.{_+_, _*_, _<_, _≤_};
 ghost use lib.ListN.{length, set};
 ghost use lib.Seq.{sets};
-ghost use Rattle.rules.specs.Lists.{one};
+ghost use Rattle.rules.specs.Lists.{one, placed};
 ghost use Rattle.rules.specs.Cell.{surface, centroid, position, normal};
 ghost use Rattle.rules.specs.Vertices.{rowCells, layerVertices};
 ghost use Rattle.rules.specs.Grid.{index};
 ghost use Rattle.grid.specs.Block.{point, boxOf};
 ghost use Rattle.grid.specs.Inside.{PointInside};
 ghost use Rattle.grid.specs.Layers.{inLayer, twoLayers, InLayers};
-ghost use Rattle.layer_vertices.specs.Marked.{lists, marked, Room};
-ghost use Rattle.layer_vertices.specs.Cells.{advanced, passed, found, cellLeft, CellReady};
+ghost use Rattle.layer_vertices.specs.Marked.{lists, marked, lastEntry, Room, InPart};
+ghost use Rattle.layer_vertices.specs.Cells.{advanced, pointsOf, passed, blanked, found, cellLeft, CellReady};
 use grid::Block;
 use grid::Extent;
 
-// The map's entry of a cell without a vertex.
+// The map's entry of a cell without a vertex, and of a point of the box that is no cell.
 pub const NULL_VERTEX: u32 = 4294967295;
 
 // Where the next vertex goes: its place in the lists, and the number that it gets. In a call for the whole box the two are the same; who has the box
@@ -87,7 +87,7 @@ fn mark_cell(
     }
 }
 
-// The row y of the layer z. Each x side is read once: the upper side of a cell is the lower one of the next.
+// The row y of the layer z. Each x side is read once: the upper side of a cell is the lower one of the next. The row's last point is no cell.
 fn mark_row(
     lower: &[f32],
     upper: &[f32],
@@ -104,9 +104,9 @@ fn mark_row(
     requires { ⌜ InLayers (now lower) (now upper) k z ⌝ }
     requires { ⌜ (k .low .y ≤ y) × (y < k .high .y) ⌝ }
     requires { ⌜ inLayer (point (k .dims)) (point (k .high)) < length (now map) ⌝ }
-    requires { ⌜ Room next (found (twoLayers (now lower) (now upper) k z) (rowCells (boxOf k) z y)) (lists (now positions) (now normals) (now cells) (now strides) (now map)) ⌝ }
-    ensures { λ r. ⌜ lists (now (positions .exit)) (now (normals .exit)) (now (cells .exit)) (now (strides .exit)) (now (map .exit)) ≡ passed (twoLayers (now (lower .entry)) (now (upper .entry)) k z) next (rowCells (boxOf k) z y) (lists (now (positions .entry)) (now (normals .entry)) (now (cells .entry)) (now (strides .entry)) (now (map .entry))) ⌝ }
-    ensures { λ r. ⌜ r ≡ advanced next (found (twoLayers (now (lower .entry)) (now (upper .entry)) k z) (rowCells (boxOf k) z y)) ⌝ }
+    requires { ⌜ Room next (found (twoLayers (now lower) (now upper) k z) (boxOf k) (rowCells (pointsOf (boxOf k)) z y)) (lists (now positions) (now normals) (now cells) (now strides) (now map)) ⌝ }
+    ensures { λ r. ⌜ lists (now (positions .exit)) (now (normals .exit)) (now (cells .exit)) (now (strides .exit)) (now (map .exit)) ≡ passed (twoLayers (now (lower .entry)) (now (upper .entry)) k z) (boxOf k) next (rowCells (pointsOf (boxOf k)) z y) (lists (now (positions .entry)) (now (normals .entry)) (now (cells .entry)) (now (strides .entry)) (now (map .entry))) ⌝ }
+    ensures { λ r. ⌜ r ≡ advanced next (found (twoLayers (now (lower .entry)) (now (upper .entry)) k z) (boxOf k) (rowCells (pointsOf (boxOf k)) z y)) ⌝ }
 {
     let from = k.low.x;
     let end = k.high.x;
@@ -132,10 +132,28 @@ fn mark_row(
         low = high;
         at += 1;
     }
+    let last = at;
+    map[last] = NULL_VERTEX;
     state
 }
 
-// The layer z of cells: how many vertices it has, all of them in the lists and their numbers in the layer's part of the map.
+// The row y of a layer's part of the map, where none of the box's points is a cell.
+fn clear_row(k: Block, y: u32, map: &mut [u32])
+    requires { ⌜ InPart (now map) k ⌝ }
+    requires { ⌜ (k .low .y ≤ y) × (y ≤ k .high .y) ⌝ }
+    ensures { λ r. ⌜ now (map .exit) ≡ blanked (point (k .dims)) (boxOf k) y (now (map .entry)) ⌝ }
+{
+    let from = k.low.x;
+    let end = k.high.x + 1;
+    let row = k.dims.x as usize;
+    let mut at = (from as usize) + row * (y as usize);
+    for x in from..end {
+        map[at] = NULL_VERTEX;
+        at += 1;
+    }
+}
+
+// The layer z of cells: how many vertices it has, all of them in the lists and their numbers in the layer's part of the map. The layer's last row has no cells.
 pub fn mark_layer(
     lower: &[f32],
     upper: &[f32],
@@ -173,5 +191,18 @@ pub fn mark_layer(
             map,
         );
     }
+    clear_row(k, end, map);
     state.place - first
+}
+
+// The part of the map of the box's last layer, where no point is a cell.
+pub fn clear_layer(k: Block, map: &mut [u32])
+    requires { ⌜ InPart (now map) k ⌝ }
+    ensures { λ r. ⌜ now (map .exit) ≡ placed (lastEntry (point (k .dims)) (boxOf k)) 0 (now (map .entry)) ⌝ }
+{
+    let from = k.low.y;
+    let end = k.high.y + 1;
+    for y in from..end {
+        clear_row(k, y, map);
+    }
 }

@@ -4,12 +4,16 @@
 pub mod stored;
 
 ghost use mathlib.Core.Path.{_≡_};
+ghost use Prim.Native.Nat.{_≤_};
 ghost use lib.ListN.{length};
 ghost use Rattle.rules.specs.Grid.{below};
 ghost use Rattle.grid.specs.Block.{point, boxOf};
-ghost use Rattle.marks.specs.Marks.{bitsOf, wordMarks, floatMarks, keptWords, keptFloats, cellAt, keptMap};
+ghost use Rattle.marks.specs.Marks.{bitsOf, wordMarks, floatMarks, keptWords, keptFloats, cellAt, reaching, noCellEntry, keptMap};
 use grid::Block;
 use grid::scan::either;
+
+// The map's entry of a point of the box that is no cell.
+const NO_VERTEX: u32 = 4294967295;
 
 // The bits of a float: one pattern for every not-a-number.
 pub fn bits(x: f32) -> u32
@@ -79,20 +83,22 @@ pub fn floats_kept(list: &[f32], from: usize, first: f32) -> bool
     true
 }
 
-// ---- every entry of a cell map that is no cell's is its mark
+// ---- every entry of a cell map that is no cell's is blank inside the box, and else its mark
 
-fn is_within(low: u32, n: u64, high: u32) -> bool
-    ensures { λ r. ⌜ r ≡ below low high n ⌝ }
+fn is_within(low: u32, n: u64, end: u64) -> bool
+    ensures { λ r. ⌜ r ≡ below low end n ⌝ }
 {
     if n < low as u64 {
         return false;
     }
-    n < high as u64
+    n < end
 }
 
-// Whether the point at this index of the grid is the lowest corner of a cell of the box: from min to max - 1 on each axis.
-fn is_cell(k: Block, index: u64) -> bool
-    ensures { λ r. ⌜ r ≡ cellAt (point (k .dims)) (boxOf k) index ⌝ }
+// Whether the point at this index of the grid stands from min to max on each axis, max left out unless `more` is 1: whether it is the lowest corner of
+// a cell of the box, and whether it is a point of the box.
+fn is_inside(k: Block, more: u64, index: u64) -> bool
+    requires { ⌜ more ≤ 1 ⌝ }
+    ensures { λ r. ⌜ r ≡ cellAt (point (k .dims)) (reaching more (boxOf k)) index ⌝ }
 {
     let x = k.dims.x as u64;
     let y = k.dims.y as u64;
@@ -103,13 +109,23 @@ fn is_cell(k: Block, index: u64) -> bool
         return false;
     }
     let row = index / x;
-    if !is_within(k.low.x, index % x, k.high.x) {
+    if !is_within(k.low.x, index % x, (k.high.x as u64) + more) {
         return false;
     }
-    if !is_within(k.low.y, row % y, k.high.y) {
+    if !is_within(k.low.y, row % y, (k.high.y as u64) + more) {
         return false;
     }
-    is_within(k.low.z, row / y, k.high.z)
+    is_within(k.low.z, row / y, (k.high.z as u64) + more)
+}
+
+// What an entry that is no cell's holds afterwards, by its mark.
+fn unless_inside(k: Block, index: u64, mark: u32) -> u32
+    ensures { λ r. ⌜ r ≡ noCellEntry (point (k .dims)) (boxOf k) index mark ⌝ }
+{
+    if is_inside(k, 1, index) {
+        return NO_VERTEX;
+    }
+    mark
 }
 
 pub fn map_kept(map: &[u32], k: Block, first: u32) -> bool
@@ -118,7 +134,8 @@ pub fn map_kept(map: &[u32], k: Block, first: u32) -> bool
     let mut mark = first;
     let mut j = 0;
     while j < map.len() {
-        if !either(is_cell(k, j as u64), map[j] == mark) {
+        let right = map[j] == unless_inside(k, j as u64, mark);
+        if !either(is_inside(k, 0, j as u64), right) {
             return false;
         }
         mark = std::num::wrapping_add_u32(mark, 1);

@@ -18,7 +18,7 @@ use Rattle.grid.proofs.Order.{box-ends, box-length}
 use Rattle.promises.specs.Served.{Served, Done}
 
 -- "0 | done": conditions 1 to 5 do not hold
-done-answer : (u : Served) → Done u → answer (u .call) (room (u .before)) .number ≡ 0
+pub done-answer : (u : Served) → Done u → answer (u .call) (room (u .before)) .number ≡ 0
 done-answer u d = sym (ap (λ (a : Answer). a .number) (u .answered)) ∙ d
 
 pub done-accepts : (u : Served) → Done u → Accepted (u .call .grid) (u .call .size) (room (u .before) .map) (u .call .box)

@@ -1,5 +1,6 @@
 -- Document 01, "The answer and all that is written depend on the dimensions, box, max plane, all lengths, the grid's included, and the distances
--- inside the box. Distances outside the box and the map's old numbers never matter": of two calls that were made. Assumes nothing.
+-- inside the box. Distances outside the box and the map's old numbers never matter": of two calls that were made. By document 02's request 7 that is
+-- the whole map inside the box. Assumes nothing.
 use Prim.Native.Nat.{_<_}
 use mathlib.Core.List.{List}
 use mathlib.Core.Path.{_≡_, sym, ap, ap₂, _∙_}
@@ -24,7 +25,7 @@ module _ (u u' : Served) (same : Alike (u .call) (u' .call)) (rooms : room (u .b
   pub same-answer : u .says ≡ u' .says
   same-answer = u .answered ∙ answer-local (u .call) (u' .call) same (room (u .before)) ∙ ap (answer (u' .call)) rooms ∙ sym (u' .answered)
 
-  -- the first 3V, 3V, 3V, V and I numbers, and the map at each cell of the box
+  -- the first 3V, 3V, 3V, V and I numbers, and the map at each point of the box: none of its old numbers there is left
   pub same-written : Done u → SameWritten (u .call) (u .after) (u' .after)
   same-written d = rw (u .left, u' .left) (local (u .call) (u' .call) (u .before) (u' .before) same rooms (rw (← u .answered) d))
 

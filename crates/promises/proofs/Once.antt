@@ -58,6 +58,8 @@ use Rattle.stores.proofs.put_six.Kinds as put-six-kinds
 use Rattle.stores.proofs.put_six.Reads as put-six
 use Rattle.layer_vertices.proofs.mark_layer.Kinds as mark-layer-kinds
 use Rattle.layer_vertices.proofs.mark_layer.Reads as mark-layer
+use Rattle.layer_vertices.proofs.clear_layer.Kinds as clear-layer-kinds
+use Rattle.layer_vertices.proofs.clear_layer.Reads as clear-layer
 use Rattle.layer_faces.proofs.face_layer.Kinds as face-layer-kinds
 use Rattle.layer_faces.proofs.face_layer.Reads as face-layer
 use Rattle.whole_box.proofs.mesh_box.Kinds as mesh-box-kinds
@@ -164,6 +166,10 @@ mark-layer-once κs a o o' l l' =
     let b = l .0 ∙ sym (l' .0) in
     let n = l .1 ∙ sym (l' .1) in
     λ i. record { result = n i; last = (tt, (tt, (tt, (tt, (tt, (b i .positions, (b i .normals, (b i .cells, (b i .strides, (b i .map, tt)))))))))) }
+
+-- the last layer's part of the map
+pub clear-layer-once : OneOutcome 1 clear-layer-kinds.ps clear-layer-kinds.r clear-layer.Learnt
+clear-layer-once κs a o o' l l' = let s = l ∙ sym l' in λ i. record { result = tt; last = (tt, (s i, tt)) }
 
 -- a layer's faces: how many indices, and the list of them
 pub face-layer-once : OneOutcome 8 face-layer-kinds.ps face-layer-kinds.r face-layer.Learnt

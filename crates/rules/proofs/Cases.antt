@@ -26,7 +26,7 @@ use Rattle.rules.proofs.Edges.{sameEdge}
 
 -- which numbers of a call's outcome are looked at
 pub data Asked : Type 0 where
-  theAnswer theIndices theStrides theDiagonals theBuffers : Asked
+  theAnswer theIndices theStrides theDiagonals theMap theBuffers : Asked
   positionOf normalOf : ℕ → Asked
 
 pub record Case : Type 0 where
@@ -66,6 +66,7 @@ got theStrides c s = map (index (c .grid .dims)) (vertices (c .grid) (c .box))
 got theDiagonals c s = joined (diagonals (c .grid)) (edges (c .grid) (c .box) (c .flags))
 got (positionOf v) c s = three (vertexPosition (c .grid) (getD (vertices (c .grid) (c .box)) v lowest))
 got (normalOf v) c s = three (vertexNormal (c .grid) (getD (vertices (c .grid) (c .box)) v lowest))
+got theMap c s = afterwards c s .map
 got theBuffers c s = contents (afterwards c s)
 
 abbrev pub Holds : Case → Type 0
@@ -174,8 +175,23 @@ ballCells = 0 ∷ 0 ∷ 0 ∷ 1 ∷ 0 ∷ 0 ∷ 0 ∷ 1 ∷ 0 ∷ 1 ∷ 1 ∷ 0 
 abbrev ballStrides : List ℕ
 ballStrides = 0 ∷ 1 ∷ 3 ∷ 4 ∷ 9 ∷ 10 ∷ 12 ∷ 13 ∷ 77 ∷ []
 
+-- the entry of no vertex
+abbrev blank : ℕ
+blank = 4294967295
+
+-- its 8 cells, and the 19 points of the box that are no cell
 abbrev ballMap : List ℕ
-ballMap = 0 ∷ 1 ∷ 77 ∷ 2 ∷ 3 ∷ 77 ∷ 77 ∷ 77 ∷ 77 ∷ 4 ∷ 5 ∷ 77 ∷ 6 ∷ 7 ∷ replicate 13 77
+ballMap = 0 ∷ 1 ∷ blank ∷ 2 ∷ 3 ∷ blank ∷ blank ∷ blank ∷ blank ∷ 4 ∷ 5 ∷ blank ∷ 6 ∷ 7 ∷ replicate 13 blank
+
+-- the points with x 0 of dimensions 3, 3, 3, a map of 28: a flat box
+abbrev flatMap : List ℕ
+flatMap = joined (λ (n : ℕ). blank ∷ 77 ∷ 77 ∷ []) (run 9) ++ (77 ∷ [])
+
+-- the box from (1,1,1) to (2,2,2) of dimensions 4, 4, 4, a map of 65: its one cell, its seven other points, and those outside
+abbrev innerMap : List ℕ
+innerMap =
+    replicate 21 77 ++ (0 ∷ blank ∷ 77 ∷ 77 ∷ blank ∷ blank ∷ replicate 10 77)
+    ++ (blank ∷ blank ∷ 77 ∷ 77 ∷ blank ∷ blank ∷ replicate 22 77)
 
 abbrev ballIndices : List ℕ
 ballIndices = 2 ∷ 1 ∷ 0 ∷ 2 ∷ 3 ∷ 1 ∷ 1 ∷ 4 ∷ 0 ∷ 1 ∷ 5 ∷ 4 ∷ 4 ∷ 2 ∷ 0 ∷ 4 ∷ 6 ∷ 2 ∷ replicate 19 77
@@ -278,10 +294,14 @@ cases =
     ∷ answers (calls (point 2 2 2) 8 farApart lowest (point 1 1 1) false) roomy 5 0 0
     ∷ case (calls (point 2 2 2) 8 farApart lowest (point 1 1 1) false) roomy (positionOf 0) (0 ∷ 0x3F000000 ∷ 0x3F000000 ∷ [])
     ∷ case (calls (point 2 2 2) 8 farApart lowest (point 1 1 1) false) roomy (normalOf 0) (0x7F800000 ∷ 0 ∷ 0 ∷ [])
-    -- what the lent lists hold after Ball: the first numbers written, the rest kept; in the map the cells' entries alone
+    -- what the lent lists hold after Ball: the first numbers written, the rest kept; the whole map, since every point is one of the box
     ∷ case (whole ball) roomy theBuffers (ballPositions ++ (ballNormals ++ (ballCells ++ (ballStrides ++ (ballMap ++ ballIndices)))))
-    -- a cell that is no surface cell has the null vertex in the map; the points of the box that are no cell, and those outside, keep theirs
-    ∷ case (threes ones lowest (point 1 1 1)) (marked 0 0 0 0 28 0) theBuffers (4294967295 ∷ replicate 27 77)
+    -- a cell that is no surface cell has the null vertex in the map, and so have the points of the box that are no cell; those outside keep theirs
+    ∷ case (threes ones lowest (point 1 1 1)) (marked 0 0 0 0 28 0) theBuffers
+    (blank ∷ blank ∷ 77 ∷ blank ∷ blank ∷ 77 ∷ 77 ∷ 77 ∷ 77 ∷ blank ∷ blank ∷ 77 ∷ blank ∷ blank ∷ replicate 14 77)
+    -- document 02, request 7: "the entry of every point of the box that is no cell becomes 4,294,967,295, also for a flat box"
+    ∷ case (calls (point 4 4 4) 64 (with 21 minusOne ones) (point 1 1 1) (point 2 2 2) false) (marked 3 3 3 1 65 0) theMap innerMap
+    ∷ case (threes ball lowest (point 0 2 2)) (marked 0 0 0 0 28 0) theBuffers flatMap
     -- "Answers 1 to 7 change nothing."
     ∷ case (calls (point 0 3 3) 27 ball lowest (point 2 2 2) false) roomy theBuffers (contents roomy)
     ∷ case (threes ball lowest (point 3 2 2)) roomy theBuffers (contents roomy)

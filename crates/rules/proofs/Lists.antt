@@ -166,6 +166,12 @@ module _ {A : Type 0} where
   keep-same none = refl
   keep-same (more {x = x} p q) = ap₂ (λ (b : Bool) (ys : List A). cond b (x ∷ ys) ys) p (keep-same q)
 
+  -- where no element passes
+  pub keep-none : {f : A → Bool} {l : List A} → All (λ x. f x ≡ false) l → keep f l ≡ []
+  unfolding keep
+  keep-none none = refl
+  keep-none {f} (more {x = x} {xs = xs} p q) = ap (λ (b : Bool). cond b (x ∷ keep f xs) (keep f xs)) p ∙ keep-none q
+
   pub many-total : (f : A → Bool) (l : List A) → many f l ≡ total (λ x. one (f x)) l
   unfolding many total
   many-total f [] = refl

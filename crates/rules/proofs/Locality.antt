@@ -1,5 +1,6 @@
 -- "The answer and all that is written depend on the dimensions, box, max plane, all lengths, the grid's included, and the distances inside
--- the box. Distances outside the box and the map's old numbers never matter." From the definitions. Assumes nothing.
+-- the box. Distances outside the box and the map's old numbers never matter." With document 02's request 7 the map is new at each point of the box. From
+-- the definitions. Assumes nothing.
 use Prim.Native.Nat.{ℕ, zero, suc, _+_, _-_, _*_, _≤_, _<_}
 use mathlib.Core.Bool.{Bool, true, false, not, _&&_, cond}
 use mathlib.Core.List.{List, [], _∷_, map}
@@ -189,9 +190,9 @@ module _ (c c' : Call) (same : Alike c c') (ok : T (not (badBox (c .grid .dims) 
   unfolding mapEntry
   calls-entry j old =
       let p : GridPoint = pointAt (c .grid .dims) j in
-      cond-same (isCell (c .box) p) (cellEntry (c .grid) (c .box) p) (cellEntry (c' .grid) (c .box) p) (cond (inBox (c .box) p) (edgeEntry old) old)
+      cond-same (isCell (c .box) p) (cellEntry (c .grid) (c .box) p) (cellEntry (c' .grid) (c .box) p) (cond (inBox (c .box) p) edgeEntry old)
       (entry-same (c .grid) (c' .grid) (c .box) agree p)
-      ∙ ap₂ {A = Box} {B = GridPoint} (λ b d. cond (isCell b (pointAt d j)) (cellEntry (c' .grid) b (pointAt d j)) (cond (inBox b (pointAt d j)) (edgeEntry old) old)) (same .box) (same .dims)
+      ∙ ap₂ {A = Box} {B = GridPoint} (λ b d. cond (isCell b (pointAt d j)) (cellEntry (c' .grid) b (pointAt d j)) (cond (inBox b (pointAt d j)) edgeEntry old)) (same .box) (same .dims)
 
   -- distances outside the box never matter: with the same old numbers, every list holds the same afterwards
   pub written-local : (s : Buffers) → written c s ≡ written c' s
@@ -231,23 +232,24 @@ afterwards-local c c' same s =
 
 -- ---- the old numbers never matter
 
--- two outcomes of a call hold the same numbers where it writes: the first 3V, 3V, 3V, V and I, and the map at each cell of the box
+-- two outcomes of a call hold the same numbers where it writes: the first 3V, 3V, 3V, V and I, and the map at each point of the box
 pub record SameWritten (c : Call) (t t' : Buffers) : Type 0 where
   pub positions : take (3 * vertexCount c) (t .positions) ≡ take (3 * vertexCount c) (t' .positions)
   pub normals : take (3 * vertexCount c) (t .normals) ≡ take (3 * vertexCount c) (t' .normals)
   pub cells : take (3 * vertexCount c) (t .cells) ≡ take (3 * vertexCount c) (t' .cells)
   pub strides : take (vertexCount c) (t .strides) ≡ take (vertexCount c) (t' .strides)
-  pub map : (j : ℕ) → j < length (t .map) → T (isCell (c .box) (pointAt (c .grid .dims) j)) → getD (t .map) j 0 ≡ getD (t' .map) j 0
+  pub map : (j : ℕ) → j < length (t .map) → T (inBox (c .box) (pointAt (c .grid .dims) j)) → getD (t .map) j 0 ≡ getD (t' .map) j 0
   pub indices : take (indexCount c) (t .indices) ≡ take (indexCount c) (t' .indices)
 
--- "Its map entry is that number", whatever stood there
-pub map-at : (c : Call) (s : Buffers) (j : ℕ) → j < length (s .map) → T (isCell (c .box) (pointAt (c .grid .dims) j)) → getD (written c s .map) j 0 ≡ cellEntry (c .grid) (c .box) (pointAt (c .grid .dims) j)
+-- a cell's entry, and that of a point of the box that is no cell, whatever stood there
+pub map-at : (c : Call) (s : Buffers) (j : ℕ) → j < length (s .map) → T (inBox (c .box) (pointAt (c .grid .dims) j))
+    → getD (written c s .map) j 0 ≡ cond (isCell (c .box) (pointAt (c .grid .dims) j)) (cellEntry (c .grid) (c .box) (pointAt (c .grid .dims) j)) edgeEntry
 unfolding written mapEntry
 map-at c s j h t =
     let p : GridPoint = pointAt (c .grid .dims) j in
     getD-placed (mapEntry (c .grid) (c .box)) 0 (s .map) j 0 h
     ∙ ap (λ (k : ℕ). mapEntry (c .grid) (c .box) k (getD (s .map) j 0)) (zero-add j)
-    ∙ cond-true (isCell (c .box) p) (cellEntry (c .grid) (c .box) p) (cond (inBox (c .box) p) (edgeEntry (getD (s .map) j 0)) (getD (s .map) j 0)) t
+    ∙ ap (cond (isCell (c .box) p) (cellEntry (c .grid) (c .box) p)) (cond-true (inBox (c .box) p) edgeEntry (getD (s .map) j 0) t)
 
 pub old-numbers : (c : Call) (s s' : Buffers) → length (s .map) ≡ length (s' .map) → SameWritten c (written c s) (written c s')
 unfolding written
@@ -267,7 +269,7 @@ old-numbers c s s' long =
     start : {A : Type 0} {n : ℕ} (new : List A) → length new ≡ n → (old old' : List A) → take n (over new old) ≡ take n (over new old')
     start {n = n} new e old old' = take-at new (drop (length new) old) n e ∙ sym (take-at new (drop (length new) old') n e)
 
-    entries : (j : ℕ) → j < length (written c s .map) → T (isCell (c .box) (pointAt (c .grid .dims) j)) → getD (written c s .map) j 0 ≡ getD (written c s' .map) j 0
+    entries : (j : ℕ) → j < length (written c s .map) → T (inBox (c .box) (pointAt (c .grid .dims) j)) → getD (written c s .map) j 0 ≡ getD (written c s' .map) j 0
     entries j h t =
         let l : j < length (s .map) = rw length-placed at h in
         map-at c s j l t ∙ sym (map-at c s' j (omega arith) t)

@@ -136,8 +136,8 @@ flatVectors vs = joined (λ (v : Vector). v .x ∷ v .y ∷ v .z ∷ []) vs
 abbrev pub flatPoints : List GridPoint → List ℕ
 flatPoints ps = joined (λ (p : GridPoint). p .x ∷ p .y ∷ p .z ∷ []) ps
 
--- "On 0, the first 3V, 3V, 3V, V and I numbers are written and the rest of those buffers kept. In the map, each cell's entry is written
--- and every other one kept"
+-- "On 0, the first 3V, 3V, 3V, V and I numbers are written and the rest of those buffers kept. In the map, each cell's entry is written",
+-- and by document 02, request 7, that of every other point of the box; "Points outside the box still keep theirs."
 unfoldable pub written : Call → Buffers → Buffers
 written c s =
     record {

@@ -57,7 +57,7 @@ vertexNormal g c = normal (values g c) (centroid (values g c))
 
 -- ---- the map
 
--- what stands in the map for a cell with no vertex
+-- what stands in the map for a point of the box that has no vertex
 abbrev pub nullVertex : ℕ
 nullVertex = 4294967295
 
@@ -65,10 +65,10 @@ nullVertex = 4294967295
 unfoldable pub cellEntry : Field → Box → GridPoint → ℕ
 cellEntry g b c = cond (surfaceCell g c) (vertexNumber g b (firstVertex g b (c .z)) c) nullVertex
 
--- the entry of a point of the box that is no cell: "every other one kept"
-abbrev pub edgeEntry : ℕ → ℕ
-edgeEntry old = old
+-- document 02, request 7: "On answer 0 the entry of every point of the box that is no cell becomes 4,294,967,295, also for a flat box."
+abbrev pub edgeEntry : ℕ
+edgeEntry = nullVertex
 
 -- the map's entry at an index afterwards, by the old one: of a cell, of a point of the box that is no cell, and of any other
 unfoldable pub mapEntry : Field → Box → ℕ → ℕ → ℕ
-mapEntry g b j old = cond (isCell b (pointAt (g .dims) j)) (cellEntry g b (pointAt (g .dims) j)) (cond (inBox b (pointAt (g .dims) j)) (edgeEntry old) old)
+mapEntry g b j old = cond (isCell b (pointAt (g .dims) j)) (cellEntry g b (pointAt (g .dims) j)) (cond (inBox b (pointAt (g .dims) j)) edgeEntry old)

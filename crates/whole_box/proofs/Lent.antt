@@ -23,7 +23,7 @@ use Rattle.grid.proofs.Order.{box-ends}
 use Rattle.grid.proofs.Rows.{box-short}
 use Rattle.grid.proofs.Slab.{layer-alike}
 use Rattle.layer_vertices.specs.declared.Next.{Next}
-use Rattle.layer_vertices.specs.Marked.{Lists, lists, marked, Room}
+use Rattle.layer_vertices.specs.Marked.{Lists, lists, layerEntry, marked, Room}
 use Rattle.layer_vertices.proofs.Alike.{marked-alike}
 use Rattle.whole_box.specs.declared.Made.{Made}
 use Rattle.whole_box.specs.Layers.{layerMarked, Written}
@@ -78,7 +78,7 @@ module _ (sdf : List Float) (k : Block) (i : Inside sdf k) where
         let w = k .dims .x * k .dims .y in
         ap (λ (s : Lists). lists (s .positions) (s .normals) (s .cells) (s .strides) (take a mp₀ ++ (s .map ++ drop (a + w - a) (drop a mp₀)))) (e ∙ marked-alike (point (k .dims)) two (g .dist) b z (layers-agree sdf k i z zs) (record { place = first; number = first }) (lists p₀ n₀ cs₀ st₀ (part a w mp₀)))
         ∙ ap (λ (l : List ℕ). lists (marked g b z (record { place = first; number = first }) (lists p₀ n₀ cs₀ st₀ mp₀) .positions) (marked g b z (record { place = first; number = first }) (lists p₀ n₀ cs₀ st₀ mp₀) .normals) (marked g b z (record { place = first; number = first }) (lists p₀ n₀ cs₀ st₀ mp₀) .cells) (marked g b z (record { place = first; number = first }) (lists p₀ n₀ cs₀ st₀ mp₀) .strides) l)
-        (part-back g b plane-up z first mp₀ (omega (arith, layer-end sdf k i z zs)))
+        (part-back (g .dims) plane-up z (layerEntry g b z first) mp₀ (omega (arith, layer-end sdf k i z zs)))
 
     -- ---- the room on the way
 

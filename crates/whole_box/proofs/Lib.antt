@@ -5,4 +5,5 @@ pub mod Map
 pub mod Steps
 pub mod Looks
 pub mod Lent
+pub mod Last
 pub mod Layer

@@ -18,8 +18,9 @@ use Rattle.rules.specs.Vertices.{surfaceCell, vertexNumber, firstVertex, nullVe
 use Rattle.rules.proofs.Tests.{is-false, less-or-not}
 use Rattle.rules.proofs.Lists.{getD-placed, length-placed}
 use Rattle.rules.proofs.Indexes.{BoxFits, same-point, cell-within, cell-in-box, within, point-back}
-use Rattle.layer_vertices.specs.Marked.{cellNumber, layerPoint, layerEntry}
-use Rattle.whole_box.specs.Layers.{entryAt, entryTo}
+use Rattle.layer_vertices.specs.Marked.{layerPoint, layerEntry}
+use Rattle.layer_vertices.proofs.Points.{last-is}
+use Rattle.whole_box.specs.Layers.{atLayer, entryAt, entryTo, lastAt}
 use Rattle.whole_box.proofs.Placed.{placed-append, placed-by, placed-kept, placed-twice}
 
 -- ---- the point at an index of the layer z
@@ -51,24 +52,24 @@ module _ (d : GridPoint) (up : 0 < d .x * d .y) where
 
 -- ---- the layer's part, put back
 
-module _ (g : Field) (b : Box) (up : 0 < g .dims .x * g .dims .y) (z first : ℕ) where
+module _ (d : GridPoint) (up : 0 < d .x * d .y) (z : ℕ) (e : ℕ → ℕ → ℕ) where
   abbrev plane : ℕ
-  plane = g .dims .x * g .dims .y
+  plane = d .x * d .y
 
-  apart : (j : ℕ) → (j / (g .dims .x * g .dims .y) ≡ z → ⊥) → (x : ℕ) → entryAt g b z first j x ≡ x
-  apart j h x = ap (λ (t : Bool). cond t (layerEntry g b z first (j - plane * z) x) x) (ne-eqb (j / plane) z h)
+  apart : (j : ℕ) → (j / (d .x * d .y) ≡ z → ⊥) → (x : ℕ) → atLayer d z e j x ≡ x
+  apart j h x = ap (λ (t : Bool). cond t (e (j - plane * z) x) x) (ne-eqb (j / plane) z h)
 
-  inside : (i : ℕ) → i < g .dims .x * g .dims .y → (x : ℕ) → entryAt g b z first (g .dims .x * g .dims .y * z + i) x ≡ layerEntry g b z first i x
+  inside : (i : ℕ) → i < d .x * d .y → (x : ℕ) → atLayer d z e (d .x * d .y * z + i) x ≡ e i x
   inside i h x =
       let back : plane * z + i - plane * z ≡ i = omega arith in
-      ap (λ (t : Bool). cond t (layerEntry g b z first (plane * z + i - plane * z) x) x) (eq-eqb ((plane * z + i) / plane) z (plane-of (g .dims) up z i h))
-      ∙ ap (λ (n : ℕ). layerEntry g b z first n x) back
+      ap (λ (t : Bool). cond t (e (plane * z + i - plane * z) x) x) (eq-eqb ((plane * z + i) / plane) z (plane-of d up z i h))
+      ∙ ap (λ (n : ℕ). e n x) back
 
-  pub part-back : (l : List ℕ) → g .dims .x * g .dims .y * z + g .dims .x * g .dims .y ≤ length l
-      → take (g .dims .x * g .dims .y * z) l
-      ++ (placed (layerEntry g b z first) 0 (take (g .dims .x * g .dims .y * z + g .dims .x * g .dims .y - g .dims .x * g .dims .y * z) (drop (g .dims .x * g .dims .y * z) l))
-      ++ drop (g .dims .x * g .dims .y * z + g .dims .x * g .dims .y - g .dims .x * g .dims .y * z) (drop (g .dims .x * g .dims .y * z) l))
-      ≡ placed (entryAt g b z first) 0 l
+  pub part-back : (l : List ℕ) → d .x * d .y * z + d .x * d .y ≤ length l
+      → take (d .x * d .y * z) l
+      ++ (placed e 0 (take (d .x * d .y * z + d .x * d .y - d .x * d .y * z) (drop (d .x * d .y * z) l))
+      ++ drop (d .x * d .y * z + d .x * d .y - d .x * d .y * z) (drop (d .x * d .y * z) l))
+      ≡ placed (atLayer d z e) 0 l
   part-back l h = sym (ap (placed f 0) whole ∙ placed-append f 0 A (B ++ C) ∙ ap₂ (λ (s t : List ℕ). s ++ t) lower (placed-append f (0 + length A) B C ∙ ap₂ (λ (s t : List ℕ). s ++ t) here upper))
     where
       n : ℕ
@@ -78,7 +79,7 @@ module _ (g : Field) (b : Box) (up : 0 < g .dims .x * g .dims .y) (z first : ℕ
       is-plane = omega arith
 
       f : ℕ → ℕ → ℕ
-      f = entryAt g b z first
+      f = atLayer d z e
 
       A : List ℕ
       A = take (plane * z) l
@@ -99,17 +100,20 @@ module _ (g : Field) (b : Box) (up : 0 < g .dims .x * g .dims .y) (z first : ℕ
       longer = length-take-le n (drop (plane * z) l) (omega (arith, is-plane, length-drop (plane * z) l)) ∙ is-plane
 
       lower : placed f 0 A ≡ A
-      lower = placed-kept f 0 A (λ i k x. apart (0 + i) (λ (e : (0 + i) / plane ≡ z). omega (arith, plane-below (g .dims) up z (0 + i) (omega (arith, long, k)))) x)
+      lower = placed-kept f 0 A (λ i k x. apart (0 + i) (λ (h' : (0 + i) / plane ≡ z). omega (arith, plane-below d up z (0 + i) (omega (arith, long, k)))) x)
 
-      here : placed f (0 + length A) B ≡ placed (layerEntry g b z first) 0 B
+      here : placed f (0 + length A) B ≡ placed e 0 B
       here =
-          placed-by f (layerEntry g b z first) (0 + length A) 0 B
+          placed-by f e (0 + length A) 0 B
           (λ i k x.
           let at : 0 + length A + i ≡ plane * z + i = omega (arith, long) in
-          ap (λ (j : ℕ). f j x) at ∙ inside i (omega (arith, longer, k)) x ∙ ap (λ (j : ℕ). layerEntry g b z first j x) (sym (zero-add i)))
+          ap (λ (j : ℕ). f j x) at ∙ inside i (omega (arith, longer, k)) x ∙ ap (λ (j : ℕ). e j x) (sym (zero-add i)))
 
       upper : placed f (0 + length A + length B) C ≡ C
-      upper = placed-kept f (0 + length A + length B) C (λ i k x. apart (0 + length A + length B + i) (λ (e : (0 + length A + length B + i) / plane ≡ z). omega (arith, plane-above (g .dims) up z (0 + length A + length B + i) (omega (arith, long, longer)))) x)
+      upper =
+          let n' = 0 + length A + length B in
+          placed-kept f n' C
+          (λ i k x. apart (n' + i) (λ (h' : (n' + i) / plane ≡ z). omega (arith, plane-above d up z (n' + i) (omega (arith, long, longer)))) x)
 
 -- ---- one layer more
 
@@ -146,8 +150,8 @@ module _ (g : Field) (b : Box) (xs : 0 < g .dims .x) (ys : 0 < g .dims .y) (up :
       let small : j - plane * z < plane = omega (arith, mod-lt j up) in
       let back : plane * z + (j - plane * z) ≡ j = omega arith in
       let p : layerPoint (g .dims) z (j - plane * z) ≡ pointAt (g .dims) j = same-place z (j - plane * z) small ∙ ap (pointAt (g .dims)) back in
-      ap (λ (q : GridPoint). cond (isCell b q) (cond (surfaceCell g q) (vertexNumber g b (firstVertex g b z) q) nullVertex) (cond (inBox b q) (edgeEntry old) old)) p
-      ∙ ap (λ (y : ℕ). cond (isCell b (pointAt (g .dims) j)) (cond (surfaceCell g (pointAt (g .dims) j)) (vertexNumber g b (firstVertex g b y) (pointAt (g .dims) j)) nullVertex) (cond (inBox b (pointAt (g .dims) j)) (edgeEntry old) old)) (sym e)
+      let entry : ℕ → GridPoint → ℕ = λ y q. cond (isCell b q) (cond (surfaceCell g q) (vertexNumber g b (firstVertex g b y) q) nullVertex) (cond (inBox b q) edgeEntry old) in
+      ap (entry z) p ∙ ap (λ (y : ℕ). entry y (pointAt (g .dims) j)) (sym e)
 
   entry-more : (z j old : ℕ) → entryAt g b z (firstVertex g b z) j (entryTo g b z j old) ≡ entryTo g b (z + 1) j old
   entry-more z j old = go (less-or-not y z) (less-or-not z y)
@@ -180,12 +184,12 @@ module _ (g : Field) (b : Box) (xs : 0 < g .dims .x) (ys : 0 < g .dims .y) (up :
 -- ---- no layer yet, and all of them
 
 module _ (g : Field) (b : Box) where
-  outside : (j old : ℕ) → (T (inBox b (pointAt (g .dims) j)) → ⊥) → mapEntry g b j old ≡ old
+  pub outside : (j old : ℕ) → (T (inBox b (pointAt (g .dims) j)) → ⊥) → mapEntry g b j old ≡ old
   unfolding mapEntry
   outside j old apart-from =
       let p = pointAt (g .dims) j in
-      ap (λ (t : Bool). cond t (cellEntry g b p) (cond (inBox b p) (edgeEntry old) old)) (is-false (isCell b p) (λ (t : T (isCell b p)). apart-from (cell-in-box b p t)))
-      ∙ ap (λ (t : Bool). cond t (edgeEntry old) old) (is-false (inBox b p) apart-from)
+      ap (λ (t : Bool). cond t (cellEntry g b p) (cond (inBox b p) edgeEntry old)) (is-false (isCell b p) (λ (t : T (isCell b p)). apart-from (cell-in-box b p t)))
+      ∙ ap (λ (t : Bool). cond t edgeEntry old) (is-false (inBox b p) apart-from)
 
   pub map-none : (l : List ℕ) → placed (entryTo g b (b .low .z)) 0 l ≡ l
   map-none l = placed-kept (entryTo g b (b .low .z)) 0 l (λ i h x. at (0 + i) x (less-or-not (pointAt (g .dims) (0 + i) .z) (b .low .z)))
@@ -196,21 +200,30 @@ module _ (g : Field) (b : Box) where
           ∙ outside j x (λ (t : T (inBox b (pointAt (g .dims) j))). let w = within b (pointAt (g .dims) j) t in omega arith)
       at j x (inr h) = ap (λ (t : Bool). cond t (mapEntry g b j x) x) (le-ltb (pointAt (g .dims) j .z) (b .low .z) h)
 
-  -- a point at max or above it is no cell, and keeps its entry
-  pub map-all : (l : List ℕ) → placed (entryTo g b (b .high .z)) 0 l ≡ placed (mapEntry g b) 0 l
-  unfolding mapEntry
-  map-all l = placed-by (entryTo g b (b .high .z)) (mapEntry g b) 0 0 l (λ i h x. at (0 + i) x (less-or-not (pointAt (g .dims) (0 + i) .z) (b .high .z)))
+  -- a point above max is none of the box
+  pub map-all : (l : List ℕ) → placed (entryTo g b (b .high .z + 1)) 0 l ≡ placed (mapEntry g b) 0 l
+  map-all l = placed-by (entryTo g b (b .high .z + 1)) (mapEntry g b) 0 0 l (λ i h x. at (0 + i) x (less-or-not (pointAt (g .dims) (0 + i) .z) (b .high .z + 1)))
     where
-      at : (j x : ℕ) → (pointAt (g .dims) j .z < b .high .z) ⊎ (b .high .z ≤ pointAt (g .dims) j .z) → entryTo g b (b .high .z) j x ≡ mapEntry g b j x
-      at j x (inl h) = ap (λ (t : Bool). cond t (mapEntry g b j x) x) (lt-ltb (pointAt (g .dims) j .z) (b .high .z) h)
+      at : (j x : ℕ) → (pointAt (g .dims) j .z < b .high .z + 1) ⊎ (b .high .z + 1 ≤ pointAt (g .dims) j .z) → entryTo g b (b .high .z + 1) j x ≡ mapEntry g b j x
+      at j x (inl h) = ap (λ (t : Bool). cond t (mapEntry g b j x) x) (lt-ltb (pointAt (g .dims) j .z) (b .high .z + 1) h)
       at j x (inr h) =
           let p = pointAt (g .dims) j in
-          ap (λ (t : Bool). cond t (mapEntry g b j x) x) (le-ltb (p .z) (b .high .z) h)
-          ∙ sym (ap (λ (t : Bool). cond t (cellEntry g b p) (cond (inBox b p) (edgeEntry x) x)) (is-false (isCell b p) (λ (t : T (isCell b p)). let w = cell-within b p t in omega arith)) ∙ same (inBox b p))
-        where
-          same : (t : Bool) → cond t (edgeEntry x) x ≡ x
-          same true = refl
-          same false = refl
+          ap (λ (t : Bool). cond t (mapEntry g b j x) x) (le-ltb (p .z) (b .high .z + 1) h)
+          ∙ sym (outside j x (λ (t : T (inBox b p)). let w = within b p t in omega arith))
+
+-- after the layers of cells, the last layer
+pub map-last : (g : Field) (b : Box) → 0 < g .dims .x → 0 < g .dims .y → 0 < g .dims .x * g .dims .y → (l : List ℕ)
+    → placed (lastAt (g .dims) b) 0 (placed (entryTo g b (b .high .z)) 0 l) ≡ placed (mapEntry g b) 0 l
+map-last g b xs ys up l =
+    placed-by (lastAt (g .dims) b) (entryAt g b z (firstVertex g b z)) 0 0 (placed (entryTo g b z) 0 l)
+    (λ i h x.
+    let j = 0 + i in
+    ap (λ (n : ℕ). cond (eqb (pointAt (g .dims) j .z) z) n x) (sym (last-is b g (firstVertex g b z) (j - g .dims .x * g .dims .y * z) x)))
+    ∙ map-more g b xs ys up z l
+    ∙ map-all g b l
+  where
+    z : ℕ
+    z = b .high .z
 
 -- ---- what a passed cell's entry is
 
@@ -224,6 +237,6 @@ map-number g b f z l c t h k =
     let back : pointAt (g .dims) j ≡ c = point-back (g .dims) c (omega arith) (omega arith) in
     getD-placed (entryTo g b (z + 1)) 0 l j 0 k
     ∙ ap (λ (n : ℕ). entryTo g b (z + 1) n old) (zero-add j)
-    ∙ ap (λ (q : GridPoint). cond (ltb (q .z) (z + 1)) (cond (isCell b q) (cellEntry g b q) (cond (inBox b q) (edgeEntry old) old)) old) back
-    ∙ ap (λ (s : Bool). cond s (cond (isCell b c) (cellEntry g b c) (cond (inBox b c) (edgeEntry old) old)) old) (lt-ltb (c .z) (z + 1) (omega arith))
-    ∙ ap (λ (s : Bool). cond s (cellEntry g b c) (cond (inBox b c) (edgeEntry old) old)) (is-true (isCell b c) t)
+    ∙ ap (λ (q : GridPoint). cond (ltb (q .z) (z + 1)) (cond (isCell b q) (cellEntry g b q) (cond (inBox b q) edgeEntry old)) old) back
+    ∙ ap (λ (s : Bool). cond s (cond (isCell b c) (cellEntry g b c) (cond (inBox b c) edgeEntry old)) old) (lt-ltb (c .z) (z + 1) (omega arith))
+    ∙ ap (λ (s : Bool). cond s (cellEntry g b c) (cond (inBox b c) edgeEntry old)) (is-true (isCell b c) t)

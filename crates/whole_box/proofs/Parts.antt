@@ -1,6 +1,6 @@
 -- The parts of a grid that are lent for the layer z: they are its two layers of distances, and hold the box. From the conditions 1 to 3. Assumes nothing.
 use Prim.Native.Nat.{ℕ, _+_, _-_, _*_, _≤_, _<_}
-use native.Mathlib.Nat.{mul-one, mul-add, mul-le-mul-left, le-trans, le-refl}
+use native.Mathlib.Nat.{mul-one, mul-suc, mul-add, mul-le-mul-left, le-trans, le-refl}
 use native.Mathlib.Omega.{arith}
 use mathlib.Core.List.{List}
 use mathlib.Core.Logic.{_⊎_, inl, inr}
@@ -44,6 +44,10 @@ rest-at start l j d = ap (λ (s : List _). getD s j d) (take-all (length l - sta
 pub length-rest : {A : Type 0} (start : ℕ) (l : List A) → length (rest start l) ≡ length l - start
 length-rest start l = ap length (take-all (length l - start) (drop start l) (omega (arith, length-drop start l))) ∙ length-drop start l
 
+-- a layer of points ends where the next begins, and the last at the grid's end
+pub layer-under : (plane z n : ℕ) → z < n → plane * z + plane ≤ plane * n
+layer-under plane z n h = omega (arith, mul-le-mul-left plane h, mul-suc plane z)
+
 -- ---- the two layers
 
 module _ (sdf : List Float) (k : Block) (i : Inside sdf k) (z : ℕ) (zs : (k .low .z ≤ z) × (z < k .high .z)) where
@@ -67,8 +71,7 @@ module _ (sdf : List Float) (k : Block) (i : Inside sdf k) (z : ℕ) (zs : (k .l
   pub layer-few : k .dims .x * k .dims .y * z + k .dims .x * k .dims .y ≤ 1073741824
   layer-few =
       let f = fits sdf k i in
-      let under : z + 1 ≤ k .dims .z = omega arith in
-      omega (arith, mul-le-mul-left plane under, few (point (k .dims)) (i .dims), above)
+      omega (arith, layer-under plane z (k .dims .z) (omega arith), few (point (k .dims)) (i .dims))
 
   pub corner-in : inLayer (point (k .dims)) (point (k .high)) < k .dims .x * k .dims .y
   corner-in = let f = fits sdf k i in in-plane (point (k .dims)) (point (k .high)) (f .x .1) (f .y .1)

@@ -33,8 +33,8 @@ use Rattle.layer_vertices.specs.Marked.{Lists, Room}
 use Rattle.layer_vertices.proofs.Passing.{vectors-append, points-append}
 use Rattle.whole_box.specs.declared.Made.{Made}
 use Rattle.whole_box.specs.Reading.{Roomy}
-use Rattle.whole_box.specs.Layers.{entryAt, verticesTo, indicesTo, entryTo, writtenTo, madeTo, Written, layerWritten, layerMade, Stands}
-use Rattle.whole_box.proofs.Map.{map-more, map-none, map-all, map-number}
+use Rattle.whole_box.specs.Layers.{entryAt, lastAt, verticesTo, indicesTo, entryTo, writtenTo, madeTo, Written, layerWritten, layerMade, Stands}
+use Rattle.whole_box.proofs.Map.{map-more, map-none, map-last, map-number}
 
 -- ---- lists up to a layer
 
@@ -153,7 +153,11 @@ module _ (c : Call) (z : ℕ) (l : c .box .low .z ≤ z) (h : z < c .box .high .
           on = ap (layerMade c z) (w .on) ∙ made-more;
         }
 
--- ---- no layer yet, and all of them
+-- ---- no layer yet, and all of them, the last one too
+
+-- the lists with another map
+abbrev pub with-map : Buffers → List ℕ → Buffers
+with-map s mp = record { positions = s .positions; normals = s .normals; cells = s .cells; strides = s .strides; map = mp; indices = s .indices }
 
 pub written-none : (c : Call) (t : Buffers) → Roomy (c .grid) (c .box) (c .flags) (c .size) t → Written c (c .box .low .z) t (record { vertices = 0; indices = 0; below = 0 }) t
 unfolding writtenTo joined firstVertex
@@ -183,17 +187,13 @@ written-none c t r =
           }) (sym none) (sym under);
     }
 
-pub written-all : (c : Call) (t : Buffers) → writtenTo c (c .box .high .z) t ≡ written c t
+pub written-all : (c : Call) → 0 < c .grid .dims .x → 0 < c .grid .dims .y → 0 < c .grid .dims .x * c .grid .dims .y → (t : Buffers) {s : Buffers} {mp : List ℕ}
+    → s ≡ writtenTo c (c .box .high .z) t → mp ≡ placed (lastAt (c .grid .dims) (c .box)) 0 (s .map) → with-map s mp ≡ written c t
 unfolding writtenTo written vertices indices
-written-all c t = λ i.
-    record {
-      positions = over (flatVectors (map (vertexPosition (c .grid)) (vertices (c .grid) (c .box)))) (t .positions);
-      normals = over (flatVectors (map (vertexNormal (c .grid)) (vertices (c .grid) (c .box)))) (t .normals);
-      cells = over (flatPoints (vertices (c .grid) (c .box))) (t .cells);
-      strides = over (map (index (c .grid .dims)) (vertices (c .grid) (c .box))) (t .strides);
-      map = map-all (c .grid) (c .box) (t .map) i;
-      indices = over (indices (c .grid) (c .box) (c .flags)) (t .indices);
-    }
+written-all c xs ys up t {s} e f =
+    ap (with-map s) f
+    ∙ ap (λ (u : Buffers). with-map u (placed (lastAt (c .grid .dims) (c .box)) 0 (u .map))) e
+    ∙ ap (with-map (writtenTo c (c .box .high .z) t)) (map-last (c .grid) (c .box) xs ys up (t .map))
 
 -- ---- lengths
 

@@ -1,7 +1,7 @@
 -- What one layer, and the layers up to one, leave of the lent lists of a whole call. These stand in no contract that another crate sees.
 -- Definitions only. Assumes nothing.
 use Prim.Native.Nat.{ℕ, _+_, _-_, _*_, _≤_, _<_}
-use mathlib.Core.Bool.{Bool, cond}
+use mathlib.Core.Bool.{Bool, not, cond}
 use mathlib.Core.List.{List, map}
 use mathlib.Core.Path.{_≡_}
 use lib.Dec.{T, ltb, eqb}
@@ -12,17 +12,21 @@ use Rattle.rules.specs.Lists.{upTo, joined, placed, over}
 use Rattle.rules.specs.Grid.{GridPoint, Box, Field, index, pointAt, isCell}
 use Rattle.rules.specs.Vertices.{layerVertices, firstVertex, vertexPosition, vertexNormal, cellEntry, mapEntry}
 use Rattle.rules.specs.Faces.{Flags, layerIndices}
-use Rattle.rules.specs.Call.{Call, Buffers, flatVectors, flatPoints}
-use Rattle.layer_vertices.specs.Marked.{Lists, layerEntry}
+use Rattle.rules.specs.Call.{Call, Buffers, badDimensions, badBox, flatVectors, flatPoints}
+use Rattle.grid.specs.declared.Block.{Block}
+use Rattle.grid.specs.Block.{point, boxOf}
+use Rattle.layer_vertices.specs.Marked.{Lists, layerEntry, lastEntry}
 use Rattle.whole_box.specs.declared.Made.{Made}
 use Rattle.whole_box.specs.Reading.{Roomy}
 
 -- ---- the layer z, whose first vertex has the number `first`
 
--- the entry at an index of the whole map: of the layer's points, and of any other
+-- the entry at an index of the whole map, where the part of the layer z changes by its places: of the layer's points, and of any other
+abbrev pub atLayer : GridPoint → ℕ → (ℕ → ℕ → ℕ) → ℕ → ℕ → ℕ
+atLayer d z entry j old = cond (eqb (pointAt d j .z) z) (entry (j - d .x * d .y * z) old) old
+
 abbrev pub entryAt : Field → Box → ℕ → ℕ → ℕ → ℕ → ℕ
-entryAt g b z first j old =
-    cond (eqb (pointAt (g .dims) j .z) z) (layerEntry g b z first (j - g .dims .x * g .dims .y * z) old) old
+entryAt g b z first j old = atLayer (g .dims) z (layerEntry g b z first) j old
 
 -- the vertices, in the lists from place `first` on
 unfoldable pub layerMarked : Field → Box → ℕ → ℕ → Lists → Lists
@@ -94,6 +98,17 @@ layerMade c z made =
       indices = made .indices + length (layerIndices (c .grid) (c .box) (c .flags) (made .vertices) z);
       below = made .vertices;
     }
+
+-- ---- the box's last layer, which has no cells
+
+abbrev pub lastAt : GridPoint → Box → ℕ → ℕ → ℕ
+lastAt d b j old = atLayer d (b .high .z) (lastEntry d b) j old
+
+-- neither of the conditions 1 and 2 applies, and the map is as long as the dimensions say
+pub record InMap (map : List ℕ) (k : Block) : Type 0 where
+  pub dims : T (not (badDimensions (point (k .dims))))
+  pub box : T (not (badBox (point (k .dims)) (boxOf k)))
+  pub holds : k .dims .x * k .dims .y * k .dims .z ≤ length map
 
 -- ---- what the faces of the layer z look up in the whole lists
 

@@ -4,14 +4,15 @@ ghost use mathlib.Core.Path.{_≡_};
 ghost use Prim.Native.Nat.{_+_, _-_, _*_, _<_, _≤_};
 ghost use lib.ListN.{length};
 ghost use lib.Seq.{sets};
+ghost use Rattle.rules.specs.Lists.{placed};
 ghost use Rattle.rules.specs.Vertices.{layerVertices};
 ghost use Rattle.rules.specs.Faces.{layerIndices};
 ghost use Rattle.rules.specs.Call.{written};
-ghost use Rattle.grid.specs.Block.{boxOf, flagsOf, fieldOf, callOf};
+ghost use Rattle.grid.specs.Block.{point, boxOf, flagsOf, fieldOf, callOf};
 ghost use Rattle.grid.specs.Inside.{Inside};
 ghost use Rattle.layer_vertices.specs.Marked.{lists, Room};
 ghost use Rattle.whole_box.specs.Reading.{buffers, Roomy};
-ghost use Rattle.whole_box.specs.Layers.{layerMarked, layerWritten, layerMade, Reached, Stands};
+ghost use Rattle.whole_box.specs.Layers.{layerMarked, layerWritten, layerMade, lastAt, InMap, Reached, Stands};
 use grid::Block;
 use layer_faces::Firsts;
 use layer_vertices::Next;
@@ -152,7 +153,19 @@ fn mesh_layer(
     }
 }
 
-// The whole box, layer after layer, from no vertex and no index: all that document 01 says of an answer 0.
+// The box's last layer, which has no cells: its points' entries.
+fn clear_part(k: Block, map: &mut [u32])
+    requires { ⌜ InMap (now map) k ⌝ }
+    ensures { λ r. ⌜ now (map .exit) ≡ placed (lastAt (point (k .dims)) (boxOf k)) 0 (now (map .entry)) ⌝ }
+{
+    let plane = (k.dims.x as usize) * (k.dims.y as usize);
+    let start = plane * (k.high.z as usize);
+    let end = start + plane;
+    layer_vertices::clear_layer(k, &mut map[start..end]);
+}
+
+// The whole box, layer after layer, from no vertex and no index, and the last layer of points, of a flat box too: all that document 01 and request 7 of
+// document 02 say of an answer 0.
 pub fn mesh_box(
     sdf: &[f32],
     k: Block,
@@ -188,4 +201,5 @@ pub fn mesh_box(
             state,
         );
     }
+    clear_part(k, map);
 }

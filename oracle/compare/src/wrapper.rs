@@ -1,7 +1,7 @@
 //! The Rust wrapper against the original: one buffer on each side, used again for every call.
 //!
-//! Both buffers begin empty and are never cleared, so that a map's old entries, kept from grids of
-//! other dimensions, must stay equal too.
+//! Both buffers begin empty and are never cleared, so that a map's old entries outside the box, kept from
+//! grids of other dimensions, must stay equal too.
 
 use crate::calls::accepted;
 use crate::fields::FIELDS;

@@ -225,6 +225,8 @@ fn main() {
     one_point("One point, whole", [0; 3], [3; 3]);
     one_point("One point, lower piece", [0; 3], [2, 3, 3]);
     one_point("One point, upper piece", [1, 0, 0], [3; 3]);
+    one_point("One point, flat box", [0; 3], [0, 3, 3]);
+    one_point("One point, a box inside", [1; 3], [2; 3]);
     let outside = run(2, &[1.0; 8], MaxPlane::NONE);
     println!("a cell with no vertex: map {}", outside.stride_to_index[0]);
 }

@@ -35,8 +35,8 @@ pub fn room_needed(call: &Call) -> Option<Room> {
 /// The verdict on a call, and what it makes of the lent contents.
 ///
 /// A refused call leaves them as they are. An accepted one leaves what the Rust wrote at the front of
-/// each list, with the model's faces for one or two max planes, what was there behind it, and the Rust's map
-/// over the grid's length. `mesh` is working memory, and holds that answer afterwards if the call was
+/// each list, with the model's faces for one or two max planes, what was there behind it, and over the grid's
+/// length the Rust's map with the points of the box that are no cell cleared. `mesh` is working memory, and holds that answer afterwards if the call was
 /// accepted.
 pub fn outcome(call: &Call, lent: &mut Contents, mesh: &mut Mesh) -> Verdict {
     let verdict = verdict(call, &lent.room());

@@ -1,5 +1,7 @@
 //! A plain model of the refusals: the answer number, V and I of any call, with a max plane for each axis apart.
 //!
+//! Beside it the points whose map entries document 02's request 7 clears.
+//!
 //! Written from document 01's table and its sections on cells and faces, by other code than the
 //! Rust's: faces are counted over the edges of the box and not over its surface cells, and every
 //! product is made in 128 bits, where nothing can wrap.
@@ -120,6 +122,12 @@ pub fn cells(call: &Call) -> impl Iterator<Item = [u32; 3]> {
     let flat = (0..3).any(|axis| call.min[axis] == call.max[axis]);
     let last = call.max.map(|coordinate| coordinate.saturating_sub(1));
     points(call.min, last).filter(move |_| !flat)
+}
+
+/// The points of the box that are no cell: on each axis the last one.
+pub fn no_cells(call: &Call) -> impl Iterator<Item = [u32; 3]> {
+    let max = call.max;
+    points(call.min, max).filter(move |point| (0..3).any(|axis| point[axis] == max[axis]))
 }
 
 /// The eight corner distances of a cell, corner i at (i mod 2, i/2 mod 2, i/4).

@@ -1,7 +1,8 @@
-//! Runs the published Rust on a call, and beside it the plain model of the faces.
+//! Runs the published Rust on a call, and beside it the plain model of the faces and of the map's last points.
 
 use crate::call::{Call, MaxPlane};
 use crate::faces::{index_list, Vertices};
+use crate::model::{index, no_cells};
 use ndshape::RuntimeShape;
 
 /// The Rust's buffers after a call, in the Rust's own shapes.
@@ -20,7 +21,9 @@ impl Mesh {
     /// `stride_to_index` holds the old numbers before and the new ones after.
     ///
     /// Both builds are run, and the model must make the index list of each. The list is then that of the
-    /// build that fits the call's flags, or, for one or two of them, the model's.
+    /// build that fits the call's flags, or, for one or two of them, the model's. The map is the Rust's, with
+    /// 4,294,967,295 at each point of the box that is no cell (document 02, request 7), where the Rust keeps
+    /// the old number.
     ///
     /// # Panics
     ///
@@ -35,6 +38,9 @@ impl Mesh {
             MaxPlane::NONE => none,
             _ => self.modelled(call),
         };
+        for point in no_cells(call) {
+            self.stride_to_index[index(call, point) as usize] = u32::MAX;
+        }
     }
 
     /// Runs the Rust without max plane and nothing beside it, on a call that may be a bad one.

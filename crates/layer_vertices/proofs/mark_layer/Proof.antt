@@ -1,25 +1,35 @@
--- The invariant: the lists are what the rows before y leave; after the last, that is what the rules say of the layer. Assumes nothing.
-use Prim.Native.Nat.{_-_}
-use mathlib.Core.Path.{ap, _∙_}
+-- The invariant: the lists are what the rows before y leave; after the last row of cells and the one behind it, that is what the rules say of the
+-- layer. Assumes nothing.
+use Prim.Native.Nat.{ℕ, _+_, _-_, _*_}
+use native.Mathlib.Nat.{le-refl}
+use mathlib.Core.List.{List, _++_}
+use mathlib.Core.Path.{refl, sym, ap, _∙_}
 use native.Mathlib.Omega.{arith}
+use lib.ListN.{length, replicate}
+use lib.Seq.{length-sets}
 use Rattle.rules.specs.Vertices.{rowCells}
-use Rattle.grid.specs.Block.{boxOf}
+use Rattle.grid.specs.Block.{point, boxOf}
 use Rattle.grid.specs.Layers.{twoLayers}
 use Rattle.grid.specs.Order.{layerTo}
-use Rattle.grid.proofs.Order.{layer-begins}
-use Rattle.grid.proofs.Walks.{Counting, AtRow, layer-done}
+use Rattle.grid.proofs.Order.{layer-begins, layer-grows}
+use Rattle.grid.proofs.Walks.{Counting, AtRow, ended}
 use Rattle.grid.proofs.Layers.{layers-fit}
 use Rattle.grid.proofs.LayerWalks.{row-of, layer-begun}
 use Rattle.layer_vertices.specs.declared.Next.{Next}
 use Rattle.layer_vertices.specs.Marked.{lists}
-use Rattle.layer_vertices.proofs.Passing.{Passes, passes-none, passes-more, passes-lengths, passes-room, layer-finds, layer-passed}
+use Rattle.layer_vertices.specs.Cells.{pointsOf}
+use Rattle.layer_vertices.proofs.Points.{layer-closes, side-y}
+use Rattle.layer_vertices.proofs.Clearing.{row-blank}
+use Rattle.layer_vertices.proofs.Passing.{SameLengths, Passes, passes-none, passes-more, passes-cleared, passes-lengths, passes-room, layer-finds, layer-passed}
 use borrow.Author.Needs.{needs}
 use Rattle.layer_vertices.proofs.mark_layer.Statement.{statement}
 use Rattle.layer_vertices.proofs.mark_layer.Tie as tie
 
 abbrev Inv-loop : tie.InvT-loop
 Inv-loop lower upper k z positions₀ normals₀ cells₀ strides₀ map₀ from end first state₀ y₀ positions normals cells strides map state y =
-    Counting from end y × Passes (twoLayers lower upper k z) state₀ (lists positions₀ normals₀ cells₀ strides₀ map₀) (layerTo (boxOf k) z y) state (lists positions normals cells strides map)
+    Counting from end y
+    × Passes (twoLayers lower upper k z) (boxOf k) state₀ (lists positions₀ normals₀ cells₀ strides₀ map₀) (layerTo (pointsOf (boxOf k)) z y) state
+    (lists positions normals cells strides map)
 
 abbrev μ-loop : tie.MeasureT-loop
 μ-loop lower upper k z positions₀ normals₀ cells₀ strides₀ map₀ from end first state₀ y₀ positions normals cells strides map state y = end - y
@@ -43,7 +53,7 @@ here c = row-of (entry-of (c .before) .pre .0) (c .before .loop .inv .0) (c .loo
 loop-holds : tie.Need-loop-holds Inv-loop μ-loop
 loop-holds c =
     let s = c .before .before .before .before .before .before .before in
-    (layer-begun (s .pre .0), passes-none (layer-begins (boxOf (s .args .k)) (s .args .z)))
+    (layer-begun (s .pre .0), passes-none (layer-begins (pointsOf (boxOf (s .args .k))) (s .args .z)))
 
 mark-row-requires : tie.Need-mark-row-requires Inv-loop μ-loop
 mark-row-requires c κs =
@@ -52,13 +62,15 @@ mark-row-requires c κs =
     let a = s .args in
     let w = t .before .loop in
     let long = passes-lengths (w .inv .1) .map in
-    let map = s .pre .1 .0 in (
+    let map = s .pre .1 .0 in
+    let g = twoLayers (a .lower .now) (a .upper .now) (a .k) (a .z) in
+    let within = layer-finds g (boxOf (a .k)) (a .z) (w .y) (layers-fit (s .pre .0)) (s .pre .0 .here) (w .inv .0 .low) (here t .turn .next .high) in (
       s .pre .0,
       (
         here t .turn .here,
         (
           omega arith,
-          passes-room (w .inv .1) (rowCells (boxOf (a .k)) (a .z) (w .y)) (s .pre .1 .1) (layer-finds (twoLayers (a .lower .now) (a .upper .now) (a .k) (a .z)) (boxOf (a .k)) (a .z) (w .y) (w .inv .0 .low) (here t .turn .next .high)),
+          passes-room (w .inv .1) (rowCells (pointsOf (boxOf (a .k))) (a .z) (w .y)) (s .pre .1 .1) within,
         ),
       ),
     )
@@ -75,35 +87,69 @@ loop-again c =
     let t = turn-of (m .before) in
     let a = entry-of (t .before) .args in
     let w = t .before .loop in
-    (here t .turn .next, passes-more (w .inv .1) (rowCells (boxOf (a .k)) (a .z) (w .y)) (m .mark-row .ensures .0) (m .mark-row .ensures .1) (here t .grows))
+    let b = pointsOf (boxOf (a .k)) in
+    let more = layer-grows b (a .z) (w .y) (w .inv .0 .low) in
+    (here t .turn .next, passes-more (w .inv .1) (rowCells b (a .z) (w .y)) (m .mark-row .ensures .0) (m .mark-row .ensures .1) more)
+
+-- ---- after the rows of cells, the last row
+
+abbrev done-of : tie.After-clear-row Inv-loop μ-loop → tie.After-loop Inv-loop μ-loop
+done-of c = c .before .before
+
+abbrev cleared-of : tie.After-struct-known Inv-loop μ-loop → tie.After-clear-row Inv-loop μ-loop
+cleared-of c = c .before .before .before
+
+lengths : (c : tie.After-struct-known Inv-loop μ-loop) → let a = entry-of (done-of (cleared-of c) .before) .args in let w = done-of (cleared-of c) .before .loop in
+    SameLengths (lists (w .positions) (w .normals) (w .cells) (w .strides) (w .map)) (lists (a .positions .now) (a .normals .now) (a .cells .now) (a .strides .now) (a .map .now))
+lengths c = passes-lengths (done-of (cleared-of c) .before .loop .inv .1)
+
+clear-row-requires : tie.Need-clear-row-requires Inv-loop μ-loop
+clear-row-requires c κs =
+    let l = c .before in
+    let s = entry-of (l .before) in
+    let p = s .pre .0 in
+    let long = passes-lengths (l .before .loop .inv .1) .map in
+    (record { dims = p .dims; box = p .box; holds = omega (arith, s .pre .1 .0) }, (layers-fit p .y .0, le-refl (s .args .k .high .y)))
 
 sub-result : tie.Need-sub-result Inv-loop μ-loop
 sub-result c =
-    let e = ap (λ (n : Next). n .place) (c .before .before .loop .inv .1 .on) in
+    let e = ap (λ (n : Next). n .place) (done-of (cleared-of c) .before .loop .inv .1 .on) in
     omega arith
 
 same-length : tie.Need-same-length Inv-loop μ-loop
-same-length c = passes-lengths (c .before .before .loop .inv .1) .positions
+same-length c = lengths c .positions
 
 same-length-2 : tie.Need-same-length-2 Inv-loop μ-loop
-same-length-2 c = passes-lengths (c .before .before .loop .inv .1) .normals
+same-length-2 c = lengths c .normals
 
 same-length-3 : tie.Need-same-length-3 Inv-loop μ-loop
-same-length-3 c = passes-lengths (c .before .before .loop .inv .1) .cells
+same-length-3 c = lengths c .cells
 
 same-length-4 : tie.Need-same-length-4 Inv-loop μ-loop
-same-length-4 c = passes-lengths (c .before .before .loop .inv .1) .strides
+same-length-4 c = lengths c .strides
 
 same-length-5 : tie.Need-same-length-5 Inv-loop μ-loop
-same-length-5 c = passes-lengths (c .before .before .loop .inv .1) .map
+same-length-5 c =
+    let m = cleared-of c in
+    let w = done-of m .before .loop in
+    let a = entry-of (done-of m .before) .args in
+    let blanks : List ℕ = replicate (a .k .high .x + 1 - a .k .low .x) 4294967295 in
+    ap length (m .clear-row .ensures) ∙ length-sets (w .map) (a .k .low .x + a .k .dims .x * a .k .high .y) blanks ∙ lengths c .map
 
 returns : tie.Need-returns Inv-loop μ-loop
 returns c =
-    let l = c .before in
+    let m = cleared-of c in
+    let l = done-of m in
     let s = entry-of (l .before) in
     let a = s .args in
     let w = l .before .loop in
-    let d = layer-passed (layers-fit (s .pre .0)) (s .pre .0 .here) (layer-done (a .k) (a .z) (w .inv .0) (l .loop-test .left)) (w .inv .1) in
+    let b = boxOf (a .k) in
+    let f = layers-fit (s .pre .0) in
+    let g = twoLayers (a .lower .now) (a .upper .now) (a .k) (a .z) in
+    let last = rowCells (pointsOf b) (a .z) (a .k .high .y) in
+    let rows = ap (λ (n : ℕ). layerTo (pointsOf b) (a .z) n ++ last) (ended (w .inv .0) (l .loop-test .left)) ∙ sym (layer-closes b (a .z) (f .y .0)) in
+    let whole = passes-cleared (w .inv .1) last (side-y g b (a .z)) (m .clear-row .ensures ∙ row-blank (point (a .k .dims)) b (a .z) (a .k .high .y) (w .map) (f .x .0)) refl in
+    let d = layer-passed f (s .pre .0 .here) rows whole in
     let e = ap (λ (n : Next). n .place) (d .1) in
     (d .0, omega arith)
 
@@ -118,6 +164,7 @@ mark-layer-spec =
     add-y
     loop-less
     loop-again
+    clear-row-requires
     sub-result
     same-length
     same-length-2

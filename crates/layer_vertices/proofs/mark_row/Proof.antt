@@ -1,26 +1,33 @@
--- The invariant: the lists are what the cells before x leave, `at` is the place of x, and the side carried on is the side at x. Assumes nothing.
+-- The invariant: the lists are what the cells before x leave, `at` is the place of x, and the side carried on is the side at x. After the last cell
+-- `at` is the place of the row's last point, which is no cell. Assumes nothing.
 use Prim.Native.Nat.{_-_}
-use mathlib.Core.List.{_∷_, []}
-use mathlib.Core.Path.{_≡_, refl}
+use mathlib.Core.List.{List, _∷_, [], _++_}
+use mathlib.Core.Path.{_≡_, refl, sym, ap, _∙_}
 use native.Mathlib.Omega.{arith}
+use lib.ListN.{length-set}
 use Rattle.rules.specs.Grid.{GridPoint}
 use Rattle.rules.specs.Cell.{values}
+use Rattle.rules.proofs.Lists.{none, more}
 use Rattle.grid.specs.Block.{point, boxOf}
 use Rattle.grid.specs.Corners.{sideBetween}
 use Rattle.grid.specs.Layers.{twoLayers}
 use Rattle.grid.specs.Order.{rowTo}
 use Rattle.grid.proofs.Order.{row-begins}
-use Rattle.grid.proofs.Layers.{corners-between}
+use Rattle.grid.proofs.Layers.{corners-between, layers-fit}
 use Rattle.grid.proofs.LayerWalks.{Row, OnRow, AtCell, row-fits, first-fits, first-side, row-begun, at-cell, row-done}
 use Rattle.layer_vertices.specs.Marked.{lists}
-use Rattle.layer_vertices.proofs.Passing.{Passes, passes-none, passes-cell, passes-all, passes-lengths, passes-room, row-finds, cell-asks}
+use Rattle.layer_vertices.proofs.Points.{row-closes, side-x}
+use Rattle.layer_vertices.proofs.Clearing.{cleared-one, RowEnd, row-end}
+use Rattle.layer_vertices.proofs.Passing.{Passes, passes-none, passes-cell, passes-cleared, passes-all, passes-lengths, passes-room, row-finds, cell-asks}
 use borrow.Author.Needs.{needs}
 use Rattle.layer_vertices.proofs.mark_row.Statement.{statement}
 use Rattle.layer_vertices.proofs.mark_row.Tie as tie
 
 abbrev Inv-loop : tie.InvT-loop
 Inv-loop lower upper k y z positions₀ normals₀ cells₀ strides₀ map₀ from end row at₀ low₀ state₀ x₀ positions normals cells strides map at low state x =
-    OnRow k y z at x × ((low ≡ sideBetween lower upper at (k .dims .x)) × Passes (twoLayers lower upper k z) state₀ (lists positions₀ normals₀ cells₀ strides₀ map₀) (rowTo (boxOf k) z y x) state (lists positions normals cells strides map))
+    OnRow k y z at x × ((low ≡ sideBetween lower upper at (k .dims .x))
+    × Passes (twoLayers lower upper k z) (boxOf k) state₀ (lists positions₀ normals₀ cells₀ strides₀ map₀) (rowTo (boxOf k) z y x) state
+    (lists positions normals cells strides map))
 
 abbrev μ-loop : tie.MeasureT-loop
 μ-loop lower upper k y z positions₀ normals₀ cells₀ strides₀ map₀ from end row at₀ low₀ state₀ x₀ positions normals cells strides map at low state x = end - x
@@ -103,7 +110,8 @@ mark-cell-requires c κs =
     let long = passes-lengths (w .inv .1 .1) .map in
     let part = h .in-part in
     let map = s .pre .1 .1 .0 in
-    cell-asks g p (read r) (omega arith) (h .inside) (passes-room (w .inv .1 .1) (p ∷ []) (s .pre .1 .1 .1) (row-finds g (boxOf (a .k)) (a .z) (a .y) (w .x) (w .inv .0 .count .low) (h .turn .next .high)))
+    let within = row-finds g (boxOf (a .k)) (a .z) (a .y) (w .x) (w .inv .0 .count .low) (h .turn .next .high) in
+    cell-asks g (boxOf (a .k)) p (h .cell) (read r) (omega arith) (h .inside) (passes-room (w .inv .1 .1) (p ∷ []) (s .pre .1 .1 .1) within)
 
 add-at-2 : tie.Need-add-at-2 Inv-loop μ-loop
 add-at-2 c = here (turn-of (read-of (call-of c .before))) .at-fits
@@ -121,7 +129,22 @@ loop-again c =
     let t = turn-of r in
     let a = entry-of (t .before) .args in
     let w = t .before .loop in
-    (here t .next, (r .before .side-between2 .ensures, passes-cell (w .inv .1 .1) (record { x = w .x; y = a .y; z = a .z }) (read r) (here t .place) (m .mark-cell .ensures .0) (m .mark-cell .ensures .1) (here t .grows)))
+    let p : GridPoint = record { x = w .x; y = a .y; z = a .z } in
+    let cells = passes-cell (w .inv .1 .1) p (here t .cell) (read r) (here t .place) (m .mark-cell .ensures .0) (m .mark-cell .ensures .1) (here t .grows) in
+    (here t .next, (r .before .side-between2 .ensures, cells))
+
+-- ---- the row's last point
+
+done : (c : tie.After-loop Inv-loop μ-loop) → let a = entry-of (c .before) .args in let w = c .before .loop in RowEnd (a .k) (a .y) (a .z) (w .at) (w .x)
+done c = row-end (row (entry-of (c .before))) (c .before .loop .inv .0) (c .loop-test .left)
+
+mul-map : tie.Need-mul-map Inv-loop μ-loop
+mul-map c = omega (arith, done c .few)
+
+slice-write-map : tie.Need-slice-write-map Inv-loop μ-loop
+slice-write-map c =
+    let w = c .before .loop in
+    omega (arith, done c .in-part, passes-lengths (w .inv .1 .1) .map, entry-of (c .before) .pre .1 .1 .0)
 
 same-length : tie.Need-same-length Inv-loop μ-loop
 same-length c = passes-lengths (c .before .loop .inv .1 .1) .positions
@@ -136,10 +159,18 @@ same-length-4 : tie.Need-same-length-4 Inv-loop μ-loop
 same-length-4 c = passes-lengths (c .before .loop .inv .1 .1) .strides
 
 same-length-5 : tie.Need-same-length-5 Inv-loop μ-loop
-same-length-5 c = passes-lengths (c .before .loop .inv .1 .1) .map
+same-length-5 c = let w = c .before .loop in length-set (w .map) (w .at) 4294967295 ∙ passes-lengths (w .inv .1 .1) .map
 
 returns : tie.Need-returns Inv-loop μ-loop
-returns c = let w = c .before .loop in passes-all (w .inv .1 .1) (row-done (w .inv .0) (c .loop-test .left))
+returns c =
+    let a = entry-of (c .before) .args in
+    let w = c .before .loop in
+    let b = boxOf (a .k) in
+    let last : GridPoint = record { x = a .k .high .x; y = a .y; z = a .z } in
+    let wide = layers-fit (entry-of (c .before) .pre .0) .x .0 in
+    let bare = more (side-x (twoLayers (a .lower .now) (a .upper .now) (a .k) (a .z)) b last refl) none in
+    passes-all (passes-cleared (w .inv .1 .1) (last ∷ []) bare (cleared-one (point (a .k .dims)) last (w .map) (done c .place)) refl)
+    (ap (λ (l : List GridPoint). l ++ (last ∷ [])) (row-done (w .inv .0) (c .loop-test .left)) ∙ sym (row-closes b (a .z) (a .y) wide))
 
 pub mark-row-spec : {M : Type 1} → statement M
 mark-row-spec =
@@ -161,6 +192,8 @@ mark-row-spec =
     add-x
     loop-less
     loop-again
+    mul-map
+    slice-write-map
     same-length
     same-length-2
     same-length-3

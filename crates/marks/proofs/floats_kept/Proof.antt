@@ -14,7 +14,7 @@ use Rattle.marks.proofs.floats_kept.Statement.{statement}
 use Rattle.marks.proofs.floats_kept.Tie as tie
 
 abbrev Inv-loop : tie.InvT-loop
-Inv-loop list from first mark₀ j₀ mark j = Passed sameBits (λ k. ltb k from) nextFloat first list mark j
+Inv-loop list from first mark₀ j₀ mark j = Passed (λ j'. sameBits) (λ k. ltb k from) nextFloat first list mark j
 
 abbrev μ-loop : tie.MeasureT-loop
 μ-loop list from first mark₀ j₀ mark j = length list - j

@@ -11,7 +11,7 @@ use Rattle.marks.proofs.words_kept.Statement.{statement}
 use Rattle.marks.proofs.words_kept.Tie as tie
 
 abbrev Inv-loop : tie.InvT-loop
-Inv-loop list from first mark₀ j₀ mark j = Passed eqb (λ k. ltb k from) nextWord first list mark j
+Inv-loop list from first mark₀ j₀ mark j = Passed (λ j'. eqb) (λ k. ltb k from) nextWord first list mark j
 
 abbrev μ-loop : tie.MeasureT-loop
 μ-loop list from first mark₀ j₀ mark j = length list - j

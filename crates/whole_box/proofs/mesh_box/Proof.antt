@@ -1,11 +1,18 @@
--- The invariant: the lists are what the layers before z leave; after the last, that is what document 01 says. Assumes nothing.
+-- The invariant: the lists are what the layers before z leave; after the last layer of cells and the layer of points behind it, that is what the
+-- documents say. Assumes nothing.
 use Prim.Native.Nat.{ℕ, _-_}
+use native.Mathlib.Omega.{arith}
 use mathlib.Core.Path.{ap, _∙_}
-use Rattle.grid.specs.Block.{callOf}
+use lib.ListN.{length}
+use Rattle.rules.proofs.Lists.{length-placed}
+use Rattle.grid.specs.Block.{point, boxOf, callOf}
+use Rattle.grid.proofs.Bounds.{fits}
 use Rattle.grid.proofs.Walks.{Counting, begun, ended, cell-spans, AtLayer, at-layer}
 use Rattle.whole_box.specs.Reading.{buffers}
-use Rattle.whole_box.specs.Layers.{Written, writtenTo}
+use Rattle.whole_box.specs.Layers.{lastAt, Written, writtenTo}
 use Rattle.whole_box.proofs.Steps.{SameLengths, written-none, written-all, written-lengths}
+use Rattle.whole_box.proofs.Lent.{plane-up}
+use Rattle.whole_box.proofs.Last.{in-map}
 use Rattle.whole_box.proofs.Layer.{grown}
 use borrow.Author.Needs.{needs}
 use Rattle.whole_box.proofs.mesh_box.Statement.{statement}
@@ -69,30 +76,53 @@ loop-again c =
     let more = grown (a .sdf .now) (a .k) (s .pre .0) (w .z) (here t .turn .here) (w .inv .1) in
     (here t .turn .next, record { roomy = w .inv .1 .roomy; same = m .mesh-layer .ensures .0 ∙ more .same; on = m .mesh-layer .ensures .1 ∙ more .on })
 
+-- ---- after the layers of cells, the last layer
+
+abbrev cleared-of : tie.After-slice-known13 Inv-loop μ-loop → tie.After-clear-part Inv-loop μ-loop
+cleared-of c = c .before .before
+
+abbrev done-of : tie.After-clear-part Inv-loop μ-loop → tie.After-loop Inv-loop μ-loop
+done-of c = c .before .before
+
+clear-part-requires : tie.Need-clear-part-requires Inv-loop μ-loop
+clear-part-requires c κs =
+    let l = c .before in
+    let s = entry-of (l .before) in
+    in-map (s .pre .0) (omega (arith, lengths (l .before) .map, s .pre .1 .map))
+
 same-length : tie.Need-same-length Inv-loop μ-loop
-same-length c = lengths (c .before) .positions
+same-length c = lengths (done-of (cleared-of c) .before) .positions
 
 same-length-2 : tie.Need-same-length-2 Inv-loop μ-loop
-same-length-2 c = lengths (c .before) .normals
+same-length-2 c = lengths (done-of (cleared-of c) .before) .normals
 
 same-length-3 : tie.Need-same-length-3 Inv-loop μ-loop
-same-length-3 c = lengths (c .before) .cells
+same-length-3 c = lengths (done-of (cleared-of c) .before) .cells
 
 same-length-4 : tie.Need-same-length-4 Inv-loop μ-loop
-same-length-4 c = lengths (c .before) .strides
+same-length-4 c = lengths (done-of (cleared-of c) .before) .strides
 
 same-length-5 : tie.Need-same-length-5 Inv-loop μ-loop
-same-length-5 c = lengths (c .before) .map
+same-length-5 c =
+    let m = cleared-of c in
+    let a = entry-of (done-of m .before) .args in
+    ap length (m .clear-part .ensures) ∙ length-placed (lastAt (point (a .k .dims)) (boxOf (a .k))) 0 (done-of m .before .loop .map) ∙ lengths (done-of m .before) .map
 
 same-length-6 : tie.Need-same-length-6 Inv-loop μ-loop
-same-length-6 c = lengths (c .before) .indices
+same-length-6 c = lengths (done-of (cleared-of c) .before) .indices
 
 returns : tie.Need-returns Inv-loop μ-loop
 returns c =
-    let a = entry-of (c .before) .args in
-    let w = c .before .loop in
+    let m = cleared-of c in
+    let l = done-of m in
+    let s = entry-of (l .before) in
+    let a = s .args in
+    let w = l .before .loop in
+    let call = callOf (a .sdf .now) (a .k) in
     let before = buffers (a .positions .now) (a .normals .now) (a .cells .now) (a .strides .now) (a .map .now) (a .indices .now) in
-    w .inv .1 .same ∙ ap (λ (n : ℕ). writtenTo (callOf (a .sdf .now) (a .k)) n before) (ended (w .inv .0) (c .loop-test .left)) ∙ written-all (callOf (a .sdf .now) (a .k)) before
+    let f = fits (a .sdf .now) (a .k) (s .pre .0) in
+    let layers = w .inv .1 .same ∙ ap (λ (n : ℕ). writtenTo call n before) (ended (w .inv .0) (l .loop-test .left)) in
+    written-all call (omega (arith, f .x .1)) (omega (arith, f .y .1)) (plane-up (a .sdf .now) (a .k) (s .pre .0)) before layers (m .clear-part .ensures)
 
 pub mesh-box-spec : {M : Type 1} → statement M
 mesh-box-spec =
@@ -105,6 +135,7 @@ mesh-box-spec =
     add-z
     loop-less
     loop-again
+    clear-part-requires
     same-length
     same-length-2
     same-length-3

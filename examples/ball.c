@@ -1,4 +1,5 @@
-/* ball.c: meshes a ball and prints its counts, its first triangle and the volume that its triangles enclose.
+/* ball.c: meshes a ball and prints its counts, its first triangle, how many vertices have each number of crossings and
+ * the volume that its triangles enclose.
  *
  * The usual way to call: once with empty lists to learn V and I, then with lists of that length. The volume
  * shows which way triangles wind: turned the other way it would be below zero. */
@@ -15,6 +16,7 @@ enum { SIDE = 20, POINTS = SIDE * SIDE * SIDE };
 struct mesh {
     float *positions, *normals;
     uint32_t *cells, *strides, *indices;
+    uint8_t *crossings;
     uint64_t vertices, indices_used;
 };
 
@@ -42,6 +44,7 @@ static uint32_t mesh_whole_grid(struct mesh *m) {
         m->normals, 3 * vertices,
         m->cells, 3 * vertices,
         m->strides, vertices,
+        m->crossings, vertices,
         map, POINTS,
         m->indices, indices,
         &m->vertices, &m->indices_used);
@@ -61,6 +64,7 @@ static void make_room(struct mesh *m) {
     m->normals = room_for(3 * m->vertices, sizeof *m->normals);
     m->cells = room_for(3 * m->vertices, sizeof *m->cells);
     m->strides = room_for(m->vertices, sizeof *m->strides);
+    m->crossings = room_for(m->vertices, sizeof *m->crossings);
     m->indices = room_for(m->indices_used, sizeof *m->indices);
 }
 
@@ -69,6 +73,18 @@ static void print_first_triangle(const struct mesh *m) {
         const float *at = m->positions + 3 * m->indices[corner];
         printf("  vertex %u at %.4f %.4f %.4f\n", (unsigned)m->indices[corner], at[0], at[1], at[2]);
     }
+}
+
+/* Of the twelve edges of a vertex's cell the surface crosses 3 to 9, or 12. */
+static void print_crossings(const struct mesh *m) {
+    unsigned long long having[13] = {0};
+    for (uint64_t v = 0; v < m->vertices; v++)
+        having[m->crossings[v]]++;
+    fputs("vertices by crossings:", stdout);
+    for (int n = 3; n <= 12; n++)
+        if (having[n] > 0)
+            printf(" %d: %llu", n, having[n]);
+    putchar('\n');
 }
 
 /* A sixth of the sum of the triangles' determinants: above zero if they look outwards. */
@@ -90,6 +106,7 @@ static void free_mesh(struct mesh *m) {
     free(m->normals);
     free(m->cells);
     free(m->strides);
+    free(m->crossings);
     free(m->indices);
 }
 
@@ -112,6 +129,7 @@ int main(void) {
            (unsigned long long)m.indices_used);
     puts("first triangle");
     print_first_triangle(&m);
+    print_crossings(&m);
     double enclosed = volume(&m);
     free_mesh(&m);
     printf("volume %.1f, the ball's own %.1f\n", enclosed, of_the_ball);

@@ -55,13 +55,14 @@ static bool enclosed(const float *sdf, uint32_t x, uint32_t y, uint32_t z, uint3
 enum { CELLS = BORDERED };
 static float positions[3 * CELLS], normals[3 * CELLS];
 static uint32_t cells[3 * CELLS], strides[CELLS], map[BORDERED], indices[18 * CELLS];
+static uint8_t crossings[CELLS];
 static uint64_t vertex_count, index_count;
 
 static void mesh(const float *sdf, uint32_t x, uint32_t y, uint32_t z) {
     uint32_t answer = bed_surface_nets(
         sdf, (size_t)x * y * z, x, y, z, 0, 0, 0, x - 1, y - 1, z - 1, false, false, false,
-        positions, 3 * CELLS, normals, 3 * CELLS, cells, 3 * CELLS, strides, CELLS, map, BORDERED,
-        indices, 18 * CELLS, &vertex_count, &index_count);
+        positions, 3 * CELLS, normals, 3 * CELLS, cells, 3 * CELLS, strides, CELLS, crossings, CELLS,
+        map, BORDERED, indices, 18 * CELLS, &vertex_count, &index_count);
     if (answer != BED_DONE) {
         fprintf(stderr, "refused: %u\n", (unsigned)answer);
         exit(1);

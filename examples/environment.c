@@ -58,6 +58,7 @@ enum { SIDE = 6, POINTS = SIDE * SIDE * SIDE, CELLS = (SIDE - 1) * (SIDE - 1) * 
 struct outcome {
     float positions[3 * CELLS], normals[3 * CELLS];
     uint32_t cells[3 * CELLS], strides[CELLS], map[POINTS], indices[18 * CELLS];
+    uint8_t crossings[CELLS];
     uint64_t vertices, index_count;
     uint32_t answer, enclosed_answer;
     bool enclosed;
@@ -70,7 +71,7 @@ static void call(struct outcome *o)
     o->answer = bed_surface_nets(
         grid, POINTS, SIDE, SIDE, SIDE, 0, 0, 0, SIDE - 1, SIDE - 1, SIDE - 1, true, true, true,
         o->positions, 3 * CELLS, o->normals, 3 * CELLS, o->cells, 3 * CELLS, o->strides, CELLS,
-        o->map, POINTS, o->indices, 18 * CELLS, &o->vertices, &o->index_count);
+        o->crossings, CELLS, o->map, POINTS, o->indices, 18 * CELLS, &o->vertices, &o->index_count);
     o->enclosed_answer = bed_is_enclosed(
         grid, POINTS, SIDE, SIDE, SIDE, 0, 0, 0, SIDE - 1, SIDE - 1, SIDE - 1, &o->enclosed);
 }

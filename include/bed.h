@@ -90,7 +90,7 @@ enum bed_answer {
     BED_MAP_SHORT = 4,
     /* A point of the box, both corners included, is not finite or is above 2^124 in magnitude. */
     BED_BAD_DISTANCE = 5,
-    /* positions, normals or cells are shorter than 3 V, or strides are shorter than V. */
+    /* positions, normals or cells are shorter than 3 V, or strides or crossings are shorter than V. */
     BED_VERTICES_SHORT = 6,
     /* indices are shorter than I. */
     BED_INDICES_SHORT = 7
@@ -116,6 +116,8 @@ enum bed_answer {
  *   normals          three floats a vertex: the gradient of the distances, not of unit length.
  *   cells            the three coordinates of each vertex's cell.
  *   strides          the index of each vertex's cell in the grid.
+ *   crossings        how many of the twelve edges of each vertex's cell the surface crosses, a byte each:
+ *                    3 to 9, or 12.
  *   stride_to_index  the cell map, as long as the grid at least: entry i is the vertex of the cell at
  *                    grid index i, or BED_NO_VERTEX where a point of the box has none.
  *   indices          triangles, three vertex numbers each, two triangles a face. Counted from 0. A face
@@ -129,19 +131,20 @@ enum bed_answer {
  *   index_count      I, the number of indices:   BED_INDICES_SHORT. Both are 0 on answers 1 to 5.
  *
  * What is written on BED_DONE: the first 3 V numbers of positions, normals and cells, the first V of
- * strides, the first I of indices, and the map entry of each point of the box: a cell's vertex number, or
- * BED_NO_VERTEX for a cell without a vertex and for a point that is no cell, on the box's max sides. A flat
- * box has only such points. Everything else keeps what it held: the rest of those buffers, and every map
- * entry of a point outside the box. What the buffers held before never matters: inside the box no entry
- * of an earlier call is left. To learn V and I, call with empty lists and a map, then lend enough and call
- * again; where V is 0 the first call is already done.
+ * strides and of crossings, the first I of indices, and the map entry of each point of the box: a cell's
+ * vertex number, or BED_NO_VERTEX for a cell without a vertex and for a point that is no cell, on the
+ * box's max sides. A flat box has only such points. Everything else keeps what it held: the rest of those
+ * buffers, and every map entry of a point outside the box. What the buffers held before never matters:
+ * inside the box no entry of an earlier call is left. To learn V and I, call with empty lists and a map,
+ * then lend enough and call again; where V is 0 the first call is already done.
  *
  * Cutting a box into blocks: a cut on an axis at k, min <= k < max there, gives a lower piece from min to
  * k + 1 and an upper piece from k to max on that axis; a piece may be cut again. On the cut axis the lower
  * piece has its max plane off and the upper keeps the whole's; on the other axes both keep the whole's.
  * Then the pieces make the faces of the whole, each exactly once, none lost and none doubled, for any max
- * planes of the whole. Both pieces hold the cells of layer k, so vertices there come twice. Were the lower
- * piece's max plane left on, so would the faces of edges along the cut axis from k.
+ * planes of the whole. Both pieces hold the cells of layer k, so vertices there come twice, with the same
+ * position, normal and number of crossings. Were the lower piece's max plane left on, so would the faces of
+ * edges along the cut axis from k.
  *
  * Nothing that is lent may overlap anything else, the two counts included. Pointers are aligned for their
  * type; a pointer may be null only where its length is 0. The two counts' pointers are never null.
@@ -156,6 +159,7 @@ uint32_t bed_surface_nets(
     float *normals, size_t normals_len,
     uint32_t *cells, size_t cells_len,
     uint32_t *strides, size_t strides_len,
+    uint8_t *crossings, size_t crossings_len,
     uint32_t *stride_to_index, size_t stride_to_index_len,
     uint32_t *indices, size_t indices_len,
     uint64_t *vertex_count, uint64_t *index_count);

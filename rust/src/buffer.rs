@@ -6,7 +6,7 @@ use crate::refusal::Refusal;
 /// A grid index with this entry in `stride_to_index` made no vertex: a cell without one, or a point that is no cell.
 pub const NULL_VERTEX: u32 = u32::MAX;
 
-/// The mesh of the last call, in the fields of fast-surface-nets. Reuse it to keep its memory.
+/// The mesh of the last call, in the fields of fast-surface-nets and one more. Reuse it to keep its memory.
 #[derive(Clone, Debug, Default, PartialEq)]
 pub struct SurfaceNetsBuffer {
     /// Where each vertex lies, in grid coordinates.
@@ -20,6 +20,9 @@ pub struct SurfaceNetsBuffer {
     pub surface_points: Vec<[u32; 3]>,
     /// The grid index of each vertex's cell.
     pub surface_strides: Vec<u32>,
+    /// How many of the twelve edges of each vertex's cell the surface crosses: 3 to 9, or 12. fast-surface-nets does not
+    /// say it.
+    pub crossings: Vec<u8>,
     /// The vertex number of each cell, by grid index, and [`NULL_VERTEX`] at every other point of the box.
     /// Entries of points outside the box keep what an earlier call left. In fast-surface-nets the points
     /// of the box that are no cell keep theirs too.
@@ -55,7 +58,7 @@ pub fn surface_nets(
     after.map(|_| ())
 }
 
-/// The lengths of a buffer's six lists.
+/// The lengths of a buffer's seven lists.
 #[derive(Clone, Copy)]
 struct Lengths {
     positions: usize,
@@ -63,6 +66,7 @@ struct Lengths {
     indices: usize,
     surface_points: usize,
     surface_strides: usize,
+    crossings: usize,
     stride_to_index: usize,
 }
 
@@ -75,6 +79,7 @@ impl Lengths {
             indices: counts.indices as usize,
             surface_points: vertices,
             surface_strides: vertices,
+            crossings: vertices,
             stride_to_index: grid,
         }
     }
@@ -88,6 +93,7 @@ impl SurfaceNetsBuffer {
             indices: self.indices.len(),
             surface_points: self.surface_points.len(),
             surface_strides: self.surface_strides.len(),
+            crossings: self.crossings.len(),
             stride_to_index: self.stride_to_index.len(),
         }
     }
@@ -98,6 +104,7 @@ impl SurfaceNetsBuffer {
             normals: self.normals.as_flattened_mut(),
             cells: self.surface_points.as_flattened_mut(),
             strides: &mut self.surface_strides,
+            crossings: &mut self.crossings,
             stride_to_index: &mut self.stride_to_index,
             indices: &mut self.indices,
         }
@@ -116,6 +123,7 @@ impl SurfaceNetsBuffer {
         lengthen(&mut self.normals, vertices, [0.0; 3]);
         lengthen(&mut self.surface_points, vertices, [0; 3]);
         lengthen(&mut self.surface_strides, vertices, 0);
+        lengthen(&mut self.crossings, vertices, 0);
         lengthen(&mut self.indices, needed.indices as usize, 0);
     }
 
@@ -126,6 +134,7 @@ impl SurfaceNetsBuffer {
         self.indices.truncate(to.indices);
         self.surface_points.truncate(to.surface_points);
         self.surface_strides.truncate(to.surface_strides);
+        self.crossings.truncate(to.crossings);
         self.stride_to_index.truncate(to.stride_to_index);
     }
 }

@@ -51,6 +51,8 @@ pub struct Lent<'a> {
     pub normals: &'a mut [f32],
     pub cells: &'a mut [u32],
     pub strides: &'a mut [u32],
+    /// How many of the twelve edges of each vertex's cell the surface crosses: 3 to 9, or 12.
+    pub crossings: &'a mut [u8],
     /// At least as long as the grid. The entry of each point of the box is written: a cell's vertex number,
     /// and 4,294,967,295 for a cell without one and a point that is no cell. Entries outside the box are kept.
     pub stride_to_index: &'a mut [u32],
@@ -59,7 +61,7 @@ pub struct Lent<'a> {
 
 /// Meshes the box from `min` to `max`, both included, of a grid with the given dimensions, x innermost.
 ///
-/// On success the first 3V, 3V, 3V, V and I numbers of the lists are written and the rest of them kept.
+/// On success the first 3V, 3V, 3V, V, V and I numbers of the lists are written and the rest of them kept.
 /// A refused call changes nothing.
 pub fn surface_nets_lent(
     sdf: &[f32],
@@ -97,6 +99,8 @@ pub fn surface_nets_lent(
             lent.cells.len(),
             lent.strides.as_mut_ptr(),
             lent.strides.len(),
+            lent.crossings.as_mut_ptr(),
+            lent.crossings.len(),
             lent.stride_to_index.as_mut_ptr(),
             lent.stride_to_index.len(),
             lent.indices.as_mut_ptr(),

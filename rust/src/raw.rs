@@ -33,6 +33,8 @@ extern "C" {
         cells_len: usize,
         strides: *mut u32,
         strides_len: usize,
+        crossings: *mut u8,
+        crossings_len: usize,
         stride_to_index: *mut u32,
         stride_to_index_len: usize,
         indices: *mut u32,

@@ -16,7 +16,7 @@ pub enum Refusal {
     MapShort,
     /// 5: a distance in the box is not finite or above 2^124 in magnitude.
     Distance,
-    /// 6: positions, normals, cells or strides have no room for the vertices; the counts needed.
+    /// 6: positions, normals, cells, strides or crossings have no room for the vertices; the counts needed.
     VerticesShort(Counts),
     /// 7: indices have no room for the faces; the counts needed.
     IndicesShort(Counts),
@@ -70,7 +70,7 @@ impl fmt::Display for Refusal {
             }
             Refusal::VerticesShort(needed) => write!(
                 out,
-                "no room for {} vertices in positions, normals, cells or strides",
+                "no room for {} vertices in positions, normals, cells, strides or crossings",
                 needed.vertices
             ),
             Refusal::IndicesShort(needed) => {

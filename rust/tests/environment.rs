@@ -72,11 +72,13 @@ fn call_in(environment: control::Word, guarded: bool, grid: &[f32]) -> Outcome {
     let (mut positions, mut normals) = (vec![0.0; 3 * CELLS], vec![0.0; 3 * CELLS]);
     let mut words = [3 * CELLS, CELLS, POINTS, 18 * CELLS].map(|length| vec![0; length]);
     let [cells, strides, stride_to_index, indices] = &mut words;
+    let mut crossings = vec![0; CELLS];
     let mut lent = Lent {
         positions: &mut positions,
         normals: &mut normals,
         cells,
         strides,
+        crossings: &mut crossings,
         stride_to_index,
         indices,
     };
@@ -131,6 +133,8 @@ fn unguarded(grid: &[f32], lent: &mut Lent) -> Result<Counts, Refusal> {
             lent.cells.len(),
             lent.strides.as_mut_ptr(),
             lent.strides.len(),
+            lent.crossings.as_mut_ptr(),
+            lent.crossings.len(),
             lent.stride_to_index.as_mut_ptr(),
             lent.stride_to_index.len(),
             lent.indices.as_mut_ptr(),

@@ -48,6 +48,7 @@ fn mesh_of(sdf: &[f32], max: [u32; 3]) -> Result<SurfaceNetsBuffer, Refusal> {
 fn ball_is_document_01s() {
     let mesh = mesh_of(&ball(), [2; 3]).unwrap();
     assert_eq!(mesh.surface_strides, [0, 1, 3, 4, 9, 10, 12, 13]);
+    assert_eq!(mesh.crossings, [3; 8]);
     assert_eq!(
         mesh.indices,
         [2, 1, 0, 2, 3, 1, 1, 4, 0, 1, 5, 4, 4, 2, 0, 4, 6, 2]
@@ -143,6 +144,11 @@ fn sphere_octant_lies_on_the_sphere() {
     assert_eq!(buffer.normals.len(), vertices);
     assert_eq!(buffer.surface_points.len(), vertices);
     assert_eq!(buffer.surface_strides.len(), vertices);
+    assert_eq!(buffer.crossings.len(), vertices);
+    assert!(buffer
+        .crossings
+        .iter()
+        .all(|n| (3..=9).contains(n) || *n == 12));
     for [x, y, z] in buffer.positions {
         let radius = (x * x + y * y + z * z).sqrt();
         assert!((radius - 15.0).abs() < 0.1, "a vertex at radius {radius}");
@@ -186,38 +192,46 @@ fn refusals_say_why() {
 
 #[test]
 fn lent_slices_are_refused_or_keep_their_rest() {
-    let mesh = |positions: usize, map: usize, indices: usize| {
+    let mesh = |positions: usize, crossings: usize, map: usize, indices: usize| {
         let (mut places, mut normals) = (vec![7.0; positions], vec![7.0; 30]);
         let (mut cells, mut strides) = (vec![7; 30], vec![7; 10]);
         let (mut entries, mut faces) = (vec![7; map], vec![7; indices]);
+        let mut numbers = vec![7; crossings];
         let mut lent = Lent {
             positions: &mut places,
             normals: &mut normals,
             cells: &mut cells,
             strides: &mut strides,
+            crossings: &mut numbers,
             stride_to_index: &mut entries,
             indices: &mut faces,
         };
         let (dims, min, max) = ([3; 3], [0; 3], [2; 3]);
         let answer = surface_nets_lent(&ball(), dims, min, max, MaxPlane::NONE, &mut lent);
-        (answer, places, strides, entries, faces)
+        (answer, places, strides, numbers, entries, faces)
     };
-    assert_eq!(mesh(24, 26, 18).0, Err(Refusal::MapShort));
+    assert_eq!(mesh(24, 8, 26, 18).0, Err(Refusal::MapShort));
     assert_eq!(
-        mesh(23, 27, 17).0,
+        mesh(23, 8, 27, 17).0,
         Err(Refusal::VerticesShort(ROOM_FOR_BALL))
     );
-    let (answer, places, strides, entries, faces) = mesh(24, 27, 17);
+    assert_eq!(
+        mesh(24, 7, 27, 17).0,
+        Err(Refusal::VerticesShort(ROOM_FOR_BALL))
+    );
+    let (answer, places, strides, numbers, entries, faces) = mesh(24, 8, 27, 17);
     assert_eq!(answer, Err(Refusal::IndicesShort(ROOM_FOR_BALL)));
     assert!(places.iter().all(|&number| number == 7.0));
+    assert!(numbers.iter().all(|&number| number == 7));
     assert!([strides, entries, faces]
         .concat()
         .iter()
         .all(|&number| number == 7));
-    let (answer, places, strides, entries, faces) = mesh(30, 28, 20);
+    let (answer, places, strides, numbers, entries, faces) = mesh(30, 10, 28, 20);
     assert_eq!(answer, Ok(ROOM_FOR_BALL));
     assert_eq!(places[24..], [7.0; 6]);
     assert_eq!(strides[8..], [7; 2]);
+    assert_eq!(numbers, [3, 3, 3, 3, 3, 3, 3, 3, 7, 7]);
     assert_eq!(
         (entries[2], entries[8], entries[27]),
         (NULL_VERTEX, NULL_VERTEX, 7)

@@ -17,6 +17,7 @@ pub trait Runner {
 pub struct Library {
     floats: [Vec<f32>; 2],
     words: [Vec<u32>; 4],
+    crossings: Vec<u8>,
 }
 
 impl Library {
@@ -38,6 +39,7 @@ impl Library {
             .for_each(|list| list.resize(3 * vertices, 0.0));
         self.words[0].resize(3 * vertices, 0);
         self.words[1].resize(vertices, 0);
+        self.crossings.resize(vertices, 0);
         self.words[3].resize(room.indices as usize, 0);
     }
 
@@ -49,6 +51,7 @@ impl Library {
             normals,
             cells,
             strides,
+            crossings: &mut self.crossings,
             stride_to_index,
             indices,
         };
@@ -90,6 +93,7 @@ impl Runner for PlainLoop {
         for list in [cells, strides, indices] {
             list.fill(black_box(7));
         }
+        self.0.crossings.fill(black_box(7));
         black_box(&mut self.0);
     }
 

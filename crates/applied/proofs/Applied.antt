@@ -15,14 +15,15 @@ use Rattle.rules.specs.Call.{answers}
 use Rattle.rules.specs.Faces.{allThree}
 use Rattle.rules.specs.Cutting.{Piece, Cuts, uncut, cut, pieces, Fits, lowerPiece, upperPiece}
 use Rattle.rules.proofs.Indexes.{within}
-use Rattle.rules.proofs.Lists.{All, none, more, total}
+use Rattle.rules.proofs.Lists.{All, none, more, all-at, total}
+use Rattle.rules.proofs.Crossings.{Possible}
 use Rattle.rules.proofs.Permutation.{Perm}
 use Rattle.rules.proofs.Locality.{SameWritten}
 use Rattle.grid.specs.Block.{point}
 use Rattle.cube.proofs.ClosedCell.{InCell}
 use Rattle.surface_nets.proofs.surface_nets.Kinds as kinds
 use Rattle.surface_nets.proofs.surface_nets.Reads as reads
-use Rattle.promises.specs.Served.{Served, Done, facesRead, verticesRead}
+use Rattle.promises.specs.Served.{Served, Done, facesRead, crossingsRead, verticesRead}
 use Rattle.promises.proofs.OneOutcome.{Outcome, FitsContract}
 use Rattle.promises.proofs.Once.{surface-nets-once}
 use Rattle.promises.proofs.Runs.{Run, served, BedRun, bedServed}
@@ -31,6 +32,7 @@ use Rattle.promises.proofs.Local.{runs-alike, surface-nets-local, bed-is-surfac
 use Rattle.promises.proofs.Again.{no-cell-shows, outside-keeps, surface-nets-again}
 use Rattle.promises.proofs.Flat.{surface-nets-flat}
 use Rattle.promises.proofs.ClosedMesh.{ClosedMesh, surface-nets-closed, bed-surface-nets-closed}
+use Rattle.promises.proofs.Crossings.{surface-nets-crossings}
 use Rattle.promises.proofs.CutMesh.{CutMesh, fieldIn, Passing, Meshed, outcomes, surface-nets-cut, surface-nets-cut-whole}
 use Rattle.promises.proofs.CutVertices.{inLayer, surface-nets-cut-vertices}
 use Rattle.skin.specs.Links.{link, sameLink, links, faceLinks}
@@ -46,8 +48,8 @@ use Rattle.applied.proofs.OnePoint.{front, grid, spoiled, dims, opened,
 
 -- ---- one outcome alone
 
--- whatever fits the contract of surface_nets at these arguments is what stands there: the answer 0, V 8 and I 36, and the six lists
-pub one-outcome : (o : Outcome 7 kinds.ps kinds.r (whole .lifetimes) (whole .args)) → FitsContract 7 kinds.ps kinds.r reads.Learnt (whole .lifetimes) (whole .args) o → o ≡ whole .outcome
+-- whatever fits the contract of surface_nets at these arguments is what stands there: the answer 0, V 8 and I 36, and the seven lists
+pub one-outcome : (o : Outcome 8 kinds.ps kinds.r (whole .lifetimes) (whole .args)) → FitsContract 8 kinds.ps kinds.r reads.Learnt (whole .lifetimes) (whole .args) o → o ≡ whole .outcome
 one-outcome o l = surface-nets-once (whole .lifetimes) (whole .args) o (whole .outcome) l (whole .fits)
 
 -- ---- every position in its cell
@@ -61,6 +63,12 @@ whole-closed = surface-nets-closed whole done
 -- of the last vertex, on z: the bits 0x3F955555 are those of a number from 1 to 2
 pub last-inside : InCell 1 (ofBits binary32 0x3F955555)
 last-inside = whole-closed .inside 7 2 (lit≤ tt) (lit≤ tt)
+
+-- ---- the number of crossings
+
+-- three, of the last vertex
+pub last-crossings : Possible 3
+last-crossings = surface-nets-crossings whole done 7 (lit≤ tt) .1
 
 -- ---- what lies outside the box never matters
 
@@ -118,15 +126,30 @@ passes = done-accepts (served whole) done
 -- one call for each piece, with room
 unfoldable pub lowerMeshed : Meshed {U = Run} served grid dims (lowerPiece axisX 1 bare)
 unfolding opened
-lowerMeshed = record { run = lower; asked = refl; roomy = record { map = lit≤ tt; positions = lit≤ tt; normals = lit≤ tt; cells = lit≤ tt; strides = lit≤ tt; indices = lit≤ tt } }
+lowerMeshed =
+    record {
+      run = lower;
+      asked = refl;
+      roomy = record { map = lit≤ tt; positions = lit≤ tt; normals = lit≤ tt; cells = lit≤ tt; strides = lit≤ tt; crossings = lit≤ tt; indices = lit≤ tt };
+    }
 
 unfoldable pub upperMeshed : Meshed {U = Run} served grid dims (upperPiece axisX 1 bare)
 unfolding opened
-upperMeshed = record { run = upper; asked = refl; roomy = record { map = lit≤ tt; positions = lit≤ tt; normals = lit≤ tt; cells = lit≤ tt; strides = lit≤ tt; indices = lit≤ tt } }
+upperMeshed =
+    record {
+      run = upper;
+      asked = refl;
+      roomy = record { map = lit≤ tt; positions = lit≤ tt; normals = lit≤ tt; cells = lit≤ tt; strides = lit≤ tt; crossings = lit≤ tt; indices = lit≤ tt };
+    }
 
 unfoldable pub wholeMeshed : Meshed {U = Run} served grid dims bare
 unfolding opened
-wholeMeshed = record { run = whole; asked = refl; roomy = record { map = lit≤ tt; positions = lit≤ tt; normals = lit≤ tt; cells = lit≤ tt; strides = lit≤ tt; indices = lit≤ tt } }
+wholeMeshed =
+    record {
+      run = whole;
+      asked = refl;
+      roomy = record { map = lit≤ tt; positions = lit≤ tt; normals = lit≤ tt; cells = lit≤ tt; strides = lit≤ tt; crossings = lit≤ tt; indices = lit≤ tt };
+    }
 
 pub both : All (Meshed {U = Run} served grid dims) (pieces cutOnce bare)
 unfolding opened lowerMeshed upperMeshed
@@ -143,6 +166,11 @@ six-faces = pieces-mesh .number
 pub six-each : total (λ (u : Served). u .says .indices) (served lower ∷ served upper ∷ []) ≡ 36
 unfolding opened both lowerMeshed upperMeshed
 six-each = pieces-mesh .indices
+
+-- the cell (1,0,0) is in both pieces, as the vertex 1 of the lower and the vertex 0 of the upper
+pub cell-in-both : crossingsRead (served lower) 1 ≡ crossingsRead (served upper) 0
+unfolding opened both lowerMeshed upperMeshed
+cell-in-both = all-at (all-at (pieces-mesh .crossings) 0 (lit≤ tt) (served lower)) 1 (lit≤ tt) (served lower) 1 0 (lit≤ tt) (lit≤ tt) refl
 
 -- the whole's faces, each once
 pub same-faces : Perm (joined facesRead (served lower ∷ served upper ∷ [])) (facesRead (served whole))

@@ -23,8 +23,8 @@ use Rattle.skin.specs.Scan.{examined}
 abbrev pub to : {X : Type 0} → X → RefT X
 to x = record { ptr = (0, 0); name = 0; now = x }
 
-abbrev seven : Lfts 7
-seven = ([], ([], ([], ([], ([], ([], ([], tt)))))))
+abbrev eight : Lfts 8
+eight = ([], ([], ([], ([], ([], ([], ([], ([], tt))))))))
 
 module _ (grid : List Float) (dims low high : Extent) (plane : MaxPlane) (r : Answer) (before after : Buffers)
     (answered : answerOf r ≡ answer (callMade grid dims low high plane) (room before))
@@ -33,12 +33,12 @@ module _ (grid : List Float) (dims low high : Extent) (plane : MaxPlane) (r : An
   abbrev pub runOf : Run
   runOf =
       record {
-        lifetimes = seven;
-        args = (to grid, (dims, (low, (high, (plane, (to (before .positions), (to (before .normals), (to (before .cells), (to (before .strides), (to (before .map), (to (before .indices), tt)))))))))));
+        lifetimes = eight;
+        args = (to grid, (dims, (low, (high, (plane, (to (before .positions), (to (before .normals), (to (before .cells), (to (before .strides), (to (before .crossings), (to (before .map), (to (before .indices), tt))))))))))));
         outcome =
             record {
               result = r;
-              last = (tt, (tt, (tt, (tt, (tt, (after .positions, (after .normals, (after .cells, (after .strides, (after .map, (after .indices, tt)))))))))));
+              last = (tt, (tt, (tt, (tt, (tt, (after .positions, (after .normals, (after .cells, (after .strides, (after .crossings, (after .map, (after .indices, tt))))))))))));
             };
         fits = (answered, (left, numbers));
       }
@@ -47,10 +47,10 @@ module _ (grid : List Float) (dims low high : Extent) (plane : MaxPlane) (r : An
   abbrev pub meshOutcome : Mesh
   meshOutcome =
       record {
-        lifetimes = seven;
+        lifetimes = eight;
         args = runOf .args;
         result = r;
-        exit = (to grid, (dims, (low, (high, (plane, (to (after .positions), (to (after .normals), (to (after .cells), (to (after .strides), (to (after .map), (to (after .indices), tt)))))))))));
+        exit = (to grid, (dims, (low, (high, (plane, (to (after .positions), (to (after .normals), (to (after .cells), (to (after .strides), (to (after .crossings), (to (after .map), (to (after .indices), tt))))))))))));
         learnt = (answered, (left, numbers));
       }
 
@@ -61,12 +61,12 @@ module _ (grid : List Float) (dx dy dz lx ly lz hx hy hz : ℕ) (px py pz : Bool
   abbrev pub bedRunOf : BedRun
   bedRunOf =
       record {
-        lifetimes = ([], ([], seven));
-        args = (to grid, (dx, (dy, (dz, (lx, (ly, (lz, (hx, (hy, (hz, (px, (py, (pz, (to (before .positions), (to (before .normals), (to (before .cells), (to (before .strides), (to (before .map), (to (before .indices), (to 5, (to 6, tt)))))))))))))))))))));
+        lifetimes = ([], ([], eight));
+        args = (to grid, (dx, (dy, (dz, (lx, (ly, (lz, (hx, (hy, (hz, (px, (py, (pz, (to (before .positions), (to (before .normals), (to (before .cells), (to (before .strides), (to (before .crossings), (to (before .map), (to (before .indices), (to 5, (to 6, tt))))))))))))))))))))));
         outcome =
             record {
               result = n;
-              last = (tt, (tt, (tt, (tt, (tt, (tt, (tt, (tt, (tt, (tt, (tt, (tt, (tt, (after .positions, (after .normals, (after .cells, (after .strides, (after .map, (after .indices, (v, (i, tt)))))))))))))))))))));
+              last = (tt, (tt, (tt, (tt, (tt, (tt, (tt, (tt, (tt, (tt, (tt, (tt, (tt, (after .positions, (after .normals, (after .cells, (after .strides, (after .crossings, (after .map, (after .indices, (v, (i, tt))))))))))))))))))))));
             };
         fits = (answered, (left, numbers));
       }

@@ -21,6 +21,7 @@ use Rattle.grid.specs.declared.Extent.{Extent}
 use Rattle.grid.specs.declared.MaxPlane.{MaxPlane}
 use Rattle.judge.specs.declared.Answer.{Answer}
 use Rattle.judge.specs.Reading.{answerOf}
+use Rattle.whole_box.proofs.Steps.{with-map}
 use Rattle.surface_nets.specs.Reading.{callMade, Binary32}
 use Rattle.promises.proofs.Runs.{Run, BedRun}
 use Rattle.skin.specs.Links.{links}
@@ -75,7 +76,7 @@ flatHigh = extent 0 3 3
 abbrev pub floats : List ℕ → List Float
 floats = map (ofBits binary32)
 
--- six lists for v vertices, i indices and the grid, with one number more each but the map: each number of the lists is w, or -5.0
+-- seven lists for v vertices, i indices and the grid, with one number more each but the map: each number of the lists is w, or -5.0
 abbrev pub lent : ℕ → ℕ → ℕ → Buffers
 lent v i w =
     record {
@@ -83,11 +84,12 @@ lent v i w =
       normals = replicate (3 * v + 1) (fin true 5 (pos 0));
       cells = replicate (3 * v + 1) w;
       strides = replicate (v + 1) w;
+      crossings = replicate (v + 1) w;
       map = replicate 64 w;
       indices = replicate (i + 1) w;
     }
 
--- those numbers written, and the last of each list kept
+-- those numbers written, and the last of each list kept; each vertex's cell has one negative corner, and so three crossings
 abbrev left : ℕ → List ℕ → List ℕ → List ℕ → List ℕ → List ℕ → List ℕ → Buffers
 left w positions normals cells strides map' indices' =
     record {
@@ -95,6 +97,7 @@ left w positions normals cells strides map' indices' =
       normals = floats normals ++ (fin true 5 (pos 0) ∷ []);
       cells = cells ++ (w ∷ []);
       strides = strides ++ (w ∷ []);
+      crossings = replicate (length strides) 3 ++ (w ∷ []);
       map = map';
       indices = indices' ++ (w ∷ []);
     }
@@ -271,15 +274,7 @@ elsewhere = runOf spoiled dims lowest lowerHigh noPlane (counts 8 30) (lent 8 30
 
 -- a flat box, x from 0 to 0: V 0, I 0, and the lists as they were but the map, where its 16 points have no vertex
 abbrev flatLeft : Buffers
-flatLeft =
-    record {
-      positions = lent 8 36 77 .positions;
-      normals = lent 8 36 77 .normals;
-      cells = lent 8 36 77 .cells;
-      strides = lent 8 36 77 .strides;
-      map = joined (λ (n : ℕ). none ∷ 77 ∷ 77 ∷ 77 ∷ []) (run 16);
-      indices = lent 8 36 77 .indices;
-    }
+flatLeft = with-map (lent 8 36 77) (joined (λ (n : ℕ). none ∷ 77 ∷ 77 ∷ 77 ∷ []) (run 16))
 
 pub flat-answered : answerOf (counts 0 0) ≡ answer (callMade grid dims lowest flatHigh noPlane) (room (lent 8 36 77))
 unfolding opened
@@ -323,6 +318,7 @@ aloneLeft =
       normals = floats upperNormals ++ replicate 13 (fin true 5 (pos 0));
       cells = upperCells ++ replicate 13 77;
       strides = upperStrides ++ replicate 5 77;
+      crossings = replicate 4 3 ++ replicate 5 77;
       map = upperMap;
       indices = upperIndices ++ replicate 31 77;
     }

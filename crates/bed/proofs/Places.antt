@@ -10,7 +10,7 @@ use denote.Triple.Clauses.{Lasts, atExit}
 use borrow.Fn.Kinds.{PK, RK, Out, Dens, resT, endedOf}
 use Rattle.rules.specs.Call.{answer, room}
 use Rattle.grid.specs.Block.{point}
-use Rattle.whole_box.specs.Reading.{buffers}
+use Rattle.whole_box.specs.Reading.{buffersGiven}
 use Rattle.surface_nets.specs.Reading.{callMade}
 use Rattle.skin.specs.Scan.{answers, examined}
 use Rattle.mesh_file.specs.Mesh.{Mesh, mesh, Held}
@@ -41,17 +41,17 @@ pub record Called (n : ℕ) (ps : List (PK n)) (r : RK n) (Learnt : Out n ps r) 
   pub last : Lasts (endedOf n ps r) lifetimes args
   pub fits : Learnt lifetimes args result (atExit (endedOf n ps r) lifetimes args last)
 
--- ---- bed_surface_nets: sdf, dimensions, min, max, the max plane on each axis, six lists, V, I
+-- ---- bed_surface_nets: sdf, dimensions, min, max, the max plane on each axis, seven lists, V, I
 
 abbrev pub NetsCall : Type 0
-NetsCall = Called 9 nets-kinds.ps nets-kinds.r nets.Learnt
+NetsCall = Called 10 nets-kinds.ps nets-kinds.r nets.Learnt
 
 pub surface-nets-by-place : (u : NetsCall)
-    → (let (sdf, (dx, (dy, (dz, (lx, (ly, (lz, (hx, (hy, (hz, (px, (py, (pz, (positions, (normals, (cells, (strides, (map, (indices, _))))))))))))))))))) = u .args in
-    let (_, (_, (_, (_, (_, (_, (_, (_, (_, (_, (_, (_, (_, (_, (_, (_, (_, (_, (_, (v, (i, _))))))))))))))))))))) = u .last in
+    → (let (sdf, (dx, (dy, (dz, (lx, (ly, (lz, (hx, (hy, (hz, (px, (py, (pz, (positions, (normals, (cells, (strides, (crossings, (map, (indices, _)))))))))))))))))))) = u .args in
+    let (_, (_, (_, (_, (_, (_, (_, (_, (_, (_, (_, (_, (_, (_, (_, (_, (_, (_, (_, (_, (v, (i, _)))))))))))))))))))))) = u .last in
     said (u .result) v i
     ≡ answer (callMade (sdf .now) (extent dx dy dz) (extent lx ly lz) (extent hx hy hz) (planes px py pz))
-    (room (buffers (positions .now) (normals .now) (cells .now) (strides .now) (map .now) (indices .now))))
+    (room (buffersGiven positions normals cells strides crossings map indices)))
 surface-nets-by-place u = u .fits .0
 
 -- ---- bed_is_enclosed: sdf, dimensions, min, max, the yes or no

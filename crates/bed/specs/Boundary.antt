@@ -1,15 +1,23 @@
--- Three loose numbers as dimensions or a corner, three loose flags as the max plane, and an answer number with two counts as document 01's answer. Definitions only. Assumes nothing.
+-- Three loose numbers as dimensions or a corner, three loose flags as the max plane, all of them with a grid as document 01's call, and an answer number
+-- with two counts as its answer. Definitions only. Assumes nothing.
 use Prim.Native.Nat.{ℕ}
 use mathlib.Core.Bool.{Bool}
-use Rattle.rules.specs.Call.{Answer}
+use mathlib.Core.List.{List}
+use lib.Ieee.{Float}
+use Rattle.rules.specs.Call.{Call, Answer}
 use Rattle.grid.specs.declared.Extent.{Extent}
 use Rattle.grid.specs.declared.MaxPlane.{MaxPlane}
+use Rattle.surface_nets.specs.Reading.{callMade}
 
 abbrev pub extent : ℕ → ℕ → ℕ → Extent
 extent x y z = record { x = x; y = y; z = z }
 
 abbrev pub planes : Bool → Bool → Bool → MaxPlane
 planes x y z = record { x = x; y = y; z = z }
+
+-- dimensions, min, max, and the max plane on each axis
+abbrev pub asked : List Float → ℕ → ℕ → ℕ → ℕ → ℕ → ℕ → ℕ → ℕ → ℕ → Bool → Bool → Bool → Call
+asked grid dx dy dz lx ly lz hx hy hz px py pz = callMade grid (extent dx dy dz) (extent lx ly lz) (extent hx hy hz) (planes px py pz)
 
 abbrev pub said : ℕ → ℕ → ℕ → Answer
 said number vertices indices = record { number = number; vertices = vertices; indices = indices }

@@ -7,9 +7,9 @@ pub mod weighing;
 
 ghost use mathlib.Core.Path.{_≡_};
 ghost use Rattle.rules.specs.Call.{answer, afterwards, room};
-ghost use Rattle.whole_box.specs.Reading.{buffers};
-ghost use Rattle.surface_nets.specs.Reading.{callMade, Binary32};
-ghost use Rattle.bed.specs.Boundary.{extent, planes, said};
+ghost use Rattle.whole_box.specs.Reading.{buffersBefore, buffersAfter};
+ghost use Rattle.surface_nets.specs.Reading.{Binary32};
+ghost use Rattle.bed.specs.Boundary.{asked, said};
 use grid::Extent;
 use grid::MaxPlane;
 
@@ -33,14 +33,19 @@ pub extern "C" fn bed_surface_nets(
     normals: &mut [f32],
     cells: &mut [u32],
     strides: &mut [u32],
+    crossings: &mut [u8],
     stride_to_index: &mut [u32],
     indices: &mut [u32],
     vertex_count: &mut u64,
     index_count: &mut u64,
 ) -> u32
-    ensures { λ r. ⌜ said r (now («vertex_count» .exit)) (now («index_count» .exit)) ≡ answer (callMade (now (sdf .entry)) (extent «dim_x» «dim_y» «dim_z») (extent «min_x» «min_y» «min_z») (extent «max_x» «max_y» «max_z») (planes «max_plane_x» «max_plane_y» «max_plane_z»)) (room (buffers (now (positions .entry)) (now (normals .entry)) (now (cells .entry)) (now (strides .entry)) (now («stride_to_index» .entry)) (now (indices .entry)))) ⌝ }
-    ensures { λ r. ⌜ buffers (now (positions .exit)) (now (normals .exit)) (now (cells .exit)) (now (strides .exit)) (now («stride_to_index» .exit)) (now (indices .exit)) ≡ afterwards (callMade (now (sdf .entry)) (extent «dim_x» «dim_y» «dim_z») (extent «min_x» «min_y» «min_z») (extent «max_x» «max_y» «max_z») (planes «max_plane_x» «max_plane_y» «max_plane_z»)) (buffers (now (positions .entry)) (now (normals .entry)) (now (cells .entry)) (now (strides .entry)) (now («stride_to_index» .entry)) (now (indices .entry))) ⌝ }
-    ensures { λ r. ⌜ Binary32 (now (sdf .entry)) ⌝ }
+    ensures { λ r. ⌜ said r (now («vertex_count» .exit)) (now («index_count» .exit))
+        ≡ answer (asked (now (sdf .entry)) «dim_x» «dim_y» «dim_z» «min_x» «min_y» «min_z» «max_x» «max_y» «max_z» «max_plane_x» «max_plane_y» «max_plane_z»)
+        (room (buffersBefore positions normals cells strides crossings «stride_to_index» indices)) ⌝ }
+    ensures { λ _. ⌜ buffersAfter positions normals cells strides crossings «stride_to_index» indices
+        ≡ afterwards (asked (now (sdf .entry)) «dim_x» «dim_y» «dim_z» «min_x» «min_y» «min_z» «max_x» «max_y» «max_z» «max_plane_x» «max_plane_y» «max_plane_z»)
+        (buffersBefore positions normals cells strides crossings «stride_to_index» indices) ⌝ }
+    ensures { λ _. ⌜ Binary32 (now (sdf .entry)) ⌝ }
 {
     let dims = Extent {
         x: dim_x,
@@ -72,6 +77,7 @@ pub extern "C" fn bed_surface_nets(
         normals,
         cells,
         strides,
+        crossings,
         stride_to_index,
         indices,
     );

@@ -38,6 +38,8 @@ const CELLS: u32 = 3000;
 
 const STRIDES: u32 = 4000;
 
+const CROSSINGS: u32 = 100;
+
 const MAP: u32 = 5000;
 
 const INDICES: u32 = 6000;
@@ -90,6 +92,19 @@ fn is_map_kept(list: &[u32], call: Call, number: u32) -> bool {
     marks::map_kept(list, k, MAP)
 }
 
+// The bytes as words, so that they are looked at as the other lists are.
+fn widened(bytes: &[u8; 11]) -> [u32; 11] {
+    let mut words = [0u32; 11];
+    for i in 0usize..11 {
+        words[i] = wide(bytes[i]);
+    }
+    words
+}
+
+fn wide(byte: u8) -> u32 {
+    byte as u32
+}
+
 // The lists hold marks past what an answer 0 writes, and a refusal left them all.
 fn kept(
     a: Answer,
@@ -98,6 +113,7 @@ fn kept(
     normals: &[f32],
     cells: &[u32],
     strides: &[u32],
+    crossings: &[u32],
     map: &[u32],
     indices: &[u32],
 ) -> bool {
@@ -115,14 +131,22 @@ fn kept(
     if !marks::words_kept(strides, v, STRIDES) {
         return false;
     }
+    if !marks::words_kept(crossings, v, CROSSINGS) {
+        return false;
+    }
     if !is_map_kept(map, call, a.number) {
         return false;
     }
     marks::words_kept(indices, i, INDICES)
 }
 
-fn show_mesh(a: Answer, positions: &[f32], strides: &[u32], indices: &[u32]) {
+fn show_mesh(a: Answer, positions: &[f32], strides: &[u32], crossings: &[u32], indices: &[u32]) {
     said::words(b"    strides", strides, written(a.number, a.vertex_count));
+    said::words(
+        b"    crossings",
+        crossings,
+        written(a.number, a.vertex_count),
+    );
     said::words(b"    indices", indices, written(a.number, a.index_count));
     said::point(b"    vertex 0", positions, 0);
     said::point(b"    vertex 1", positions, 1);
@@ -143,11 +167,12 @@ fn show_more(
     positions: &[f32],
     normals: &[f32],
     strides: &[u32],
+    crossings: &[u32],
     indices: &[u32],
 ) {
     match what {
         Show::Counts => {}
-        Show::Mesh => show_mesh(a, positions, strides, indices),
+        Show::Mesh => show_mesh(a, positions, strides, crossings, indices),
         Show::Indices => show_indices(a, indices),
         Show::Vertex => show_vertex(positions, normals),
     }
@@ -162,6 +187,7 @@ fn mesh(
     normals: &mut [f32],
     cells: &mut [u32],
     strides: &mut [u32],
+    crossings: &mut [u8],
     map: &mut [u32],
     indices: &mut [u32],
 ) -> Answer {
@@ -175,6 +201,7 @@ fn mesh(
         normals,
         cells,
         strides,
+        crossings,
         lent_words(map, room.map),
         lent_words(indices, room.indices),
     )
@@ -185,6 +212,7 @@ pub(crate) fn case(name: &[u8], sdf: &[f32], call: Call, room: Room, what: Show)
     let mut normals = [0.0f32; 27];
     let mut cells = [0u32; 27];
     let mut strides = [0u32; 11];
+    let mut crossings = [100u8, 101, 102, 103, 104, 105, 106, 107, 108, 109, 110];
     let mut map = [0u32; 30];
     let mut indices = [0u32; 39];
     marks::mark_floats(&mut positions, POSITIONS);
@@ -201,9 +229,11 @@ pub(crate) fn case(name: &[u8], sdf: &[f32], call: Call, room: Room, what: Show)
         &mut normals,
         &mut cells,
         &mut strides,
+        &mut crossings,
         &mut map,
         &mut indices,
     );
+    let numbers = widened(&crossings);
     let is_kept = kept(
         a,
         call,
@@ -211,9 +241,10 @@ pub(crate) fn case(name: &[u8], sdf: &[f32], call: Call, room: Room, what: Show)
         &normals,
         &cells,
         &strides,
+        &numbers,
         &map,
         &indices,
     );
     said::answer(name, a, is_kept);
-    show_more(what, a, &positions, &normals, &strides, &indices);
+    show_more(what, a, &positions, &normals, &strides, &numbers, &indices);
 }

@@ -12,7 +12,7 @@ use Rattle.rules.specs.Call.{Answer, Buffers}
 use Rattle.grid.specs.declared.Extent.{Extent}
 use Rattle.grid.specs.declared.MaxPlane.{MaxPlane}
 use Rattle.judge.specs.Reading.{answerOf}
-use Rattle.whole_box.specs.Reading.{buffers}
+use Rattle.whole_box.specs.Reading.{buffersGiven}
 use Rattle.skin.specs.declared.Enclosed.{Enclosed as Tested}
 use Rattle.skin.specs.Scan.{answers, gridOf, boxFrom}
 use Rattle.bed.specs.Boundary.{extent, planes, said}
@@ -52,7 +52,7 @@ box i = boxFrom (i .low) (i .high)
 -- ---- surface_nets
 
 abbrev pub Mesh : Type 0
-Mesh = Outcome 7 mesh-kinds.ps mesh-kinds.r mesh.Learnt
+Mesh = Outcome 8 mesh-kinds.ps mesh-kinds.r mesh.Learnt
 
 module _ (o : Mesh) where
   abbrev pub meshInput : Input
@@ -68,13 +68,13 @@ module _ (o : Mesh) where
 
   abbrev pub meshEntry : Buffers
   meshEntry =
-      let (_, (_, (_, (_, (_, (positions, (normals, (cells, (strides, (map, (indices, _))))))))))) = o .args in
-      buffers (now positions) (now normals) (now cells) (now strides) (now map) (now indices)
+      let (_, (_, (_, (_, (_, (positions, (normals, (cells, (strides, (crossings, (map, (indices, _)))))))))))) = o .args in
+      buffersGiven positions normals cells strides crossings map indices
 
   abbrev pub meshExit : Buffers
   meshExit =
-      let (_, (_, (_, (_, (_, (positions, (normals, (cells, (strides, (map, (indices, _))))))))))) = o .exit in
-      buffers (now positions) (now normals) (now cells) (now strides) (now map) (now indices)
+      let (_, (_, (_, (_, (_, (positions, (normals, (cells, (strides, (crossings, (map, (indices, _)))))))))))) = o .exit in
+      buffersGiven positions normals cells strides crossings map indices
 
 -- ---- is_enclosed
 
@@ -90,7 +90,7 @@ module _ (t : Test) where
 -- ---- the same two for C
 
 abbrev pub BedMesh : Type 0
-BedMesh = Outcome 9 bed-mesh-kinds.ps bed-mesh-kinds.r bed-mesh.Learnt
+BedMesh = Outcome 10 bed-mesh-kinds.ps bed-mesh-kinds.r bed-mesh.Learnt
 
 module _ (o : BedMesh) where
   abbrev pub bedMeshInput : Input
@@ -103,18 +103,18 @@ module _ (o : BedMesh) where
 
   abbrev pub bedMeshAnswer : Answer
   bedMeshAnswer =
-      let (_, (_, (_, (_, (_, (_, (_, (_, (_, (_, (_, (_, (_, (_, (_, (_, (_, (_, (_, (vertices, (indices, _))))))))))))))))))))) = o .exit in
+      let (_, (_, (_, (_, (_, (_, (_, (_, (_, (_, (_, (_, (_, (_, (_, (_, (_, (_, (_, (_, (vertices, (indices, _)))))))))))))))))))))) = o .exit in
       said (o .result) (now vertices) (now indices)
 
   abbrev pub bedMeshEntry : Buffers
   bedMeshEntry =
-      let (_, (_, (_, (_, (_, (_, (_, (_, (_, (_, (_, (_, (_, (positions, (normals, (cells, (strides, (map, (indices, _))))))))))))))))))) = o .args in
-      buffers (now positions) (now normals) (now cells) (now strides) (now map) (now indices)
+      let (_, (_, (_, (_, (_, (_, (_, (_, (_, (_, (_, (_, (_, (positions, (normals, (cells, (strides, (crossings, (map, (indices, _)))))))))))))))))))) = o .args in
+      buffersGiven positions normals cells strides crossings map indices
 
   abbrev pub bedMeshExit : Buffers
   bedMeshExit =
-      let (_, (_, (_, (_, (_, (_, (_, (_, (_, (_, (_, (_, (_, (positions, (normals, (cells, (strides, (map, (indices, _))))))))))))))))))) = o .exit in
-      buffers (now positions) (now normals) (now cells) (now strides) (now map) (now indices)
+      let (_, (_, (_, (_, (_, (_, (_, (_, (_, (_, (_, (_, (_, (positions, (normals, (cells, (strides, (crossings, (map, (indices, _)))))))))))))))))))) = o .exit in
+      buffersGiven positions normals cells strides crossings map indices
 
 abbrev pub BedTest : Type 0
 BedTest = Outcome 2 bed-test-kinds.ps bed-test-kinds.r bed-test.Learnt

@@ -9,6 +9,7 @@ use Rattle.cube.specs.declared.point.Point.{Point}
 use Rattle.cube.specs.declared.crossing.Crossing.{Crossing}
 use Rattle.cube.specs.declared.crossing.Crossing.the-variants.{No, At}
 use Rattle.cube.specs.declared.centroid.Crossings.{Crossings}
+use Rattle.cube.specs.declared.centroid.Average.{Average}
 use Rattle.cube.proofs.OneResult.{OneResult}
 use Rattle.cube.proofs.point.Point.add.Kinds as add-kinds
 use Rattle.cube.proofs.point.Point.add.Reads as add
@@ -51,6 +52,9 @@ same-vector l l' = vector-injective (l ∙ sym l')
 
 same-crossings : {c c' : Crossings} → c .sum ≡ c' .sum → c .count ≡ c' .count → c ≡ c'
 same-crossings p q = λ i. record { sum = p i; count = q i }
+
+same-average : {a a' : Average} → a .point ≡ a' .point → a .crossings ≡ a' .crossings → a ≡ a'
+same-average p q = λ i. record { point = p i; crossings = q i }
 
 -- ---- an edge's answer is its fraction, or none
 
@@ -95,7 +99,7 @@ pub sum-of-edge-intersections-once : OneResult 1 sum-of-edge-intersections-kinds
 sum-of-edge-intersections-once κs a z z' e e' l l' = same-crossings (same-vector (l .0) (l' .0)) (l .1 ∙ sym (l' .1))
 
 pub centroid-of-edge-intersections-once : OneResult 1 centroid-of-edge-intersections-kinds.ps centroid-of-edge-intersections-kinds.r centroid-of-edge-intersections.Learnt
-centroid-of-edge-intersections-once κs a z z' e e' l l' = same-vector l l'
+centroid-of-edge-intersections-once κs a z z' e e' l l' = same-average (same-vector (l .0) (l' .0)) (l .1 ∙ sym (l' .1))
 
 pub sdf-gradient-once : OneResult 1 sdf-gradient-kinds.ps sdf-gradient-kinds.r sdf-gradient.Learnt
 sdf-gradient-once κs a z z' e e' l l' = same-vector l l'

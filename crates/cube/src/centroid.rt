@@ -1,4 +1,4 @@
-// The centroid of the points where the surface crosses the twelve edges of a cell.
+// The centroid of the points where the surface crosses the twelve edges of a cell, and their number.
 ghost use mathlib.Core.Path.{_≡_};
 ghost use Prim.Native.Nat.{_<_};
 ghost use Rattle.rules.specs.Cell.{pointBetween, summed, zeroVector, crossingPoints, crossings, centroid};
@@ -49,10 +49,22 @@ pub fn sum_of_edge_intersections(d: &[f32; 8]) -> Crossings
     Crossings { sum, count }
 }
 
+// Document 02, request 13: "The step that averages crossings must now also answer their number", which fits a byte.
+pub struct Average {
+    pub point: Point,
+    pub crossings: u8,
+}
+
 // "divide by their number as a float: that is s". A cell without a crossing gives what 0 / 0 gives.
-pub fn centroid_of_edge_intersections(d: &[f32; 8]) -> Point
-    ensures { λ r. ⌜ vector r ≡ centroid (now (d .entry)) ⌝ }
+pub fn centroid_of_edge_intersections(d: &[f32; 8]) -> Average
+    ensures { λ r. ⌜ vector (r .point) ≡ centroid (now (d .entry)) ⌝ }
+    ensures { λ r. ⌜ r .crossings ≡ crossings (now (d .entry)) ⌝ }
 {
     let c = sum_of_edge_intersections(d);
-    c.sum.divide(nearest_u32_to_f32(c.count))
+    let point = c.sum.divide(nearest_u32_to_f32(c.count));
+    let number = c.count as u8;
+    Average {
+        point,
+        crossings: number,
+    }
 }

@@ -8,6 +8,7 @@ mod gradient;
 mod point;
 mod tables;
 
+pub use centroid::Average;
 pub use centroid::Crossings;
 pub use centroid::centroid_of_edge_intersections;
 pub use centroid::sum_of_edge_intersections;

@@ -40,8 +40,8 @@ fn fraction(label: &[u8], value1: f32, value2: f32) {
 
 // A cell with these corner values, corner 0 first, whose lowest corner is (1, 2, 3).
 fn cell(label: &[u8], d: &[f32; 8]) {
-    let c = cube::sum_of_edge_intersections(d);
-    let s = cube::centroid_of_edge_intersections(d);
+    let average = cube::centroid_of_edge_intersections(d);
+    let s = average.point;
     text(b"corners ");
     text(label);
     if cube::is_surface(d) {
@@ -50,7 +50,7 @@ fn cell(label: &[u8], d: &[f32; 8]) {
         text(b": no surface,");
     }
     text(b" crossings ");
-    io::print_decimal(STDOUT_FILENO, c.count as u64);
+    io::print_decimal(STDOUT_FILENO, average.crossings as u64);
     text(b", s");
     point(s);
     text(b", position");

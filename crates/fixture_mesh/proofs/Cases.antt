@@ -311,7 +311,7 @@ abbrev pub meshOf : List Float → Call
 meshOf grid = record { grid = field (point 5 5 5) grid; size = 125; box = record { low = point 0 0 0; high = point 4 4 4 }; flags = allThree false }
 
 abbrev pub roomy : Room
-roomy = record { positions = 1000; normals = 1000; cells = 1000; strides = 1000; map = 125; indices = 1000 }
+roomy = record { positions = 1000; normals = 1000; cells = 1000; strides = 1000; crossings = 1000; map = 125; indices = 1000 }
 
 pub rake-before : answer (meshOf (floatsOf (rake .grid))) roomy ≡ answers 0 16 0
 unfolding opened

@@ -8,11 +8,11 @@ use lib.Dec.{T}
 use lib.Ieee.{Float}
 use Rattle.rules.specs.Lists.{keep, place}
 use Rattle.rules.specs.Grid.{GridPoint, Box, Field, samePoint, isCell, inBox, value}
-use Rattle.rules.specs.Vertices.{rowCells, layerCells, surfaceCell, layerVertices, vertexPosition, vertexNormal, vertexNumber}
+use Rattle.rules.specs.Vertices.{rowCells, layerCells, surfaceCell, layerVertices, vertexPosition, vertexNormal, vertexCrossings, vertexNumber}
 use Rattle.rules.proofs.Lists.{All, all-then, all-keep, map-same, keep-same}
 use Rattle.rules.proofs.Indexes.{cell-within, is-cell}
 use Rattle.rules.proofs.Inside.{layer-cells}
-use Rattle.rules.proofs.Locality.{surface-same, position-same, normal-same}
+use Rattle.rules.proofs.Locality.{surface-same, position-same, normal-same, crossed-same}
 
 -- the part of a box between the layers z and z + 1
 abbrev pub slab : Box → ℕ → Box
@@ -47,6 +47,9 @@ module _ (d : GridPoint) (f f' : ℕ → Float) (b : Box) (z : ℕ) (agree : (p 
 
   pub normals-alike : map (vertexNormal (grid d f)) (layerVertices (grid d f) b z) ≡ map (vertexNormal (grid d f')) (layerVertices (grid d f') b z)
   normals-alike = map-same (all-then (normal-same g g' (slab b z) agree) vertices-in) ∙ ap (map (vertexNormal g')) layer-alike
+
+  pub crossings-alike : map (vertexCrossings (grid d f)) (layerVertices (grid d f) b z) ≡ map (vertexCrossings (grid d f')) (layerVertices (grid d f') b z)
+  crossings-alike = map-same (all-then (crossed-same g g' (slab b z) agree) vertices-in) ∙ ap (map (vertexCrossings g')) layer-alike
 
   -- a cell of the layer, in the box
   pub in-slab : (c : GridPoint) → T (isCell b c) → c .z ≡ z → T (isCell (slab b z) c)

@@ -72,13 +72,24 @@ module _ (r : Room) (v i : ℕ) where
   unfolding roomAnswer
   strides-short p n c h = simp (le-ltb (r .positions) (3 * v) p, le-ltb (r .normals) (3 * v) n, le-ltb (r .cells) (3 * v) c, lt-ltb (r .strides) v h)
 
-  pub indices-short : 3 * v ≤ r .positions → 3 * v ≤ r .normals → 3 * v ≤ r .cells → v ≤ r .strides → r .indices < i → answers 7 v i ≡ roomAnswer r v i
+  pub crossings-short : 3 * v ≤ r .positions → 3 * v ≤ r .normals → 3 * v ≤ r .cells → v ≤ r .strides → r .crossings < v → answers 6 v i ≡ roomAnswer r v i
   unfolding roomAnswer
-  indices-short p n c s h = simp (le-ltb (r .positions) (3 * v) p, le-ltb (r .normals) (3 * v) n, le-ltb (r .cells) (3 * v) c, le-ltb (r .strides) v s, lt-ltb (r .indices) i h)
+  crossings-short p n c s h =
+      simp (le-ltb (r .positions) (3 * v) p, le-ltb (r .normals) (3 * v) n, le-ltb (r .cells) (3 * v) c, le-ltb (r .strides) v s, lt-ltb (r .crossings) v h)
 
-  pub room-enough : 3 * v ≤ r .positions → 3 * v ≤ r .normals → 3 * v ≤ r .cells → v ≤ r .strides → i ≤ r .indices → answers 0 v i ≡ roomAnswer r v i
-  unfolding roomAnswer
-  room-enough p n c s h = simp (le-ltb (r .positions) (3 * v) p, le-ltb (r .normals) (3 * v) n, le-ltb (r .cells) (3 * v) c, le-ltb (r .strides) v s, le-ltb (r .indices) i h)
+  -- there is room for the vertices
+  module _ (p : 3 * v ≤ r .positions) (n : 3 * v ≤ r .normals) (c : 3 * v ≤ r .cells) (s : v ≤ r .strides) (x : v ≤ r .crossings) where
+    vertices-fit : badVertexRoom r v ≡ false
+    vertices-fit =
+        simp (le-ltb (r .positions) (3 * v) p, le-ltb (r .normals) (3 * v) n, le-ltb (r .cells) (3 * v) c, le-ltb (r .strides) v s, le-ltb (r .crossings) v x)
+
+    pub indices-short : r .indices < i → answers 7 v i ≡ roomAnswer r v i
+    unfolding roomAnswer
+    indices-short h = simp (vertices-fit, lt-ltb (r .indices) i h)
+
+    pub room-enough : i ≤ r .indices → answers 0 v i ≡ roomAnswer r v i
+    unfolding roomAnswer
+    room-enough h = simp (vertices-fit, le-ltb (r .indices) i h)
 
 -- ---- V and I are the counts of the definitions
 
@@ -111,6 +122,7 @@ pub record Enough (r : Room) (v i : ℕ) : Type 0 where
   pub normals : 3 * v ≤ r .normals
   pub cells : 3 * v ≤ r .cells
   pub strides : v ≤ r .strides
+  pub crossings : v ≤ r .crossings
   pub indices : i ≤ r .indices
 
 neither : (t u : Bool) (v i : ℕ) → cond t (answers 6 v i) (cond u (answers 7 v i) (answers 0 v i)) .number ≡ 0 → T (not t) × T (not u)
@@ -121,16 +133,39 @@ neither false false v i e = (tt, tt)
 pub room-done : (r : Room) (v i : ℕ) → roomAnswer r v i .number ≡ 0 → Enough r v i
 unfolding roomAnswer
 room-done r v i e =
-    let both = neither (badVertexRoom r v) (badIndexRoom r i) v i e in
-    let second = nor-right (ltb (r .positions) (3 * v)) (ltb (r .normals) (3 * v) || (ltb (r .cells) (3 * v) || ltb (r .strides) v)) (both .0) in
-    let third = nor-right (ltb (r .normals) (3 * v)) (ltb (r .cells) (3 * v) || ltb (r .strides) v) second in
     record {
-      positions = nltb→le (r .positions) (3 * v) (nor-left (ltb (r .positions) (3 * v)) (ltb (r .normals) (3 * v) || (ltb (r .cells) (3 * v) || ltb (r .strides) v)) (both .0));
-      normals = nltb→le (r .normals) (3 * v) (nor-left (ltb (r .normals) (3 * v)) (ltb (r .cells) (3 * v) || ltb (r .strides) v) second);
-      cells = nltb→le (r .cells) (3 * v) (nor-left (ltb (r .cells) (3 * v)) (ltb (r .strides) v) third);
-      strides = nltb→le (r .strides) v (nor-right (ltb (r .cells) (3 * v)) (ltb (r .strides) v) third);
+      positions = nltb→le (r .positions) (3 * v) (nor-left short-p short-n (both .0));
+      normals = nltb→le (r .normals) (3 * v) (nor-left (ltb (r .normals) (3 * v)) short-c second);
+      cells = nltb→le (r .cells) (3 * v) (nor-left (ltb (r .cells) (3 * v)) short-s third);
+      strides = nltb→le (r .strides) v (nor-left (ltb (r .strides) v) (ltb (r .crossings) v) fourth);
+      crossings = nltb→le (r .crossings) v (nor-right (ltb (r .strides) v) (ltb (r .crossings) v) fourth);
       indices = nltb→le (r .indices) i (both .1);
     }
+  where
+    short-p : Bool
+    short-p = ltb (r .positions) (3 * v)
+
+    -- the tests of one list and of those after it
+    short-s : Bool
+    short-s = ltb (r .strides) v || ltb (r .crossings) v
+
+    short-c : Bool
+    short-c = ltb (r .cells) (3 * v) || short-s
+
+    short-n : Bool
+    short-n = ltb (r .normals) (3 * v) || short-c
+
+    both : T (not (badVertexRoom r v)) × T (not (badIndexRoom r i))
+    both = neither (badVertexRoom r v) (badIndexRoom r i) v i e
+
+    second : T (not short-n)
+    second = nor-right short-p short-n (both .0)
+
+    third : T (not short-c)
+    third = nor-right (ltb (r .normals) (3 * v)) short-c second
+
+    fourth : T (not short-s)
+    fourth = nor-right (ltb (r .cells) (3 * v)) short-s third
 
 pub done-enough : (c : Call) (r : Room) → answer c r .number ≡ 0 → Enough r (vertexCount c) (indexCount c)
 done-enough c r e = room-done r (vertexCount c) (indexCount c) (ap (λ (a : Answer). a .number) (sym (accepted-answer c r (done-accepted c r e))) ∙ e)

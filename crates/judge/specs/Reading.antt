@@ -9,4 +9,13 @@ answerOf a = record { number = a .number; vertices = a .«vertex_count»; indice
 
 -- the lengths of the lent lists
 abbrev pub roomOf : Lengths → Room
-roomOf r = record { positions = r .positions; normals = r .normals; cells = r .cells; strides = r .strides; map = r .map; indices = r .indices }
+roomOf r =
+    record {
+      positions = r .positions;
+      normals = r .normals;
+      cells = r .cells;
+      strides = r .strides;
+      crossings = r .crossings;
+      map = r .map;
+      indices = r .indices;
+    }

@@ -19,6 +19,7 @@ pub struct Lengths {
     pub normals: usize,
     pub cells: usize,
     pub strides: usize,
+    pub crossings: usize,
     pub map: usize,
     pub indices: usize,
 }
@@ -50,6 +51,9 @@ fn room_answer(vertices: usize, indices: usize, room: Lengths) -> Answer
         return counted(6, vertices, indices);
     }
     if room.strides < vertices {
+        return counted(6, vertices, indices);
+    }
+    if room.crossings < vertices {
         return counted(6, vertices, indices);
     }
     if room.indices < indices {

@@ -11,7 +11,7 @@ use Rattle.rules.specs.Grid.{GridPoint, Box, Field, index, isCell, inBox, value
 use Rattle.rules.specs.Vertices.{nullVertex, edgeEntry}
 use Rattle.rules.specs.Call.{flatVectors, flatPoints}
 use Rattle.rules.proofs.Tests.{is-test}
-use Rattle.grid.proofs.Slab.{slab, grid, layer-alike, surface-alike, number-alike, positions-alike, normals-alike}
+use Rattle.grid.proofs.Slab.{slab, grid, layer-alike, surface-alike, number-alike, positions-alike, normals-alike, crossings-alike}
 use Rattle.layer_vertices.specs.declared.Next.{Next}
 use Rattle.layer_vertices.specs.Marked.{Lists, marked, cellNumber, layerPoint, layerEntry}
 
@@ -45,5 +45,6 @@ module _ (d : GridPoint) (f f' : ℕ → Float) (b : Box) (z : ℕ) (agree : (p 
         normals = sets (s .normals) (3 * next .place) (flatVectors (normals-alike d f f' b z agree i));
         cells = sets (s .cells) (3 * next .place) (flatPoints (layer-alike d f f' b z agree i));
         strides = sets (s .strides) (next .place) (map (index d) (layer-alike d f f' b z agree i));
+        crossings = sets (s .crossings) (next .place) (crossings-alike d f f' b z agree i);
         map = placed (λ (j old : ℕ). entry-alike (next .number) j old i) 0 (s .map);
       }

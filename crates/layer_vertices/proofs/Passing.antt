@@ -13,8 +13,8 @@ use lib.Ieee.{Float}
 use lib.Ieee.Bits.{is-true}
 use Rattle.rules.specs.Lists.{one, upTo, keep, joined}
 use Rattle.rules.specs.Grid.{GridPoint, Box, Field, index, isCell}
-use Rattle.rules.specs.Cell.{Vector, values, surface, centroid, position, normal}
-use Rattle.rules.specs.Vertices.{rowCells, layerCells, surfaceCell, layerVertices, vertexPosition, vertexNormal, nullVertex}
+use Rattle.rules.specs.Cell.{Vector, values, surface, crossings, centroid, position, normal}
+use Rattle.rules.specs.Vertices.{rowCells, layerCells, surfaceCell, layerVertices, vertexPosition, vertexNormal, vertexCrossings, nullVertex}
 use Rattle.rules.specs.Call.{flatVectors, flatPoints}
 use Rattle.rules.proofs.Tests.{one-of}
 use Rattle.rules.proofs.Lists.{All, keep-append, keep-none, joined-append}
@@ -27,7 +27,7 @@ use Rattle.grid.proofs.Order.{row-grows, layer-grows}
 use Rattle.grid.proofs.LayerWalks.{row-rest, layer-rest}
 use Rattle.stores.proofs.Runs.{sets-on}
 use Rattle.layer_vertices.specs.declared.Next.{Next}
-use Rattle.layer_vertices.specs.Marked.{Lists, marked, Room}
+use Rattle.layer_vertices.specs.Marked.{Lists, lists, withMap, listed, marked, Room}
 use Rattle.layer_vertices.specs.Cells.{advanced, pointsOf, hasVertex, entered, cleared, written, passed, found, cellLeft, CellReady}
 use Rattle.layer_vertices.proofs.Entries.{entered-append, entered-length, entered-none, kept-length}
 use Rattle.layer_vertices.proofs.Points.{layer-closes, points-kept, entered-all}
@@ -62,7 +62,8 @@ passed-append g b next cs ds s =
       positions = vectors (vertexPosition g) (s .positions) i;
       normals = vectors (vertexNormal g) (s .normals) i;
       cells = cells' i;
-      strides = strides' i;
+      strides = ones (index (g .dims)) (s .strides) i;
+      crossings = ones (vertexCrossings g) (s .crossings) i;
       map = sym (entered-append (g .dims) (hasVertex g b) (next .number) cs ds (s .map)) i;
     })
     ∙ ap (λ (vs : List GridPoint). written g b next vs (cs ++ ds) s) (sym (keep-append (hasVertex g b) cs ds))
@@ -83,25 +84,17 @@ passed-append g b next cs ds s =
         sets-on (s .cells) (3 * next .place) (3 * (next .place + length us)) (flatPoints us) (flatPoints vs) (omega (arith, length-points us))
         ∙ ap (sets (s .cells) (3 * next .place)) (points-append us vs)
 
-    strides' : sets (sets (s .strides) (next .place) (map (index (g .dims)) us)) (next .place + length us) (map (index (g .dims)) vs) ≡ sets (s .strides) (next .place) (map (index (g .dims)) (us ++ vs))
-    strides' =
-        sets-on (s .strides) (next .place) (next .place + length us) (map (index (g .dims)) us) (map (index (g .dims)) vs) (ap (λ (n : ℕ). next .place + n) (sym (length-map us (index (g .dims)))))
-        ∙ ap (sets (s .strides) (next .place)) (sym (map-append (index (g .dims)) us vs))
+    ones : (f : GridPoint → ℕ) (l : List ℕ) → sets (sets l (next .place) (map f us)) (next .place + length us) (map f vs) ≡ sets l (next .place) (map f (us ++ vs))
+    ones f l =
+        sets-on l (next .place) (next .place + length us) (map f us) (map f vs) (ap (λ (n : ℕ). next .place + n) (sym (length-map us f)))
+        ∙ ap (sets l (next .place)) (sym (map-append f us vs))
 
 -- points none of which has a vertex: their entries, and nothing else
 pub passed-none : (g : Field) (b : Box) (next : Next) {ps : List GridPoint} (s : Lists) → All (λ c. hasVertex g b c ≡ false) ps
-    → _≡_ {A = Lists} (record { positions = s .positions; normals = s .normals; cells = s .cells; strides = s .strides; map = cleared (g .dims) ps (s .map) })
-    (passed g b next ps s)
+    → withMap (cleared (g .dims) ps (s .map)) s ≡ passed g b next ps s
 unfolding passed joined
 passed-none g b next {ps} s h =
-    (λ i.
-    record {
-      positions = s .positions;
-      normals = s .normals;
-      cells = s .cells;
-      strides = s .strides;
-      map = sym (entered-none (g .dims) (hasVertex g b) (next .number) 0 (s .map) h) i;
-    })
+    ap (λ (l : List ℕ). withMap l s) (sym (entered-none (g .dims) (hasVertex g b) (next .number) 0 (s .map) h))
     ∙ ap (λ (vs : List GridPoint). written g b next vs ps s) (sym (keep-none h))
 
 pub found-none : (g : Field) (b : Box) {ps : List GridPoint} → All (λ c. hasVertex g b c ≡ false) ps → found g b ps ≡ 0
@@ -114,14 +107,7 @@ unfolding passed cellLeft keep joined entered
 passed-one g b c is next s = go (surfaceCell g c) ∙ ap left (sym (has-cell g b c is))
   where
     left : Bool → Lists
-    left t =
-        record {
-          positions = sets (s .positions) (3 * next .place) (flatVectors (map (vertexPosition g) (cond t (c ∷ []) [])));
-          normals = sets (s .normals) (3 * next .place) (flatVectors (map (vertexNormal g) (cond t (c ∷ []) [])));
-          cells = sets (s .cells) (3 * next .place) (flatPoints (cond t (c ∷ []) []));
-          strides = sets (s .strides) (next .place) (map (index (g .dims)) (cond t (c ∷ []) []));
-          map = set (s .map) (inLayer (g .dims) c) (cond t (next .number) nullVertex);
-        }
+    left t = listed g (next .place) (cond t (c ∷ []) []) (set (s .map) (inLayer (g .dims) c) (cond t (next .number) nullVertex)) s
 
     go : (t : Bool)
         → _≡_ {A = Lists}
@@ -131,27 +117,29 @@ passed-one g b c is next s = go (surfaceCell g c) ∙ ap left (sym (has-cell g b
           normals = sets (s .normals) (3 * next .place) (vertexNormal g c .x ∷ vertexNormal g c .y ∷ vertexNormal g c .z ∷ []);
           cells = sets (s .cells) (3 * next .place) (c .x ∷ c .y ∷ c .z ∷ []);
           strides = set (s .strides) (next .place) (index (g .dims) c);
+          crossings = set (s .crossings) (next .place) (vertexCrossings g c);
           map = set (s .map) (inLayer (g .dims) c) (next .number);
         })
-        (record { positions = s .positions; normals = s .normals; cells = s .cells; strides = s .strides; map = set (s .map) (inLayer (g .dims) c) nullVertex }))
+        (withMap (set (s .map) (inLayer (g .dims) c) nullVertex) s))
         (left t)
     go true = refl
     go false = refl
 
 -- a cell without a vertex, and a surface cell, by what the step left of each list
 pub cell-none : (d : List Float) (c : GridPoint) (at stride : ℕ) (next : Next) (s : Lists) → surface d ≡ false
-    → (_≡_ {A = Lists} (record { positions = s .positions; normals = s .normals; cells = s .cells; strides = s .strides; map = set (s .map) at nullVertex }) (cellLeft d c at stride next s)) × (next ≡ advanced next (one (surface d)))
+    → (withMap (set (s .map) at nullVertex) s ≡ cellLeft d c at stride next s) × (next ≡ advanced next (one (surface d)))
 unfolding cellLeft
 cell-none d c at stride next s e = (rw e, rw e (λ i. record { place = sym (add-zero (next .place)) i; number = sym (add-zero (next .number)) i }))
 
-pub cell-vertex : (d : List Float) (c : GridPoint) (at stride : ℕ) (next : Next) (s : Lists) {p n : List Float} {cs st : List ℕ} → surface d ≡ true
+pub cell-vertex : (d : List Float) (c : GridPoint) (at stride : ℕ) (next : Next) (s : Lists) {p n : List Float} {cs st xs : List ℕ} → surface d ≡ true
     → p ≡ sets (s .positions) (3 * next .place) (position c (centroid d) .x ∷ position c (centroid d) .y ∷ position c (centroid d) .z ∷ [])
     → n ≡ sets (s .normals) (3 * next .place) (normal d (centroid d) .x ∷ normal d (centroid d) .y ∷ normal d (centroid d) .z ∷ [])
+    → xs ≡ set (s .crossings) (next .place) (crossings d)
     → cs ≡ sets (s .cells) (3 * next .place) (c .x ∷ c .y ∷ c .z ∷ []) → st ≡ set (s .strides) (next .place) stride
-    → (_≡_ {A = Lists} (record { positions = p; normals = n; cells = cs; strides = st; map = set (s .map) at (next .number) }) (cellLeft d c at stride next s))
+    → (lists p n cs st xs (set (s .map) at (next .number)) ≡ cellLeft d c at stride next s)
     × (_≡_ {A = Next} (record { place = next .place + 1; number = next .number + 1 }) (advanced next (one (surface d))))
 unfolding cellLeft
-cell-vertex d c at stride next s e ep en ec es = (rw (e, ep, en, ec, es), rw e)
+cell-vertex d c at stride next s e ep en ex ec es = (rw (e, ep, en, ex, ec, es), rw e)
 
 -- ---- after all points of a layer
 
@@ -160,14 +148,7 @@ pub passed-layer : (g : Field) (b : Box) (z : ℕ) → BoxFits (g .dims) b → (
 unfolding passed marked
 passed-layer g b z f zs next s =
     ap (λ (vs : List GridPoint). written g b next vs (layerCells (pointsOf b) z) s) (points-kept g b z zs (f .x .0) (f .y .0))
-    ∙ λ i.
-    record {
-      positions = sets (s .positions) (3 * next .place) (flatVectors (map (vertexPosition g) (layerVertices g b z)));
-      normals = sets (s .normals) (3 * next .place) (flatVectors (map (vertexNormal g) (layerVertices g b z)));
-      cells = sets (s .cells) (3 * next .place) (flatPoints (layerVertices g b z));
-      strides = sets (s .strides) (next .place) (map (index (g .dims)) (layerVertices g b z));
-      map = entered-all b g f z zs (next .number) (s .map) i;
-    }
+    ∙ ap (λ (l : List ℕ). listed g (next .place) (layerVertices g b z) l s) (entered-all b g f z zs (next .number) (s .map))
 
 -- ---- lengths and room
 
@@ -176,6 +157,7 @@ pub record SameLengths (s t : Lists) : Type 0 where
   pub normals : length (s .normals) ≡ length (t .normals)
   pub cells : length (s .cells) ≡ length (t .cells)
   pub strides : length (s .strides) ≡ length (t .strides)
+  pub crossings : length (s .crossings) ≡ length (t .crossings)
   pub map : length (s .map) ≡ length (t .map)
 
 pub passed-lengths : (g : Field) (b : Box) (next : Next) (cs : List GridPoint) (s : Lists) → SameLengths (passed g b next cs s) s
@@ -187,6 +169,7 @@ passed-lengths g b next cs s =
       normals = length-sets (s .normals) (3 * next .place) (flatVectors (map (vertexNormal g) vs));
       cells = length-sets (s .cells) (3 * next .place) (flatPoints vs);
       strides = length-sets (s .strides) (next .place) (map (index (g .dims)) vs);
+      crossings = length-sets (s .crossings) (next .place) (map (vertexCrossings g) vs);
       map = entered-length (g .dims) (hasVertex g b) (next .number) cs (s .map);
     }
 
@@ -198,6 +181,7 @@ room-left m r h k e =
       normals = omega (arith, h .normals, e .normals);
       cells = omega (arith, h .cells, e .cells);
       strides = omega (arith, h .strides, e .strides);
+      crossings = omega (arith, h .crossings, e .crossings);
       numbers = omega (arith, h .numbers);
     }
 
@@ -246,10 +230,10 @@ module _ {g : Field} {b : Box} {next : Next} {s : Lists} {cs : List GridPoint} {
 
   -- some points more that are no cells, by their entries
   pub passes-cleared : (ds : List GridPoint) → All (λ c. hasVertex g b c ≡ false) ds → {mp : List ℕ} {all : List GridPoint} → mp ≡ cleared (g .dims) ds (s' .map) → all ≡ cs ++ ds
-      → Passes g b next s all here (record { positions = s' .positions; normals = s' .normals; cells = s' .cells; strides = s' .strides; map = mp })
+      → Passes g b next s all here (withMap mp s')
   passes-cleared ds bare e h =
       passes-more ds
-      (ap (λ (l : List ℕ). record { positions = s' .positions; normals = s' .normals; cells = s' .cells; strides = s' .strides; map = l }) e ∙ passed-none g b here s' bare)
+      (ap (λ (l : List ℕ). withMap l s') e ∙ passed-none g b here s' bare)
       (still here ∙ ap (advanced here) (sym (found-none g b bare))) h
 
   pub passes-all : {all : List GridPoint} → cs ≡ all → (s' ≡ passed g b next all s) × (here ≡ advanced next (found g b all))

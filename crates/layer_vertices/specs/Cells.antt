@@ -10,13 +10,13 @@ use lib.Seq.{sets}
 use lib.Ieee.{Float}
 use Rattle.rules.specs.Lists.{one, keep}
 use Rattle.rules.specs.Grid.{GridPoint, Box, Field, index, isCell}
-use Rattle.rules.specs.Cell.{surface, centroid, position, normal}
+use Rattle.rules.specs.Cell.{surface, crossings, centroid, position, normal}
 use Rattle.rules.specs.Vertices.{surfaceCell, vertexPosition, vertexNormal, nullVertex}
 use Rattle.rules.specs.Call.{flatVectors, flatPoints}
 use Rattle.grid.specs.Inside.{PointInside}
 use Rattle.grid.specs.Layers.{inLayer}
 use Rattle.layer_vertices.specs.declared.Next.{Next}
-use Rattle.layer_vertices.specs.Marked.{Lists, Room}
+use Rattle.layer_vertices.specs.Marked.{Lists, withMap, listed, Room}
 
 -- n vertices further on
 abbrev pub advanced : Next → ℕ → Next
@@ -45,14 +45,7 @@ blanked d b y l = sets l (b .low .x + d .x * y) (replicate (b .high .x + 1 - b .
 
 -- the lists of s once the vertices of vs and the entries of ps are written
 abbrev pub written : Field → Box → Next → List GridPoint → List GridPoint → Lists → Lists
-written g b next vs ps s =
-    record {
-      positions = sets (s .positions) (3 * next .place) (flatVectors (map (vertexPosition g) vs));
-      normals = sets (s .normals) (3 * next .place) (flatVectors (map (vertexNormal g) vs));
-      cells = sets (s .cells) (3 * next .place) (flatPoints vs);
-      strides = sets (s .strides) (next .place) (map (index (g .dims)) vs);
-      map = entered (g .dims) (hasVertex g b) (next .number) ps (s .map);
-    }
+written g b next vs ps s = listed g (next .place) vs (entered (g .dims) (hasVertex g b) (next .number) ps (s .map)) s
 
 -- the lists of s once the points of ps are passed
 unfoldable pub passed : Field → Box → Next → List GridPoint → Lists → Lists
@@ -72,9 +65,10 @@ cellLeft d c at stride next s =
       normals = sets (s .normals) (3 * next .place) (normal d (centroid d) .x ∷ normal d (centroid d) .y ∷ normal d (centroid d) .z ∷ []);
       cells = sets (s .cells) (3 * next .place) (c .x ∷ c .y ∷ c .z ∷ []);
       strides = set (s .strides) (next .place) stride;
+      crossings = set (s .crossings) (next .place) (crossings d);
       map = set (s .map) at (next .number);
     })
-    (record { positions = s .positions; normals = s .normals; cells = s .cells; strides = s .strides; map = set (s .map) at nullVertex })
+    (withMap (set (s .map) at nullVertex) s)
 
 pub record CellReady (d : List Float) (dims c : GridPoint) (at : ℕ) (next : Next) (s : Lists) : Type 0 where
   pub here : at < length (s .map)

@@ -9,7 +9,7 @@ use lib.Seq.{sets}
 use lib.Ieee.{Float}
 use Rattle.rules.specs.Lists.{placed}
 use Rattle.rules.specs.Grid.{GridPoint, Box, Field, index, isCell, inBox}
-use Rattle.rules.specs.Vertices.{surfaceCell, layerVertices, vertexPosition, vertexNormal, vertexNumber, nullVertex, edgeEntry}
+use Rattle.rules.specs.Vertices.{surfaceCell, layerVertices, vertexPosition, vertexNormal, vertexCrossings, vertexNumber, nullVertex, edgeEntry}
 use Rattle.rules.specs.Call.{badDimensions, badBox, flatVectors, flatPoints}
 use Rattle.grid.specs.declared.Block.{Block}
 use Rattle.grid.specs.Block.{point, boxOf}
@@ -22,10 +22,16 @@ pub record Lists : Type 0 where
   pub normals : List Float
   pub cells : List ℕ
   pub strides : List ℕ
+  pub crossings : List ℕ
   pub map : List ℕ
 
-abbrev pub lists : List Float → List Float → List ℕ → List ℕ → List ℕ → Lists
-lists positions normals cells strides map = record { positions = positions; normals = normals; cells = cells; strides = strides; map = map }
+abbrev pub lists : List Float → List Float → List ℕ → List ℕ → List ℕ → List ℕ → Lists
+lists positions normals cells strides crossings map =
+    record { positions = positions; normals = normals; cells = cells; strides = strides; crossings = crossings; map = map }
+
+-- the same lists with another map
+abbrev pub withMap : List ℕ → Lists → Lists
+withMap map s = lists (s .positions) (s .normals) (s .cells) (s .strides) (s .crossings) map
 
 -- ---- the map
 
@@ -55,16 +61,20 @@ pub record InPart (map : List ℕ) (k : Block) : Type 0 where
 
 -- ---- all lists
 
--- stores in a row (`sets`) from a place on, three for each vector and each point
-unfoldable pub marked : Field → Box → ℕ → Next → Lists → Lists
-marked g b z next s =
+-- the vertices of vs in the lists from a place on, by stores in a row (`sets`), three for each vector and each point; and a map
+abbrev pub listed : Field → ℕ → List GridPoint → List ℕ → Lists → Lists
+listed g place vs entries s =
     record {
-      positions = sets (s .positions) (3 * next .place) (flatVectors (map (vertexPosition g) (layerVertices g b z)));
-      normals = sets (s .normals) (3 * next .place) (flatVectors (map (vertexNormal g) (layerVertices g b z)));
-      cells = sets (s .cells) (3 * next .place) (flatPoints (layerVertices g b z));
-      strides = sets (s .strides) (next .place) (map (index (g .dims)) (layerVertices g b z));
-      map = placed (layerEntry g b z (next .number)) 0 (s .map);
+      positions = sets (s .positions) (3 * place) (flatVectors (map (vertexPosition g) vs));
+      normals = sets (s .normals) (3 * place) (flatVectors (map (vertexNormal g) vs));
+      cells = sets (s .cells) (3 * place) (flatPoints vs);
+      strides = sets (s .strides) place (map (index (g .dims)) vs);
+      crossings = sets (s .crossings) place (map (vertexCrossings g) vs);
+      map = entries;
     }
+
+unfoldable pub marked : Field → Box → ℕ → Next → Lists → Lists
+marked g b z next s = listed g (next .place) (layerVertices g b z) (placed (layerEntry g b z (next .number)) 0 (s .map)) s
 
 -- there is room for n vertices from a place on, and none of their numbers is that of no vertex
 pub record Room (next : Next) (n : ℕ) (s : Lists) : Type 0 where
@@ -72,4 +82,5 @@ pub record Room (next : Next) (n : ℕ) (s : Lists) : Type 0 where
   pub normals : 3 * (next .place + n) ≤ length (s .normals)
   pub cells : 3 * (next .place + n) ≤ length (s .cells)
   pub strides : next .place + n ≤ length (s .strides)
+  pub crossings : next .place + n ≤ length (s .crossings)
   pub numbers : next .number + n ≤ nullVertex

@@ -6,13 +6,14 @@ ghost use Prim.Native.Nat.{_+_, _*_, _<_, _≤_};
 ghost use lib.ListN.{length, set};
 ghost use lib.Seq.{sets};
 ghost use Rattle.rules.specs.Lists.{one, placed};
-ghost use Rattle.rules.specs.Cell.{surface, centroid, position, normal};
+ghost use Rattle.rules.specs.Cell.{surface, crossings as crossed, centroid, position, normal};
 ghost use Rattle.rules.specs.Vertices.{rowCells, layerVertices};
 ghost use Rattle.rules.specs.Grid.{index};
 ghost use Rattle.grid.specs.Block.{point, boxOf};
 ghost use Rattle.grid.specs.Inside.{PointInside};
 ghost use Rattle.grid.specs.Layers.{inLayer, twoLayers, InLayers};
-ghost use Rattle.layer_vertices.specs.Marked.{lists, marked, lastEntry, Room, InPart};
+ghost use Rattle.layer_vertices.specs.Marked.{marked, lastEntry, Room, InPart};
+ghost use Rattle.layer_vertices.specs.Lent.{listsGiven, listsBefore, listsAfter};
 ghost use Rattle.layer_vertices.specs.Cells.{advanced, pointsOf, passed, blanked, found, cellLeft, CellReady};
 use grid::Block;
 use grid::Extent;
@@ -27,21 +28,28 @@ pub struct Next {
     pub number: u32,
 }
 
-// A surface cell's position and normal, at a place of their lists.
+// A surface cell's position, normal and number of crossings, at a place of their lists.
 fn estimate_surface_in_cube(
     d: &[f32; 8],
     c: Extent,
     place: usize,
     positions: &mut [f32],
     normals: &mut [f32],
+    crossings: &mut [u8],
 )
-    requires { ⌜ (3 * place + 2 < length (now positions)) × (3 * place + 2 < length (now normals)) ⌝ }
-    ensures { λ _. ⌜ now (positions .exit) ≡ sets (now (positions .entry)) (3 * place) (position (point c) (centroid (now (d .entry))) .x ∷ position (point c) (centroid (now (d .entry))) .y ∷ position (point c) (centroid (now (d .entry))) .z ∷ []) ⌝ }
-    ensures { λ _. ⌜ now (normals .exit) ≡ sets (now (normals .entry)) (3 * place) (normal (now (d .entry)) (centroid (now (d .entry))) .x ∷ normal (now (d .entry)) (centroid (now (d .entry))) .y ∷ normal (now (d .entry)) (centroid (now (d .entry))) .z ∷ []) ⌝ }
+    requires { ⌜ (3 * place + 2 < length (now positions)) × ((3 * place + 2 < length (now normals)) × (place < length (now crossings))) ⌝ }
+    ensures { λ _. ⌜ (let p = position (point c) (centroid (now (d .entry))) in
+        now (positions .exit) ≡ sets (now (positions .entry)) (3 * place) (p .x ∷ p .y ∷ p .z ∷ [])) ⌝ }
+    ensures { λ _. ⌜ (let n = normal (now (d .entry)) (centroid (now (d .entry))) in
+        now (normals .exit) ≡ sets (now (normals .entry)) (3 * place) (n .x ∷ n .y ∷ n .z ∷ [])) ⌝ }
+    ensures { λ _. ⌜ now (crossings .exit) ≡ set (now (crossings .entry)) place (crossed (now (d .entry))) ⌝ }
 {
-    let s = cube::centroid_of_edge_intersections(d);
-    stores::put_vector(positions, 3 * place, cube::position_in(c.x, c.y, c.z, s));
-    stores::put_vector(normals, 3 * place, cube::sdf_gradient(d, s));
+    let from = 3 * place;
+    let average = cube::centroid_of_edge_intersections(d);
+    let s = average.point;
+    stores::put_vector(positions, from, cube::position_in(c.x, c.y, c.z, s));
+    stores::put_vector(normals, from, cube::sdf_gradient(d, s));
+    crossings[place] = average.crossings;
 }
 
 // Its cell and its stride, at the same place.
@@ -67,10 +75,12 @@ fn mark_cell(
     normals: &mut [f32],
     cells: &mut [u32],
     strides: &mut [u32],
+    crossings: &mut [u8],
     map: &mut [u32],
 ) -> Next
-    requires { ⌜ CellReady (now d) (point dims) (point c) at next (lists (now positions) (now normals) (now cells) (now strides) (now map)) ⌝ }
-    ensures { λ r. ⌜ lists (now (positions .exit)) (now (normals .exit)) (now (cells .exit)) (now (strides .exit)) (now (map .exit)) ≡ cellLeft (now (d .entry)) (point c) at (index (point dims) (point c)) next (lists (now (positions .entry)) (now (normals .entry)) (now (cells .entry)) (now (strides .entry)) (now (map .entry))) ⌝ }
+    requires { ⌜ CellReady (now d) (point dims) (point c) at next (listsGiven positions normals cells strides crossings map) ⌝ }
+    ensures { λ r. ⌜ listsAfter positions normals cells strides crossings map
+        ≡ cellLeft (now (d .entry)) (point c) at (index (point dims) (point c)) next (listsBefore positions normals cells strides crossings map) ⌝ }
     ensures { λ r. ⌜ r ≡ advanced next (one (surface (now (d .entry)))) ⌝ }
 {
     if !cube::is_surface(d) {
@@ -78,7 +88,7 @@ fn mark_cell(
         return next;
     }
     let place = next.place;
-    estimate_surface_in_cube(d, c, place, positions, normals);
+    estimate_surface_in_cube(d, c, place, positions, normals, crossings);
     put_cell(dims, c, place, cells, strides);
     map[at] = next.number;
     Next {
@@ -99,13 +109,17 @@ fn mark_row(
     normals: &mut [f32],
     cells: &mut [u32],
     strides: &mut [u32],
+    crossings: &mut [u8],
     map: &mut [u32],
 ) -> Next
     requires { ⌜ InLayers (now lower) (now upper) k z ⌝ }
     requires { ⌜ (k .low .y ≤ y) × (y < k .high .y) ⌝ }
     requires { ⌜ inLayer (point (k .dims)) (point (k .high)) < length (now map) ⌝ }
-    requires { ⌜ Room next (found (twoLayers (now lower) (now upper) k z) (boxOf k) (rowCells (pointsOf (boxOf k)) z y)) (lists (now positions) (now normals) (now cells) (now strides) (now map)) ⌝ }
-    ensures { λ r. ⌜ lists (now (positions .exit)) (now (normals .exit)) (now (cells .exit)) (now (strides .exit)) (now (map .exit)) ≡ passed (twoLayers (now (lower .entry)) (now (upper .entry)) k z) (boxOf k) next (rowCells (pointsOf (boxOf k)) z y) (lists (now (positions .entry)) (now (normals .entry)) (now (cells .entry)) (now (strides .entry)) (now (map .entry))) ⌝ }
+    requires { ⌜ Room next (found (twoLayers (now lower) (now upper) k z) (boxOf k) (rowCells (pointsOf (boxOf k)) z y))
+        (listsGiven positions normals cells strides crossings map) ⌝ }
+    ensures { λ r. ⌜ listsAfter positions normals cells strides crossings map
+        ≡ passed (twoLayers (now (lower .entry)) (now (upper .entry)) k z) (boxOf k) next (rowCells (pointsOf (boxOf k)) z y)
+        (listsBefore positions normals cells strides crossings map) ⌝ }
     ensures { λ r. ⌜ r ≡ advanced next (found (twoLayers (now (lower .entry)) (now (upper .entry)) k z) (boxOf k) (rowCells (pointsOf (boxOf k)) z y)) ⌝ }
 {
     let from = k.low.x;
@@ -127,6 +141,7 @@ fn mark_row(
             normals,
             cells,
             strides,
+            crossings,
             map,
         );
         low = high;
@@ -164,12 +179,14 @@ pub fn mark_layer(
     normals: &mut [f32],
     cells: &mut [u32],
     strides: &mut [u32],
+    crossings: &mut [u8],
     map: &mut [u32],
 ) -> usize
     requires { ⌜ InLayers (now lower) (now upper) k z ⌝ }
     requires { ⌜ inLayer (point (k .dims)) (point (k .high)) < length (now map) ⌝ }
-    requires { ⌜ Room next (length (layerVertices (twoLayers (now lower) (now upper) k z) (boxOf k) z)) (lists (now positions) (now normals) (now cells) (now strides) (now map)) ⌝ }
-    ensures { λ r. ⌜ lists (now (positions .exit)) (now (normals .exit)) (now (cells .exit)) (now (strides .exit)) (now (map .exit)) ≡ marked (twoLayers (now (lower .entry)) (now (upper .entry)) k z) (boxOf k) z next (lists (now (positions .entry)) (now (normals .entry)) (now (cells .entry)) (now (strides .entry)) (now (map .entry))) ⌝ }
+    requires { ⌜ Room next (length (layerVertices (twoLayers (now lower) (now upper) k z) (boxOf k) z)) (listsGiven positions normals cells strides crossings map) ⌝ }
+    ensures { λ r. ⌜ listsAfter positions normals cells strides crossings map
+        ≡ marked (twoLayers (now (lower .entry)) (now (upper .entry)) k z) (boxOf k) z next (listsBefore positions normals cells strides crossings map) ⌝ }
     ensures { λ r. ⌜ r ≡ length (layerVertices (twoLayers (now (lower .entry)) (now (upper .entry)) k z) (boxOf k) z) ⌝ }
 {
     let from = k.low.y;
@@ -188,6 +205,7 @@ pub fn mark_layer(
             normals,
             cells,
             strides,
+            crossings,
             map,
         );
     }

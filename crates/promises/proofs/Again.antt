@@ -73,7 +73,15 @@ written-room c s e =
     let ys : 1 ≤ c .grid .dims .y = omega (arith, f .y .1) in
     let up : 0 < c .grid .dims .x * c .grid .dims .y = omega (arith, mul-le-mul-left (c .grid .dims .x) ys, mul-one (c .grid .dims .x)) in
     let roomy : Roomy (c .grid) (c .box) (c .flags) (c .size) s =
-    record { positions = h .positions; normals = h .normals; cells = h .cells; strides = h .strides; map = nltb→le (length (s .map)) (c .size) (a .map); indices = h .indices } in
+    record {
+      positions = h .positions;
+      normals = h .normals;
+      cells = h .cells;
+      strides = h .strides;
+      crossings = h .crossings;
+      map = nltb→le (length (s .map)) (c .size) (a .map);
+      indices = h .indices;
+    } in
     let w : Written c z s (madeTo c z) (writtenTo c z s) = record { roomy = roomy; same = refl; on = refl } in
     let n = written-lengths c z (f .z .0) (le-refl z) w in
     ap room (sym (written-all c xs ys up s refl refl))
@@ -83,6 +91,7 @@ written-room c s e =
       normals = n .normals i;
       cells = n .cells i;
       strides = n .strides i;
+      crossings = n .crossings i;
       map = (length-placed (lastAt (c .grid .dims) (c .box)) 0 (writtenTo c z s .map) ∙ n .map) i;
       indices = n .indices i;
     }
@@ -106,7 +115,7 @@ module _ (first second alone : Served) (next : second .before ≡ first .after) 
   pub again-answer : second .says ≡ alone .says
   again-answer = same-answer second alone same rooms
 
-  -- the first 3V, 3V, 3V, V and I numbers, and the map at each point of the second's box
+  -- the first 3V, 3V, 3V, V, V and I numbers, and the map at each point of the second's box
   pub again-written : Done second → SameWritten (second .call) (second .after) (alone .after)
   again-written = same-written second alone same rooms
 

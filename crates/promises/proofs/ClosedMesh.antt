@@ -27,10 +27,10 @@ use Rattle.promises.proofs.Done.{done-accepts, done-counts, done-writes
 -- ---- three numbers for each vertex
 
 -- any cell, where a list is too short
-origin : GridPoint
+pub origin : GridPoint
 origin = record { x = 0; y = 0; z = 0 }
 
-points-at : (vs : List GridPoint) (old : List ℕ) (v : ℕ) → v < length vs
+pub points-at : (vs : List GridPoint) (old : List ℕ) (v : ℕ) → v < length vs
     → ThreeAt (λ (c : GridPoint). c .x) (λ (c : GridPoint). c .y) (λ (c : GridPoint). c .z) (over (flatPoints vs) old) v 0 (getD vs v origin)
 points-at vs old v k =
     three-over (λ (c : GridPoint). c .x) (λ (c : GridPoint). c .y) (λ (c : GridPoint). c .z) (flatPoints vs) (drop (length (flatPoints vs)) old) v 0 (getD vs v origin)

@@ -3,7 +3,7 @@
 -- the lists of all the pieces are those of the whole, each once. For any flags (document 02, request 4): "on the cut axis the lower piece has its flag off and
 -- the upper keeps the whole's; on the other axes both keep the whole's". Document 01's law is the case with none. The same for any plan, of which a run of cuts is a case. From the laws of cutting and of
 -- what is read back. Assumes nothing.
-use Prim.Native.Nat.{ℕ, _+_, _*_, _≤_}
+use Prim.Native.Nat.{ℕ, _+_, _*_, _≤_, _<_}
 use mathlib.Core.Bool.{false}
 use mathlib.Core.List.{List, [], _∷_, _++_, map}
 use mathlib.Core.Path.{_≡_, refl, sym, ap, ap₂, _∙_}
@@ -24,9 +24,10 @@ use Rattle.rules.proofs.Cutting.{cuts-plan, mesh-law, number-law, last-upper}
 use Rattle.grid.specs.declared.Extent.{Extent}
 use Rattle.grid.specs.Block.{point, flags}
 use Rattle.judge.proofs.Judging.{room-enough}
-use Rattle.promises.specs.Served.{Served, Done, pieceOf, facesRead}
+use Rattle.promises.specs.Served.{Served, Done, pieceOf, facesRead, cellRead, crossingsRead}
 use Rattle.promises.proofs.Runs.{Run, gridOf, dimsOf, lowOf, highOf, planeOf, served, BedRun, bedGrid, bedDims, bedLow, bedHigh, bedPlane, bedServed}
 use Rattle.promises.proofs.ReadBack.{faces-back, all-read}
+use Rattle.promises.proofs.Crossings.{one-number}
 
 -- ---- a call on a piece
 
@@ -42,26 +43,31 @@ fieldIn grid dims = record { dims = point dims; dist = λ i. getD grid i nan }
 abbrev pub pieceCall : List Float → Extent → Piece → Call
 pieceCall grid dims q = record { grid = fieldIn grid dims; size = length grid; box = q .box; flags = q .flags }
 
--- the lent lists have room: the map for the grid, and the five other lists for V and I
+-- the lent lists have room: the map for the grid, and the six other lists for V and I
 pub record HasRoom (c : Call) (r : Room) : Type 0 where
   pub map : c .size ≤ r .map
   pub positions : 3 * vertexCount c ≤ r .positions
   pub normals : 3 * vertexCount c ≤ r .normals
   pub cells : 3 * vertexCount c ≤ r .cells
   pub strides : vertexCount c ≤ r .strides
+  pub crossings : vertexCount c ≤ r .crossings
   pub indices : indexCount c ≤ r .indices
 
 -- then an accepted call is done
 room-done : (c : Call) (r : Room) → Accepted (c .grid) (c .size) (r .map) (c .box) → HasRoom c r → answer c r .number ≡ 0
 room-done c r a h =
     ap (λ (t : Answer). t .number)
-    (accepted-answer c r a ∙ sym (room-enough r (vertexCount c) (indexCount c) (h .positions) (h .normals) (h .cells) (h .strides) (h .indices)))
+    (accepted-answer c r a ∙ sym (room-enough r (vertexCount c) (indexCount c) (h .positions) (h .normals) (h .cells) (h .strides) (h .crossings) (h .indices)))
 
 -- conditions 1 to 5 do not hold of a box of this grid, with a map as long as the grid
 abbrev pub Passing : List Float → Extent → Box → Type 0
 Passing grid dims b = Accepted (fieldIn grid dims) (length grid) (length grid) b
 
 -- ---- what is concluded
+
+-- where a vertex of the one and a vertex of the other have the same cell, they have the same number of crossings
+abbrev pub SameNumbers : Served → Served → Type 0
+SameNumbers u u' = (v v' : ℕ) → v < u .says .vertices → v' < u' .says .vertices → cellRead u v ≡ cellRead u' v' → crossingsRead u v ≡ crossingsRead u' v'
 
 -- of a box of a grid with its flags, and what came of the calls on its pieces
 pub record CutMesh (g : Field) (w : Piece) (us : List Served) : Type 0 where
@@ -77,6 +83,8 @@ pub record CutMesh (g : Field) (w : Piece) (us : List Served) : Type 0 where
   pub number : length (joined facesRead us) ≡ changingEdges g (w .box) (w .flags)
   -- and the pieces' I, as answered, add up to six for each: no six of a list is without its edge
   pub indices : total (λ (u : Served). u .says .indices) us ≡ 6 * changingEdges g (w .box) (w .flags)
+  -- document 02, request 13: "a cell in two pieces has the same number in both", each read beside the cell in its piece's own lists
+  pub crossings : All (λ (u : Served). All (SameNumbers u) us) us
 
 -- in the faces that a box's edges define
 defined-once : (g : Field) (w : Piece) (e : Edge)
@@ -128,6 +136,11 @@ module _ {U : Type 0} (made : U → Served) (grid : List Float) (dims : Extent) 
   all-done [] none none = none
   all-done (q ∷ qs) (more m ms) (more h hs) = more (piece-done q m h) (all-done qs ms hs)
 
+  -- done, and on this grid
+  all-here : (ps : List Piece) (ms : All Meshed ps) → All Done (outcomes ps ms) → All (λ (u : Served). Done u × (u .call .grid ≡ fieldIn grid dims)) (outcomes ps ms)
+  all-here [] none none = none
+  all-here (q ∷ qs) (more m ms) (more d ds) = more (d, ap (λ (c : Call). c .grid) (m .asked)) (all-here qs ms ds)
+
   all-faces : (ps : List Piece) (ms : All Meshed ps) → All Done (outcomes ps ms) → joined facesRead (outcomes ps ms) ≡ joined (seen (fieldIn grid dims)) ps
   unfolding joined
   all-faces [] none none = refl
@@ -151,6 +164,7 @@ module _ {U : Type 0} (made : U → Served) (grid : List Float) (dims : Extent) 
         once = λ (x : Edge). perm-many (λ (f : Face). sameEdge x (f .edge)) p ∙ defined-once g w x;
         number = n;
         indices = indices-total us d ∙ ap (λ (k : ℕ). 6 * k) n;
+        crossings = let here = all-here ps ms d in all-then (λ u h. all-then (λ u' h'. one-number u u' (h .0) (h' .0) (h .1 ∙ sym (h' .1))) here) here;
       }
 
   -- beside a call for the whole, with room: it is done too, and its lists show the same faces

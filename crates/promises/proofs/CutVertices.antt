@@ -1,5 +1,5 @@
 -- Document 01, "Both pieces hold the cells of layer k, so vertices there come twice", of what the two calls on the pieces of a cut have written: the vertices in
--- their lists, by cell, position and normal, are those of the whole, and once more those of the layer k. Any flags: vertices know none. Assumes nothing.
+-- their lists, by cell, position, normal and number of crossings, are those of the whole, and once more those of the layer k. Any flags: vertices know none. Assumes nothing.
 use Prim.Native.Nat.{ℕ, _≤_, _<_}
 use mathlib.Core.List.{List, _++_, map, map-append}
 use mathlib.Core.Path.{_≡_, ap, _∙_}

@@ -1,5 +1,6 @@
 -- What follows from the public contracts themselves: one outcome alone fits each; of the call, what it depends on, what the map shows, that a second call
--- leaves what it alone would, that flat boxes give 0, 0, that every position lies in its cell, and the cutting law of what is written, faces and vertices.
+-- leaves what it alone would, that flat boxes give 0, 0, that every position lies in its cell, the number of crossings, and the cutting law of what is
+-- written, faces and vertices.
 pub mod OneOutcome
 pub mod Once
 pub mod Runs
@@ -9,5 +10,6 @@ pub mod Again
 pub mod Flat
 pub mod ClosedMesh
 pub mod ReadBack
+pub mod Crossings
 pub mod CutMesh
 pub mod CutVertices

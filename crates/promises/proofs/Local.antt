@@ -25,7 +25,7 @@ module _ (u u' : Served) (same : Alike (u .call) (u' .call)) (rooms : room (u .b
   pub same-answer : u .says ≡ u' .says
   same-answer = u .answered ∙ answer-local (u .call) (u' .call) same (room (u .before)) ∙ ap (answer (u' .call)) rooms ∙ sym (u' .answered)
 
-  -- the first 3V, 3V, 3V, V and I numbers, and the map at each point of the box: none of its old numbers there is left
+  -- the first 3V, 3V, 3V, V, V and I numbers, and the map at each point of the box: none of its old numbers there is left
   pub same-written : Done u → SameWritten (u .call) (u .after) (u' .after)
   same-written d = rw (u .left, u' .left) (local (u .call) (u' .call) (u .before) (u' .before) same rooms (rw (← u .answered) d))
 

@@ -160,12 +160,12 @@ put-three-once κs a o o' l l' = let s = l ∙ sym l' in λ i. record { result =
 pub put-six-once : OneOutcome 1 put-six-kinds.ps put-six-kinds.r put-six.Learnt
 put-six-once κs a o o' l l' = let s = l ∙ sym l' in λ i. record { result = tt; last = (s i, (tt, (tt, (tt, (tt, (tt, (tt, (tt, tt)))))))) }
 
--- a layer's vertices: how many, the four lists, and the layer's part of the map
-pub mark-layer-once : OneOutcome 7 mark-layer-kinds.ps mark-layer-kinds.r mark-layer.Learnt
+-- a layer's vertices: how many, the five lists, and the layer's part of the map
+pub mark-layer-once : OneOutcome 8 mark-layer-kinds.ps mark-layer-kinds.r mark-layer.Learnt
 mark-layer-once κs a o o' l l' =
     let b = l .0 ∙ sym (l' .0) in
     let n = l .1 ∙ sym (l' .1) in
-    λ i. record { result = n i; last = (tt, (tt, (tt, (tt, (tt, (b i .positions, (b i .normals, (b i .cells, (b i .strides, (b i .map, tt)))))))))) }
+    λ i. record { result = n i; last = (tt, (tt, (tt, (tt, (tt, (b i .positions, (b i .normals, (b i .cells, (b i .strides, (b i .crossings, (b i .map, tt))))))))))) }
 
 -- the last layer's part of the map
 pub clear-layer-once : OneOutcome 1 clear-layer-kinds.ps clear-layer-kinds.r clear-layer.Learnt
@@ -178,30 +178,30 @@ face-layer-once κs a o o' l l' =
     let n = l .1 ∙ sym (l' .1) in
     λ i. record { result = n i; last = (tt, (tt, (tt, (tt, (tt, (tt, (tt, (tt, (tt, (tt, (b i, (tt, tt)))))))))))) }
 
--- the whole box: the six lists
-pub mesh-box-once : OneOutcome 7 mesh-box-kinds.ps mesh-box-kinds.r mesh-box.Learnt
+-- the whole box: the seven lists
+pub mesh-box-once : OneOutcome 8 mesh-box-kinds.ps mesh-box-kinds.r mesh-box.Learnt
 mesh-box-once κs a o o' l l' =
     let b = l ∙ sym l' in
-    λ i. record { result = tt; last = (tt, (tt, (b i .positions, (b i .normals, (b i .cells, (b i .strides, (b i .map, (b i .indices, tt)))))))) }
+    λ i. record { result = tt; last = (tt, (tt, (b i .positions, (b i .normals, (b i .cells, (b i .strides, (b i .crossings, (b i .map, (b i .indices, tt))))))))) }
 
--- document 01's call: the answer with V and I, and the six lists
-pub surface-nets-once : OneOutcome 7 surface-nets-kinds.ps surface-nets-kinds.r surface-nets.Learnt
+-- document 01's call: the answer with V and I, and the seven lists
+pub surface-nets-once : OneOutcome 8 surface-nets-kinds.ps surface-nets-kinds.r surface-nets.Learnt
 surface-nets-once κs a o o' l l' =
     let s = l .0 ∙ sym (l' .0) in
     let b = l .1 .0 ∙ sym (l' .1 .0) in
     λ i.
     record {
       result = record { number = s i .number; «vertex_count» = s i .vertices; «index_count» = s i .indices };
-      last = (tt, (tt, (tt, (tt, (tt, (b i .positions, (b i .normals, (b i .cells, (b i .strides, (b i .map, (b i .indices, tt)))))))))));
+      last = (tt, (tt, (tt, (tt, (tt, (b i .positions, (b i .normals, (b i .cells, (b i .strides, (b i .crossings, (b i .map, (b i .indices, tt))))))))))));
     }
 
--- the function that C and Rust link: the answer number, the six lists, and V and I behind the last two
-pub bed-surface-nets-once : OneOutcome 9 bed-surface-nets-kinds.ps bed-surface-nets-kinds.r bed-surface-nets.Learnt
+-- the function that C and Rust link: the answer number, the seven lists, and V and I behind the last two
+pub bed-surface-nets-once : OneOutcome 10 bed-surface-nets-kinds.ps bed-surface-nets-kinds.r bed-surface-nets.Learnt
 bed-surface-nets-once κs a o o' l l' =
     let s = l .0 ∙ sym (l' .0) in
     let b = l .1 .0 ∙ sym (l' .1 .0) in
     λ i.
     record {
       result = s i .number;
-      last = (tt, (tt, (tt, (tt, (tt, (tt, (tt, (tt, (tt, (tt, (tt, (tt, (tt, (b i .positions, (b i .normals, (b i .cells, (b i .strides, (b i .map, (b i .indices, (s i .vertices, (s i .indices, tt)))))))))))))))))))));
+      last = (tt, (tt, (tt, (tt, (tt, (tt, (tt, (tt, (tt, (tt, (tt, (tt, (tt, (b i .positions, (b i .normals, (b i .cells, (b i .strides, (b i .crossings, (b i .map, (b i .indices, (s i .vertices, (s i .indices, tt))))))))))))))))))))));
     }

@@ -1,16 +1,16 @@
--- What is read from what a call has written, its own lists afterwards and nothing else: the first 3V, 3V, 3V and I numbers are those of the rules, so the
+-- What is read from what a call has written, its own lists afterwards and nothing else: the first 3V, 3V, 3V, V and I numbers are those of the rules, so the
 -- vertices and faces that they show are those of its box. What stands behind the written numbers is never looked up. Assumes nothing.
 use Prim.Native.Nat.{ℕ, _*_}
 use native.Mathlib.Omega.{arith}
 use mathlib.Core.List.{List, map}
 use mathlib.Core.Path.{_≡_, refl, ap, ap₂, _∙_}
 use lib.Ieee.{Float}
-use lib.ListN.{length, take, drop}
+use lib.ListN.{length, length-map, take, drop}
 use lib.Seq.{take-at}
 use Rattle.rules.specs.Lists.{over}
 use Rattle.rules.specs.Grid.{GridPoint}
 use Rattle.rules.specs.Cell.{Vector}
-use Rattle.rules.specs.Vertices.{vertices, vertexPosition, vertexNormal}
+use Rattle.rules.specs.Vertices.{vertices, vertexPosition, vertexNormal, vertexCrossings}
 use Rattle.rules.specs.Faces.{indices}
 use Rattle.rules.specs.Call.{Buffers, flatPoints, flatVectors, written}
 use Rattle.rules.specs.Cutting.{facesSeen, vertexOf, verticesSeen}
@@ -48,6 +48,13 @@ module _ (u : Served) (done : Done u) where
       ap₂ (λ (n : ℕ) (s : Buffers). take (3 * n) (s .cells)) (done-counts u done .0) (done-writes u done)
       ∙ take-at (flatPoints vs) (drop (length (flatPoints vs)) (u .before .cells)) (3 * length vs) (length-points vs)
 
+  pub crossings-back : take (u .says .vertices) (u .after .crossings) ≡ map (vertexCrossings (u .call .grid)) vs
+  unfolding written
+  crossings-back =
+      let numbers = map (vertexCrossings (u .call .grid)) vs in
+      ap₂ (λ (n : ℕ) (s : Buffers). take n (s .crossings)) (done-counts u done .0) (done-writes u done)
+      ∙ take-at numbers (drop (length numbers) (u .before .crossings)) (length vs) (length-map vs (vertexCrossings (u .call .grid)))
+
   pub indices-back : take (u .says .indices) (u .after .indices) ≡ is
   unfolding written
   indices-back =
@@ -59,7 +66,7 @@ module _ (u : Served) (done : Done u) where
 
   pub vertices-back : verticesRead u ≡ map (vertexOf (u .call .grid)) vs
   vertices-back =
-      (λ i. verticesSeen (done-counts u done .0 i) (cells-back i) (positions-back i) (normals-back i)) ∙ vertices-seen (u .call .grid) vs
+      (λ i. verticesSeen (done-counts u done .0 i) (cells-back i) (positions-back i) (normals-back i) (crossings-back i)) ∙ vertices-seen (u .call .grid) vs
 
   -- no index is left unread: each face takes six of the I
   pub all-read : u .says .indices ≡ 6 * length (facesRead u)

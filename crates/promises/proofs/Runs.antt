@@ -7,7 +7,7 @@ use borrow.Fn.Kinds.{Dens}
 use Rattle.grid.specs.declared.Extent.{Extent}
 use Rattle.grid.specs.declared.MaxPlane.{MaxPlane}
 use Rattle.judge.specs.Reading.{answerOf}
-use Rattle.whole_box.specs.Reading.{buffers}
+use Rattle.whole_box.specs.Reading.{buffers, buffersGiven}
 use Rattle.surface_nets.specs.Reading.{callMade}
 use Rattle.bed.specs.Boundary.{extent, planes, said}
 use Rattle.promises.specs.Served.{Served}
@@ -21,10 +21,10 @@ use Rattle.bed.proofs.bed_surface_nets.Reads as bed-surface-nets
 
 -- arguments, an outcome, and that it fits the contract
 pub record Run : Type 0 where
-  pub lifetimes : Lfts 7
+  pub lifetimes : Lfts 8
   pub args : Dens lifetimes surface-nets-kinds.ps
-  pub outcome : Outcome 7 surface-nets-kinds.ps surface-nets-kinds.r lifetimes args
-  pub fits : FitsContract 7 surface-nets-kinds.ps surface-nets-kinds.r surface-nets.Learnt lifetimes args outcome
+  pub outcome : Outcome 8 surface-nets-kinds.ps surface-nets-kinds.r lifetimes args
+  pub fits : FitsContract 8 surface-nets-kinds.ps surface-nets-kinds.r surface-nets.Learnt lifetimes args outcome
 
 -- the arguments that are not lent for writing
 abbrev pub gridOf : Run → List Float
@@ -44,13 +44,13 @@ planeOf u = u .args .1 .1 .1 .1 .0
 
 abbrev pub served : Run → Served
 served u =
-    let lent = u .args .1 .1 .1 .1 .1 in
-    let last = u .outcome .last .1 .1 .1 .1 .1 in
+    let (positions, (normals, (cells, (strides, (crossings, (map, (indices, _))))))) = u .args .1 .1 .1 .1 .1 in
+    let (positions', (normals', (cells', (strides', (crossings', (map', (indices', _))))))) = u .outcome .last .1 .1 .1 .1 .1 in
     record {
       call = callMade (gridOf u) (dimsOf u) (lowOf u) (highOf u) (planeOf u);
-      before = buffers (lent .0 .now) (lent .1 .0 .now) (lent .1 .1 .0 .now) (lent .1 .1 .1 .0 .now) (lent .1 .1 .1 .1 .0 .now) (lent .1 .1 .1 .1 .1 .0 .now);
+      before = buffersGiven positions normals cells strides crossings map indices;
       says = answerOf (u .outcome .result);
-      after = buffers (last .0) (last .1 .0) (last .1 .1 .0) (last .1 .1 .1 .0) (last .1 .1 .1 .1 .0) (last .1 .1 .1 .1 .1 .0);
+      after = buffers positions' normals' cells' strides' crossings' map' indices';
       answered = u .fits .0;
       left = u .fits .1 .0;
       numbers = u .fits .1 .1;
@@ -59,10 +59,10 @@ served u =
 -- ---- bed_surface_nets
 
 pub record BedRun : Type 0 where
-  pub lifetimes : Lfts 9
+  pub lifetimes : Lfts 10
   pub args : Dens lifetimes bed-surface-nets-kinds.ps
-  pub outcome : Outcome 9 bed-surface-nets-kinds.ps bed-surface-nets-kinds.r lifetimes args
-  pub fits : FitsContract 9 bed-surface-nets-kinds.ps bed-surface-nets-kinds.r bed-surface-nets.Learnt lifetimes args outcome
+  pub outcome : Outcome 10 bed-surface-nets-kinds.ps bed-surface-nets-kinds.r lifetimes args
+  pub fits : FitsContract 10 bed-surface-nets-kinds.ps bed-surface-nets-kinds.r bed-surface-nets.Learnt lifetimes args outcome
 
 abbrev pub bedGrid : BedRun → List Float
 bedGrid u = u .args .0 .now
@@ -83,13 +83,13 @@ bedPlane u = let n = u .args .1 .1 .1 .1 .1 .1 .1 .1 .1 .1 in planes (n .0) (n .
 -- V and I stand behind the last two parameters
 abbrev pub bedServed : BedRun → Served
 bedServed u =
-    let lent = u .args .1 .1 .1 .1 .1 .1 .1 .1 .1 .1 .1 .1 .1 in
-    let last = u .outcome .last .1 .1 .1 .1 .1 .1 .1 .1 .1 .1 .1 .1 .1 in
+    let (positions, (normals, (cells, (strides, (crossings, (map, (indices, _))))))) = u .args .1 .1 .1 .1 .1 .1 .1 .1 .1 .1 .1 .1 .1 in
+    let (positions', (normals', (cells', (strides', (crossings', (map', (indices', (v, (i, _))))))))) = u .outcome .last .1 .1 .1 .1 .1 .1 .1 .1 .1 .1 .1 .1 .1 in
     record {
       call = callMade (bedGrid u) (bedDims u) (bedLow u) (bedHigh u) (bedPlane u);
-      before = buffers (lent .0 .now) (lent .1 .0 .now) (lent .1 .1 .0 .now) (lent .1 .1 .1 .0 .now) (lent .1 .1 .1 .1 .0 .now) (lent .1 .1 .1 .1 .1 .0 .now);
-      says = said (u .outcome .result) (last .1 .1 .1 .1 .1 .1 .0) (last .1 .1 .1 .1 .1 .1 .1 .0);
-      after = buffers (last .0) (last .1 .0) (last .1 .1 .0) (last .1 .1 .1 .0) (last .1 .1 .1 .1 .0) (last .1 .1 .1 .1 .1 .0);
+      before = buffersGiven positions normals cells strides crossings map indices;
+      says = said (u .outcome .result) v i;
+      after = buffers positions' normals' cells' strides' crossings' map' indices';
       answered = u .fits .0;
       left = u .fits .1 .0;
       numbers = u .fits .1 .1;

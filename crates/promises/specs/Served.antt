@@ -5,9 +5,10 @@ use mathlib.Core.Path.{_≡_}
 use mathlib.Core.List.{List}
 use lib.Dec.{T}
 use lib.Ieee.{binary32, fits}
-use lib.ListN.{take}
+use lib.ListN.{getD, take}
+use Rattle.rules.specs.Grid.{GridPoint}
 use Rattle.rules.specs.Call.{Call, Buffers, Answer, answer, afterwards, room}
-use Rattle.rules.specs.Cutting.{Piece, Face, facesSeen, Vertex, verticesSeen}
+use Rattle.rules.specs.Cutting.{Piece, Face, pointIn, facesSeen, Vertex, verticesSeen}
 
 -- what went in, the lent lists as they were, the answer with V and I, and the lent lists afterwards; the last three are what the
 -- contracts of surface_nets and bed_surface_nets say: the two equations, and that the grid's numbers are binary32 values
@@ -35,8 +36,15 @@ facesRead u =
     let n = 3 * u .says .vertices in
     facesSeen (take n (u .after .cells)) (take n (u .after .positions)) (take (u .says .indices) (u .after .indices))
 
--- the vertices of a mesh: three numbers each of the first 3V of cells, positions and normals
+-- the cell of the vertex v and its number of crossings, as they stand in the lists
+abbrev pub cellRead : Served → ℕ → GridPoint
+cellRead u v = pointIn (u .after .cells) v
+
+abbrev pub crossingsRead : Served → ℕ → ℕ
+crossingsRead u v = getD (u .after .crossings) v 0
+
+-- the vertices of a mesh: three numbers each of the first 3V of cells, positions and normals, and one of the first V of the crossings
 abbrev pub verticesRead : Served → List Vertex
 verticesRead u =
     let n = 3 * u .says .vertices in
-    verticesSeen (u .says .vertices) (take n (u .after .cells)) (take n (u .after .positions)) (take n (u .after .normals))
+    verticesSeen (u .says .vertices) (take n (u .after .cells)) (take n (u .after .positions)) (take n (u .after .normals)) (take (u .says .vertices) (u .after .crossings))

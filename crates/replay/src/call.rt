@@ -33,6 +33,12 @@ fn lent_words(list: &mut [u32], length: usize) -> &mut [u32] {
     &mut list[0..n]
 }
 
+// The crossings are not stored: as many are lent as strides, so that no stored answer is another for them.
+fn lent_bytes(list: &mut [u8], length: usize) -> &mut [u8] {
+    let n = least(length, list.len());
+    &mut list[0..n]
+}
+
 fn distances(list: &[f32], length: usize) -> &[f32] {
     let n = least(length, list.len());
     &list[0..n]
@@ -46,6 +52,7 @@ fn mesh(
     normals: &mut [f32],
     cells: &mut [u32],
     strides: &mut [u32],
+    crossings: &mut [u8],
     map: &mut [u32],
     indices: &mut [u32],
 ) -> Answer {
@@ -59,6 +66,7 @@ fn mesh(
         lent_floats(normals, e.normals),
         lent_words(cells, e.cells),
         lent_words(strides, e.strides),
+        lent_bytes(crossings, e.strides),
         lent_words(map, e.map),
         lent_words(indices, e.indices),
     )
@@ -131,6 +139,7 @@ fn made(fd: i32, grid: &[f32], a: Asked, e: Expected) -> Differs {
     let mut normals = [0.0f32; 512];
     let mut cells = [0u32; 512];
     let mut strides = [0u32; 512];
+    let mut crossings = [0u8; 512];
     let mut map = [0u32; 512];
     let mut indices = [0u32; 512];
     marks::mark_floats(&mut positions, 1000.0);
@@ -147,6 +156,7 @@ fn made(fd: i32, grid: &[f32], a: Asked, e: Expected) -> Differs {
         &mut normals,
         &mut cells,
         &mut strides,
+        &mut crossings,
         &mut map,
         &mut indices,
     );

@@ -16,7 +16,7 @@ use lib.Ieee.Fits.{and-l, and-r}
 use Rattle.rules.specs.Lists.{run, upTo, keep, many, some, joined, place, placed}
 use Rattle.rules.specs.Grid.{GridPoint, axisX, axisY, Field, index}
 use Rattle.rules.specs.Cell.{Vector, zero32, one32, squaredDistance, fraction, pointBetween, crossingPoint, crossingPoints, summed, crossings, centroid, position, normal}
-use Rattle.rules.specs.Vertices.{rowCells, layerCells, cells, layerVertices, vertices, firstVertex, vertexPosition, vertexNormal, cellEntry, mapEntry}
+use Rattle.rules.specs.Vertices.{rowCells, layerCells, cells, layerVertices, vertices, firstVertex, vertexPosition, vertexNormal, vertexCrossings, cellEntry, mapEntry}
 use Rattle.rules.specs.Faces.{Edge, edge, allThree, owned, changes, cellEdges, layerEdges, edges, cell1, cell2, cell3, cell4, shorter, faceCells, layerIndices, indices, layerPoints, points, changingEdges}
 use Rattle.rules.specs.Call.{Call, Buffers, room, Answer, badDimensions, badBox, badLength, beyond, badLayer, badDistance, roomAnswer, answer, written, afterwards}
 use Rattle.rules.specs.Cutting.{Piece, Cuts, uncut, cut, lowerPiece, upperPiece, pieces, Fits}
@@ -26,7 +26,7 @@ use Rattle.rules.proofs.Edges.{sameEdge}
 
 -- which numbers of a call's outcome are looked at
 pub data Asked : Type 0 where
-  theAnswer theIndices theStrides theDiagonals theMap theBuffers : Asked
+  theAnswer theIndices theStrides theCrossings theDiagonals theMap theBuffers : Asked
   positionOf normalOf : ℕ → Asked
 
 pub record Case : Type 0 where
@@ -47,9 +47,9 @@ lowest = record { x = 0; y = 0; z = 0 }
 abbrev numbers : Answer → List ℕ
 numbers r = r .number ∷ r .vertices ∷ r .indices ∷ []
 
--- the six lists, one after the other
+-- the seven lists, one after the other
 abbrev contents : Buffers → List ℕ
-contents s = map bits (s .positions) ++ (map bits (s .normals) ++ (s .cells ++ (s .strides ++ (s .map ++ s .indices))))
+contents s = map bits (s .positions) ++ (map bits (s .normals) ++ (s .cells ++ (s .strides ++ (s .crossings ++ (s .map ++ s .indices)))))
 
 -- the squared distances v1-v4 and v2-v3 of an edge's face
 abbrev diagonals : Field → Edge → List ℕ
@@ -63,6 +63,7 @@ abbrev pub got : Asked → Call → Buffers → List ℕ
 got theAnswer c s = numbers (answer c (room s))
 got theIndices c s = indices (c .grid) (c .box) (c .flags)
 got theStrides c s = map (index (c .grid .dims)) (vertices (c .grid) (c .box))
+got theCrossings c s = map (vertexCrossings (c .grid)) (vertices (c .grid) (c .box))
 got theDiagonals c s = joined (diagonals (c .grid)) (edges (c .grid) (c .box) (c .flags))
 got (positionOf v) c s = three (vertexPosition (c .grid) (getD (vertices (c .grid) (c .box)) v lowest))
 got (normalOf v) c s = three (vertexNormal (c .grid) (getD (vertices (c .grid) (c .box)) v lowest))
@@ -131,20 +132,21 @@ abbrev mark32 : ℕ
 mark32 = 0xC0A00000
 
 -- lengths, every number of them marked: 77, and -5.0
-abbrev marked : ℕ → ℕ → ℕ → ℕ → ℕ → ℕ → Buffers
-marked positions normals cells strides map' indices' =
+abbrev marked : ℕ → ℕ → ℕ → ℕ → ℕ → ℕ → ℕ → Buffers
+marked positions normals cells strides crossings' map' indices' =
     record {
       positions = replicate positions (fin true 5 (pos 0));
       normals = replicate normals (fin true 5 (pos 0));
       cells = replicate cells 77;
       strides = replicate strides 77;
+      crossings = replicate crossings' 77;
       map = replicate map' 77;
       indices = replicate indices' 77;
     }
 
 -- room for 8 vertices and 6 faces, one number more in each list, and a map for 27
 abbrev pub roomy : Buffers
-roomy = marked 25 25 25 9 27 37
+roomy = marked 25 25 25 9 9 27 37
 
 abbrev pub case : Call → Buffers → Asked → List ℕ → Case
 case c s a w = record { call = c; lent = s; asked = a; wanted = w }
@@ -174,6 +176,10 @@ ballCells = 0 ∷ 0 ∷ 0 ∷ 1 ∷ 0 ∷ 0 ∷ 0 ∷ 1 ∷ 0 ∷ 1 ∷ 1 ∷ 0 
 
 abbrev ballStrides : List ℕ
 ballStrides = 0 ∷ 1 ∷ 3 ∷ 4 ∷ 9 ∷ 10 ∷ 12 ∷ 13 ∷ 77 ∷ []
+
+-- each cell has one negative corner, the middle of the grid
+abbrev ballCrossings : List ℕ
+ballCrossings = replicate 8 3 ++ (77 ∷ [])
 
 -- the entry of no vertex
 abbrev blank : ℕ
@@ -226,32 +232,32 @@ cases =
     ∷ answers (calls (point 0 3 3) 27 ball lowest (point 2 2 2) false) roomy 1 0 0
     ∷ answers (calls (point 3 0 3) 27 ball lowest (point 2 2 2) false) roomy 1 0 0
     ∷ answers (calls (point 3 3 0) 27 ball lowest (point 2 2 2) false) roomy 1 0 0
-    ∷ answers (calls (point 16777217 1 1) 1 ones lowest lowest false) (marked 0 0 0 0 1 0) 3 0 0
-    ∷ answers (calls (point 16777217 1 1) 16777217 ones lowest lowest false) (marked 0 0 0 0 1 0) 4 0 0
-    ∷ answers (calls (point 16777218 1 1) 1 ones lowest lowest false) (marked 0 0 0 0 1 0) 1 0 0
+    ∷ answers (calls (point 16777217 1 1) 1 ones lowest lowest false) (marked 0 0 0 0 0 1 0) 3 0 0
+    ∷ answers (calls (point 16777217 1 1) 16777217 ones lowest lowest false) (marked 0 0 0 0 0 1 0) 4 0 0
+    ∷ answers (calls (point 16777218 1 1) 1 ones lowest lowest false) (marked 0 0 0 0 0 1 0) 1 0 0
     -- the product: 2^30 passes, the next that three dimensions make does not
-    ∷ answers (calls (point 1024 1024 1024) 1 ones lowest lowest false) (marked 0 0 0 0 1 0) 3 0 0
-    ∷ answers (calls (point 1024 1024 1024) 1073741824 ones lowest lowest false) (marked 0 0 0 0 1 0) 4 0 0
-    ∷ answers (calls (point 1024 1024 1025) 1 ones lowest lowest false) (marked 0 0 0 0 1 0) 1 0 0
+    ∷ answers (calls (point 1024 1024 1024) 1 ones lowest lowest false) (marked 0 0 0 0 0 1 0) 3 0 0
+    ∷ answers (calls (point 1024 1024 1024) 1073741824 ones lowest lowest false) (marked 0 0 0 0 0 1 0) 4 0 0
+    ∷ answers (calls (point 1024 1024 1025) 1 ones lowest lowest false) (marked 0 0 0 0 0 1 0) 1 0 0
     -- products of 2^32 and 2^64 are not taken for the empty grid's length
-    ∷ answers (calls (point 65536 65536 1) 0 ones lowest lowest false) (marked 0 0 0 0 1 0) 1 0 0
-    ∷ answers (calls (point 16777216 16777216 65536) 0 ones lowest lowest false) (marked 0 0 0 0 1 0) 1 0 0
+    ∷ answers (calls (point 65536 65536 1) 0 ones lowest lowest false) (marked 0 0 0 0 0 1 0) 1 0 0
+    ∷ answers (calls (point 16777216 16777216 65536) 0 ones lowest lowest false) (marked 0 0 0 0 0 1 0) 1 0 0
     -- "min (2,0,0), max (1,2,2)"; "max (3,2,2)"
     ∷ answers (threes ball (point 2 0 0) (point 1 2 2)) roomy 2 0 0
     ∷ answers (threes ball lowest (point 3 2 2)) roomy 2 0 0
     -- "Grid of 26, box to (2,2,2)"; document 02, request 9: "Document 01's grid of 26 with the box to (1,1,1) becomes refused, and a longer grid too"
     ∷ answers (calls (point 3 3 3) 26 ball lowest (point 2 2 2) false) roomy 3 0 0
-    ∷ answers (calls (point 3 3 3) 26 ball lowest (point 1 1 1) false) (marked 3 3 3 1 26 0) 3 0 0
-    ∷ answers (calls (point 3 3 3) 14 ball lowest (point 1 1 1) false) (marked 3 3 3 1 14 0) 3 0 0
-    ∷ answers (calls (point 3 3 3) 28 ball lowest (point 2 2 2) false) (marked 24 24 24 8 28 18) 3 0 0
-    ∷ answers (calls (point 3 3 3) 28 ball lowest (point 1 1 1) false) (marked 3 3 3 1 28 0) 3 0 0
-    ∷ answers (threes ball lowest (point 1 1 1)) (marked 3 3 3 1 27 0) 0 1 0
+    ∷ answers (calls (point 3 3 3) 26 ball lowest (point 1 1 1) false) (marked 3 3 3 1 1 26 0) 3 0 0
+    ∷ answers (calls (point 3 3 3) 14 ball lowest (point 1 1 1) false) (marked 3 3 3 1 1 14 0) 3 0 0
+    ∷ answers (calls (point 3 3 3) 28 ball lowest (point 2 2 2) false) (marked 24 24 24 8 8 28 18) 3 0 0
+    ∷ answers (calls (point 3 3 3) 28 ball lowest (point 1 1 1) false) (marked 3 3 3 1 1 28 0) 3 0 0
+    ∷ answers (threes ball lowest (point 1 1 1)) (marked 3 3 3 1 1 27 0) 0 1 0
     -- the empty grid, and grids as long as two of the dimensions say
-    ∷ answers (calls (point 1 1 1) 0 ones lowest lowest false) (marked 0 0 0 0 1 0) 3 0 0
-    ∷ answers (calls (point 1 1 1) 1 ones lowest lowest false) (marked 0 0 0 0 1 0) 0 0 0
+    ∷ answers (calls (point 1 1 1) 0 ones lowest lowest false) (marked 0 0 0 0 0 1 0) 3 0 0
+    ∷ answers (calls (point 1 1 1) 1 ones lowest lowest false) (marked 0 0 0 0 0 1 0) 0 0 0
     ∷ answers (calls (point 3 3 3) 9 ball lowest lowest false) roomy 3 0 0
     -- "Map one short of the grid"
-    ∷ answers (whole ball) (marked 24 24 24 8 26 18) 4 0 0
+    ∷ answers (whole ball) (marked 24 24 24 8 8 26 18) 4 0 0
     -- "Ball with not-a-number at (2,2,2)"; "With the box to (1,1,1)"
     ∷ answers (whole (with 26 nan ball)) roomy 5 0 0
     ∷ answers (threes (with 26 nan ball) lowest (point 1 1 1)) roomy 0 1 0
@@ -274,42 +280,47 @@ cases =
     ∷ answers (threes (with 26 (fin false 0x800001 (pos 101)) ball) lowest (point 1 1 1)) roomy 0 1 0
     ∷ answers (threes (with 26 (fin true 0x800001 (pos 101)) ball) lowest (point 1 1 1)) roomy 0 1 0
     -- "Ball, positions 23 long"; "with indices 17 as well"; "Only indices 17"; and the exact room
-    ∷ answers (whole ball) (marked 23 24 24 8 27 18) 6 8 18
-    ∷ answers (whole ball) (marked 23 24 24 8 27 17) 6 8 18
-    ∷ answers (whole ball) (marked 24 24 24 8 27 17) 7 8 18
-    ∷ answers (whole ball) (marked 24 24 24 8 27 18) 0 8 18
-    -- the three other lists of condition 6
-    ∷ answers (whole ball) (marked 24 23 24 8 27 18) 6 8 18
-    ∷ answers (whole ball) (marked 24 24 23 8 27 18) 6 8 18
-    ∷ answers (whole ball) (marked 24 24 24 7 27 18) 6 8 18
+    ∷ answers (whole ball) (marked 23 24 24 8 8 27 18) 6 8 18
+    ∷ answers (whole ball) (marked 23 24 24 8 8 27 17) 6 8 18
+    ∷ answers (whole ball) (marked 24 24 24 8 8 27 17) 7 8 18
+    ∷ answers (whole ball) (marked 24 24 24 8 8 27 18) 0 8 18
+    -- the other lists of condition 6; document 02, request 13: "Answer 6 covers that buffer when it is shorter than V", and is tried before 7
+    ∷ answers (whole ball) (marked 24 23 24 8 8 27 18) 6 8 18
+    ∷ answers (whole ball) (marked 24 24 23 8 8 27 18) 6 8 18
+    ∷ answers (whole ball) (marked 24 24 24 7 8 27 18) 6 8 18
+    ∷ answers (whole ball) (marked 24 24 24 8 7 27 18) 6 8 18
+    ∷ answers (whole ball) (marked 24 24 24 8 7 27 17) 6 8 18
     -- "Conditions are tried in this order": 3 with 4, 4 with 5, 5 with 6 and 7; 1 with 2 and 2 with 3 are above
-    ∷ answers (calls (point 3 3 3) 26 ball lowest (point 2 2 2) false) (marked 24 24 24 8 25 18) 3 0 0
-    ∷ answers (whole (with 26 nan ball)) (marked 24 24 24 8 26 18) 4 0 0
-    ∷ answers (whole (with 26 nan ball)) (marked 0 0 0 0 27 0) 5 0 0
+    ∷ answers (calls (point 3 3 3) 26 ball lowest (point 2 2 2) false) (marked 24 24 24 8 8 25 18) 3 0 0
+    ∷ answers (whole (with 26 nan ball)) (marked 24 24 24 8 8 26 18) 4 0 0
+    ∷ answers (whole (with 26 nan ball)) (marked 0 0 0 0 0 27 0) 5 0 0
     -- a grid that takes each of the four branches of a face
     ∷ answers (wholePlane (bitGrid 0x2015)) roomy 0 8 30
     ∷ case (wholePlane (bitGrid 0x2015)) roomy theIndices
     (5 ∷ 0 ∷ 1 ∷ 5 ∷ 4 ∷ 0 ∷ 4 ∷ 2 ∷ 0 ∷ 4 ∷ 6 ∷ 2 ∷ 5 ∷ 1 ∷ 3 ∷ 5 ∷ 3 ∷ 7 ∷ 7 ∷ 3 ∷ 2 ∷ 7 ∷ 2 ∷ 6 ∷ 6 ∷ 4 ∷ 5 ∷ 6 ∷ 5 ∷ 7 ∷ [])
+    -- request 13: a grid whose eight cells have each number of crossings that a surface cell can have
+    ∷ case (whole (bitGrid 0x5594834)) roomy theCrossings (3 ∷ 5 ∷ 6 ∷ 8 ∷ 4 ∷ 7 ∷ 9 ∷ 12 ∷ [])
     -- where "every number written is finite" would end: -2^127 and 2^127 on each x edge have no finite difference, and the normal is infinite
     ∷ answers (calls (point 2 2 2) 8 farApart lowest (point 1 1 1) false) roomy 5 0 0
     ∷ case (calls (point 2 2 2) 8 farApart lowest (point 1 1 1) false) roomy (positionOf 0) (0 ∷ 0x3F000000 ∷ 0x3F000000 ∷ [])
     ∷ case (calls (point 2 2 2) 8 farApart lowest (point 1 1 1) false) roomy (normalOf 0) (0x7F800000 ∷ 0 ∷ 0 ∷ [])
     -- what the lent lists hold after Ball: the first numbers written, the rest kept; the whole map, since every point is one of the box
-    ∷ case (whole ball) roomy theBuffers (ballPositions ++ (ballNormals ++ (ballCells ++ (ballStrides ++ (ballMap ++ ballIndices)))))
+    ∷ case (whole ball) roomy theBuffers (ballPositions ++ (ballNormals ++ (ballCells ++ (ballStrides ++ (ballCrossings ++ (ballMap ++ ballIndices))))))
     -- a cell that is no surface cell has the null vertex in the map, and so have the points of the box that are no cell; those outside keep theirs
-    ∷ case (threes ones lowest (point 1 1 1)) (marked 0 0 0 0 28 0) theBuffers
+    ∷ case (threes ones lowest (point 1 1 1)) (marked 0 0 0 0 0 28 0) theBuffers
     (blank ∷ blank ∷ 77 ∷ blank ∷ blank ∷ 77 ∷ 77 ∷ 77 ∷ 77 ∷ blank ∷ blank ∷ 77 ∷ blank ∷ blank ∷ replicate 14 77)
     -- document 02, request 7: "the entry of every point of the box that is no cell becomes 4,294,967,295, also for a flat box"
-    ∷ case (calls (point 4 4 4) 64 (with 21 minusOne ones) (point 1 1 1) (point 2 2 2) false) (marked 3 3 3 1 65 0) theMap innerMap
-    ∷ case (threes ball lowest (point 0 2 2)) (marked 0 0 0 0 28 0) theBuffers flatMap
+    ∷ case (calls (point 4 4 4) 64 (with 21 minusOne ones) (point 1 1 1) (point 2 2 2) false) (marked 3 3 3 1 1 65 0) theMap innerMap
+    ∷ case (threes ball lowest (point 0 2 2)) (marked 0 0 0 0 0 28 0) theBuffers flatMap
     -- "Answers 1 to 7 change nothing."
     ∷ case (calls (point 0 3 3) 27 ball lowest (point 2 2 2) false) roomy theBuffers (contents roomy)
     ∷ case (threes ball lowest (point 3 2 2)) roomy theBuffers (contents roomy)
     ∷ case (calls (point 3 3 3) 26 ball lowest (point 2 2 2) false) roomy theBuffers (contents roomy)
-    ∷ case (whole ball) (marked 24 24 24 8 26 18) theBuffers (contents (marked 24 24 24 8 26 18))
+    ∷ case (whole ball) (marked 24 24 24 8 8 26 18) theBuffers (contents (marked 24 24 24 8 8 26 18))
     ∷ case (whole (with 26 nan ball)) roomy theBuffers (contents roomy)
-    ∷ case (whole ball) (marked 23 24 24 8 27 18) theBuffers (contents (marked 23 24 24 8 27 18))
-    ∷ case (whole ball) (marked 24 24 24 8 27 17) theBuffers (contents (marked 24 24 24 8 27 17))
+    ∷ case (whole ball) (marked 23 24 24 8 8 27 18) theBuffers (contents (marked 23 24 24 8 8 27 18))
+    ∷ case (whole ball) (marked 24 24 24 8 7 27 18) theBuffers (contents (marked 24 24 24 8 7 27 18))
+    ∷ case (whole ball) (marked 24 24 24 8 8 27 17) theBuffers (contents (marked 24 24 24 8 8 27 17))
     ∷ []
 
 -- what a computed test opens: every definition of the rules, and the arithmetic below them

@@ -46,7 +46,7 @@ module _ (b : Box) (a : Axis) (flat : along a (b .low) ≡ along a (b .high)) wh
 -- every room holds no vertex and no index
 room-empty : (r : Room) → roomAnswer r 0 0 ≡ answers 0 0 0
 unfolding roomAnswer
-room-empty r = simp (none-short (r .positions), none-short (r .normals), none-short (r .cells), none-short (r .strides), none-short (r .indices))
+room-empty r = simp (none-short (r .positions), none-short (r .normals), none-short (r .cells), none-short (r .strides), none-short (r .crossings), none-short (r .indices))
   where
     none-short : (n : ℕ) → ltb n 0 ≡ false
     none-short n = le-ltb n 0 zero-le

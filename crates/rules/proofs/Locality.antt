@@ -13,8 +13,8 @@ use lib.Seq.{take-at}
 use lib.Ieee.{Float, unlike}
 use Rattle.rules.specs.Lists.{upTo, keep, joined, place, placed, over}
 use Rattle.rules.specs.Grid.{GridPoint, Box, Field, stepUp, samePoint, index, pointAt, inBox, isCell, value}
-use Rattle.rules.specs.Cell.{cornerOf, values, surface, centroid, position, normal, negative}
-use Rattle.rules.specs.Vertices.{layerVertices, surfaceCell, vertices, firstVertex, vertexNumber, numberIn, vertexPosition, vertexNormal, nullVertex, cellEntry, edgeEntry, mapEntry}
+use Rattle.rules.specs.Cell.{cornerOf, values, surface, crossings, centroid, position, normal, negative}
+use Rattle.rules.specs.Vertices.{layerVertices, surfaceCell, vertices, firstVertex, vertexNumber, numberIn, vertexPosition, vertexNormal, vertexCrossings, nullVertex, cellEntry, edgeEntry, mapEntry}
 use Rattle.rules.specs.Faces.{Edge, Flags, owned, changes, gives, edgesAt, cellEdges, layerEdges, cell1, cell2, cell3, cell4, six, shorter, faceCells, layerIndices, indices}
 use Rattle.rules.specs.Call.{Call, Buffers, Room, room, badDimensions, badBox, beyond, badDistance, Answer, answers, vertexCount, indexCount, answer, flatVectors, flatPoints, written, afterwards}
 use Rattle.rules.proofs.Lists.{all-then, map-same, joined-same, keep-same, length-placed, getD-placed}
@@ -59,6 +59,9 @@ module _ (g g' : Field) (b : Box) (agree : (p : GridPoint) → T (inBox b p) →
 
   pub normal-same : (c : GridPoint) → T (isCell b c) → vertexNormal g c ≡ vertexNormal g' c
   normal-same c t = ap (λ (d : List Float). normal d (centroid d)) (values-same c t)
+
+  pub crossed-same : (c : GridPoint) → T (isCell b c) → vertexCrossings g c ≡ vertexCrossings g' c
+  crossed-same c t = ap crossings (values-same c t)
 
   layer-same : (z : ℕ) → b .low .z ≤ z → z < b .high .z → layerVertices g b z ≡ layerVertices g' b z
   unfolding layerVertices
@@ -141,6 +144,9 @@ module _ (g g' : Field) (b : Box) (agree : (p : GridPoint) → T (inBox b p) →
   pub normals-same : map (vertexNormal g) (vertices g b) ≡ map (vertexNormal g') (vertices g' b)
   normals-same = from-cells (vertexNormal g) (vertexNormal g') normal-same
 
+  pub crossings-same : map (vertexCrossings g) (vertices g b) ≡ map (vertexCrossings g') (vertices g' b)
+  crossings-same = from-cells (vertexCrossings g) (vertexCrossings g') crossed-same
+
   pub entry-same : (c : GridPoint) → T (isCell b c) → cellEntry g b c ≡ cellEntry g' b c
   unfolding cellEntry
   entry-same c t =
@@ -186,6 +192,10 @@ module _ (c c' : Call) (same : Alike c c') (ok : T (not (badBox (c .grid .dims) 
   calls-normals =
       normals-same (c .grid) (c' .grid) (c .box) agree ∙ ap (λ (b : Box). map (vertexNormal (c' .grid)) (vertices (c' .grid) b)) (same .box)
 
+  pub calls-crossings : map (vertexCrossings (c .grid)) (vertices (c .grid) (c .box)) ≡ map (vertexCrossings (c' .grid)) (vertices (c' .grid) (c' .box))
+  calls-crossings =
+      crossings-same (c .grid) (c' .grid) (c .box) agree ∙ ap (λ (b : Box). map (vertexCrossings (c' .grid)) (vertices (c' .grid) b)) (same .box)
+
   pub calls-entry : (j old : ℕ) → mapEntry (c .grid) (c .box) j old ≡ mapEntry (c' .grid) (c' .box) j old
   unfolding mapEntry
   calls-entry j old =
@@ -203,6 +213,7 @@ module _ (c c' : Call) (same : Alike c c') (ok : T (not (badBox (c .grid .dims) 
         normals = over (flatVectors (calls-normals i)) (s .normals);
         cells = over (flatPoints (calls-vertices i)) (s .cells);
         strides = over (map (index (same .dims i)) (calls-vertices i)) (s .strides);
+        crossings = over (calls-crossings i) (s .crossings);
         map = placed (λ (j old : ℕ). calls-entry j old i) 0 (s .map);
         indices = over (calls-indices i) (s .indices);
       }
@@ -232,12 +243,13 @@ afterwards-local c c' same s =
 
 -- ---- the old numbers never matter
 
--- two outcomes of a call hold the same numbers where it writes: the first 3V, 3V, 3V, V and I, and the map at each point of the box
+-- two outcomes of a call hold the same numbers where it writes: the first 3V, 3V, 3V, V, V and I, and the map at each point of the box
 pub record SameWritten (c : Call) (t t' : Buffers) : Type 0 where
   pub positions : take (3 * vertexCount c) (t .positions) ≡ take (3 * vertexCount c) (t' .positions)
   pub normals : take (3 * vertexCount c) (t .normals) ≡ take (3 * vertexCount c) (t' .normals)
   pub cells : take (3 * vertexCount c) (t .cells) ≡ take (3 * vertexCount c) (t' .cells)
   pub strides : take (vertexCount c) (t .strides) ≡ take (vertexCount c) (t' .strides)
+  pub crossings : take (vertexCount c) (t .crossings) ≡ take (vertexCount c) (t' .crossings)
   pub map : (j : ℕ) → j < length (t .map) → T (inBox (c .box) (pointAt (c .grid .dims) j)) → getD (t .map) j 0 ≡ getD (t' .map) j 0
   pub indices : take (indexCount c) (t .indices) ≡ take (indexCount c) (t' .indices)
 
@@ -259,6 +271,7 @@ old-numbers c s s' long =
       normals = start (flatVectors (map (vertexNormal (c .grid)) vs)) (length-vectors (vertexNormal (c .grid)) vs) (s .normals) (s' .normals);
       cells = start (flatPoints vs) (length-points vs) (s .cells) (s' .cells);
       strides = start (map (index (c .grid .dims)) vs) (length-map vs (index (c .grid .dims))) (s .strides) (s' .strides);
+      crossings = start (map (vertexCrossings (c .grid)) vs) (length-map vs (vertexCrossings (c .grid))) (s .crossings) (s' .crossings);
       map = entries;
       indices = start (indices (c .grid) (c .box) (c .flags)) refl (s .indices) (s' .indices);
     }

@@ -12,7 +12,7 @@ use lib.Seq.{take-length, take-suc}
 use Rattle.rules.specs.Lists.{upTo, joined, place}
 use Rattle.rules.specs.Grid.{GridPoint, Box, Field, along, samePoint, isCell}
 use Rattle.rules.specs.Cell.{Vector}
-use Rattle.rules.specs.Vertices.{surfaceCell, vertices, vertexPosition, vertexNormal}
+use Rattle.rules.specs.Vertices.{surfaceCell, vertices, vertexPosition, vertexNormal, vertexCrossings}
 use Rattle.rules.specs.Faces.{Edge, Flags, axisB, axisC, gives, edges, faceCells, indices, changingEdges}
 use Rattle.rules.specs.Call.{flatPoints, flatVectors}
 use Rattle.rules.specs.Cutting.{Piece, Corner, Face, cornerAt, faceOf, edgeShown, sixes, pointIn, vectorIn, looked, faceSeen, facesSeen, Vertex, vertexOf, verticesSeen}
@@ -184,9 +184,15 @@ numbered d l (suc n) h =
     ∙ ap (λ r. r ++ (getD l n d ∷ [])) (numbered d l n (omega arith))
     ∙ sym (take-suc l n d h)
 
--- three numbers each of cells, positions and normals show the vertices that the cells define
+-- one number for each element: that of the element v stands at v
+pub one-at : {A B : Type 0} (f : A → B) (l : List A) (v : ℕ) (d : B) (a : A) → v < length l → getD (map f l) v d ≡ f (getD l v a)
+one-at f [] v d a k = absurd (omega arith)
+one-at f (x ∷ xs) zero d a k = refl
+one-at f (x ∷ xs) (suc v) d a k = one-at f xs v d a (omega arith)
+
+-- three numbers each of cells, positions and normals, and one of the crossings, show the vertices that the cells define
 pub vertices-seen : (g : Field) (vs : List GridPoint)
-    → verticesSeen (length vs) (flatPoints vs) (flatVectors (map (vertexPosition g) vs)) (flatVectors (map (vertexNormal g) vs)) ≡ map (vertexOf g) vs
+    → verticesSeen (length vs) (flatPoints vs) (flatVectors (map (vertexPosition g) vs)) (flatVectors (map (vertexNormal g) vs)) (map (vertexCrossings g) vs) ≡ map (vertexOf g) vs
 unfolding verticesSeen
 vertices-seen g vs =
     map-same (upTo-each 0 (length vs) (λ v l k. at v k))
@@ -208,14 +214,20 @@ vertices-seen g vs =
     normals : List Float
     normals = flatVectors (map (vertexNormal g) vs)
 
-    at : (v : ℕ) → v < length vs → record { cell = pointIn (flatPoints vs) v; position = vectorIn positions v; normal = vectorIn normals v } ≡ vertexOf g (getD vs v origin)
+    numbers : List ℕ
+    numbers = map (vertexCrossings g) vs
+
+    at : (v : ℕ) → v < length vs
+        → record { cell = pointIn (flatPoints vs) v; position = vectorIn positions v; normal = vectorIn normals v; crossings = getD numbers v 0 } ≡ vertexOf g (getD vs v origin)
     at v k =
         let c = three-at (λ (q : GridPoint). q .x) (λ (q : GridPoint). q .y) (λ (q : GridPoint). q .z) vs v 0 origin k in
         let p = vectors (vertexPosition g) v k in
         let n = vectors (vertexNormal g) v k in
+        let m = one-at (vertexCrossings g) vs v 0 origin k in
         λ j.
         record {
           cell = record { x = c .first j; y = c .second j; z = c .third j };
           position = record { x = p .first j; y = p .second j; z = p .third j };
           normal = record { x = n .first j; y = n .second j; z = n .third j };
+          crossings = m j;
         }

@@ -9,7 +9,7 @@ use lib.Ieee.{Float, nan, inf, fin, up, down}
 use Rattle.rules.specs.Lists.{some, joined, placed, over}
 use Rattle.rules.specs.Grid.{GridPoint, Box, Field, index, value}
 use Rattle.rules.specs.Cell.{Vector}
-use Rattle.rules.specs.Vertices.{vertices, vertexPosition, vertexNormal, mapEntry}
+use Rattle.rules.specs.Vertices.{vertices, vertexPosition, vertexNormal, vertexCrossings, mapEntry}
 use Rattle.rules.specs.Faces.{Flags, layerPoints, pointLayers, indices}
 
 -- what goes in: the grid's dimensions, distances and length, the box, and the max plane
@@ -19,12 +19,13 @@ pub record Call : Type 0 where
   pub box : Box
   pub flags : Flags
 
--- the six lent lists
+-- the seven lent lists: document 01's six, and document 02's "one more lent buffer" (request 13), whose numbers are bytes
 pub record Buffers : Type 0 where
   pub positions : List Float
   pub normals : List Float
   pub cells : List ℕ
   pub strides : List ℕ
+  pub crossings : List ℕ
   pub map : List ℕ
   pub indices : List ℕ
 
@@ -34,6 +35,7 @@ pub record Room : Type 0 where
   pub normals : ℕ
   pub cells : ℕ
   pub strides : ℕ
+  pub crossings : ℕ
   pub map : ℕ
   pub indices : ℕ
 
@@ -44,6 +46,7 @@ room s =
       normals = length (s .normals);
       cells = length (s .cells);
       strides = length (s .strides);
+      crossings = length (s .crossings);
       map = length (s .map);
       indices = length (s .indices);
     }
@@ -88,9 +91,11 @@ badLayer g b z = some (λ (p : GridPoint). beyond (value g p)) (layerPoints b z)
 unfoldable pub badDistance : Field → Box → Bool
 badDistance g b = some (badLayer g b) (pointLayers b)
 
--- 6: "positions, normals or cells shorter than 3V, or strides shorter than V"
+-- 6: "positions, normals or cells shorter than 3V, or strides shorter than V". Document 02, request 13: "Answer 6 covers that buffer when it is shorter
+-- than V."
 abbrev pub badVertexRoom : Room → ℕ → Bool
-badVertexRoom r count = ltb (r .positions) (3 * count) || (ltb (r .normals) (3 * count) || (ltb (r .cells) (3 * count) || ltb (r .strides) count))
+badVertexRoom r count =
+    ltb (r .positions) (3 * count) || (ltb (r .normals) (3 * count) || (ltb (r .cells) (3 * count) || (ltb (r .strides) count || ltb (r .crossings) count)))
 
 -- 7: "indices shorter than I"
 abbrev pub badIndexRoom : Room → ℕ → Bool
@@ -137,7 +142,8 @@ abbrev pub flatPoints : List GridPoint → List ℕ
 flatPoints ps = joined (λ (p : GridPoint). p .x ∷ p .y ∷ p .z ∷ []) ps
 
 -- "On 0, the first 3V, 3V, 3V, V and I numbers are written and the rest of those buffers kept. In the map, each cell's entry is written",
--- and by document 02, request 7, that of every other point of the box; "Points outside the box still keep theirs."
+-- and by document 02, request 7, that of every other point of the box; "Points outside the box still keep theirs." Request 13: the number
+-- of crossings, "as bytes to the first V of one more lent buffer"
 unfoldable pub written : Call → Buffers → Buffers
 written c s =
     record {
@@ -145,6 +151,7 @@ written c s =
       normals = over (flatVectors (map (vertexNormal (c .grid)) (vertices (c .grid) (c .box)))) (s .normals);
       cells = over (flatPoints (vertices (c .grid) (c .box))) (s .cells);
       strides = over (map (index (c .grid .dims)) (vertices (c .grid) (c .box))) (s .strides);
+      crossings = over (map (vertexCrossings (c .grid)) (vertices (c .grid) (c .box))) (s .crossings);
       map = placed (mapEntry (c .grid) (c .box)) 0 (s .map);
       indices = over (indices (c .grid) (c .box) (c .flags)) (s .indices);
     }

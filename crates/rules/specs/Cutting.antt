@@ -10,7 +10,7 @@ use lib.Ieee.{Float, nan}
 use Rattle.rules.specs.Lists.{one, upTo, keep, many, some, joined}
 use Rattle.rules.specs.Grid.{GridPoint, Axis, axisX, axisY, axisZ, Box, Field, along, moved, samePoint}
 use Rattle.rules.specs.Cell.{Vector}
-use Rattle.rules.specs.Vertices.{vertexPosition, vertexNormal}
+use Rattle.rules.specs.Vertices.{vertexPosition, vertexNormal, vertexCrossings}
 use Rattle.rules.specs.Faces.{Edge, Flags, axisB, axisC, edgesAt, cell1, cell2, cell3, cell4, owned, faceCells}
 
 -- a box with the max plane's flags
@@ -127,17 +127,18 @@ faceSeen cs = map (λ (e : Edge). record { edge = e; corners = cs }) (edgeShown 
 unfoldable pub facesSeen : List ℕ → List Float → List ℕ → List Face
 facesSeen cells positions is = joined (λ (six : List ℕ). faceSeen (map (looked cells positions) six)) (sixes is)
 
--- a vertex: its cell, position and normal
+-- a vertex: its cell, position, normal and number of crossings
 pub record Vertex : Type 0 where
   pub cell : GridPoint
   pub position : Vector
   pub normal : Vector
+  pub crossings : ℕ
 
 -- the vertex that a cell defines
 abbrev pub vertexOf : Field → GridPoint → Vertex
-vertexOf g c = record { cell = c; position = vertexPosition g c; normal = vertexNormal g c }
+vertexOf g c = record { cell = c; position = vertexPosition g c; normal = vertexNormal g c; crossings = vertexCrossings g c }
 
 -- the first n vertices of a mesh's lists
-unfoldable pub verticesSeen : ℕ → List ℕ → List Float → List Float → List Vertex
-verticesSeen n cells positions normals =
-    map (λ (v : ℕ). record { cell = pointIn cells v; position = vectorIn positions v; normal = vectorIn normals v }) (upTo 0 n)
+unfoldable pub verticesSeen : ℕ → List ℕ → List Float → List Float → List ℕ → List Vertex
+verticesSeen n cells positions normals crossings =
+    map (λ (v : ℕ). record { cell = pointIn cells v; position = vectorIn positions v; normal = vectorIn normals v; crossings = getD crossings v 0 }) (upTo 0 n)

@@ -7,7 +7,7 @@ use lib.Dec.{eqb}
 use lib.ListN.{length}
 use Rattle.rules.specs.Lists.{upTo, keep, joined, place}
 use Rattle.rules.specs.Grid.{GridPoint, Box, Field, samePoint, isCell, inBox, pointAt}
-use Rattle.rules.specs.Cell.{Vector, values, surface, centroid, position, normal}
+use Rattle.rules.specs.Cell.{Vector, values, surface, crossings, centroid, position, normal}
 
 -- ---- "Order: z outermost, then y, then x innermost."
 
@@ -54,6 +54,10 @@ vertexPosition g c = position c (centroid (values g c))
 
 abbrev pub vertexNormal : Field → GridPoint → Vector
 vertexNormal g c = normal (values g c) (centroid (values g c))
+
+-- document 02, request 13: "how many edges crossed"
+abbrev pub vertexCrossings : Field → GridPoint → ℕ
+vertexCrossings g c = crossings (values g c)
 
 -- ---- the map
 

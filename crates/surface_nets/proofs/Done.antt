@@ -26,6 +26,7 @@ module _ (grid : List Float) (k : Block) (s : Buffers) (e : answer (callOf grid 
         normals = h .normals;
         cells = h .cells;
         strides = h .strides;
+        crossings = h .crossings;
         map = nltb→le (length (s .map)) (length grid) (a .map);
         indices = h .indices;
       }

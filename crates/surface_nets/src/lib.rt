@@ -3,7 +3,7 @@
 ghost use mathlib.Core.Path.{_≡_};
 ghost use Rattle.rules.specs.Call.{answer, afterwards, room};
 ghost use Rattle.judge.specs.Reading.{answerOf};
-ghost use Rattle.whole_box.specs.Reading.{buffers};
+ghost use Rattle.whole_box.specs.Reading.{buffersBefore, buffersAfter};
 ghost use Rattle.surface_nets.specs.Reading.{callMade, Binary32};
 use grid::Block;
 use grid::Extent;
@@ -12,7 +12,7 @@ pub use judge::Answer;
 use judge::Lengths;
 
 // Extracts the surface of the distances in the box from `low` to `high`, both corners included, of a grid of dimensions `dims`.
-// Positions and normals take three floats a vertex, cells three numbers, strides one; the map one for each number of the grid.
+// Positions and normals take three floats a vertex, cells three numbers, strides one, crossings one byte; the map one for each number of the grid.
 pub fn surface_nets(
     sdf: &[f32],
     dims: Extent,
@@ -23,11 +23,14 @@ pub fn surface_nets(
     normals: &mut [f32],
     cells: &mut [u32],
     strides: &mut [u32],
+    crossings: &mut [u8],
     stride_to_index: &mut [u32],
     indices: &mut [u32],
 ) -> Answer
-    ensures { λ r. ⌜ answerOf r ≡ answer (callMade (now (sdf .entry)) dims low high «max_plane») (room (buffers (now (positions .entry)) (now (normals .entry)) (now (cells .entry)) (now (strides .entry)) (now («stride_to_index» .entry)) (now (indices .entry)))) ⌝ }
-    ensures { λ r. ⌜ buffers (now (positions .exit)) (now (normals .exit)) (now (cells .exit)) (now (strides .exit)) (now («stride_to_index» .exit)) (now (indices .exit)) ≡ afterwards (callMade (now (sdf .entry)) dims low high «max_plane») (buffers (now (positions .entry)) (now (normals .entry)) (now (cells .entry)) (now (strides .entry)) (now («stride_to_index» .entry)) (now (indices .entry))) ⌝ }
+    ensures { λ r. ⌜ answerOf r
+        ≡ answer (callMade (now (sdf .entry)) dims low high «max_plane») (room (buffersBefore positions normals cells strides crossings «stride_to_index» indices)) ⌝ }
+    ensures { λ r. ⌜ buffersAfter positions normals cells strides crossings «stride_to_index» indices
+        ≡ afterwards (callMade (now (sdf .entry)) dims low high «max_plane») (buffersBefore positions normals cells strides crossings «stride_to_index» indices) ⌝ }
     ensures { λ r. ⌜ Binary32 (now (sdf .entry)) ⌝ }
 {
     let k = Block {
@@ -41,6 +44,7 @@ pub fn surface_nets(
         normals: normals.len(),
         cells: cells.len(),
         strides: strides.len(),
+        crossings: crossings.len(),
         map: stride_to_index.len(),
         indices: indices.len(),
     };
@@ -56,6 +60,7 @@ pub fn surface_nets(
         normals,
         cells,
         strides,
+        crossings,
         stride_to_index,
         indices,
     );

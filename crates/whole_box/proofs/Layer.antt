@@ -21,9 +21,9 @@ use Rattle.grid.specs.declared.Block.{Block}
 use Rattle.grid.specs.Block.{point, boxOf, flagsOf, fieldOf, callOf}
 use Rattle.grid.specs.Inside.{Inside}
 use Rattle.grid.proofs.Bounds.{fits}
-use Rattle.layer_vertices.specs.Marked.{Lists, lists}
+use Rattle.layer_vertices.specs.Marked.{Lists}
 use Rattle.whole_box.specs.declared.Made.{Made}
-use Rattle.whole_box.specs.Reading.{buffers}
+use Rattle.whole_box.specs.Reading.{listsOf, withIndices}
 use Rattle.whole_box.specs.Layers.{entryAt, indicesTo, layerMarked, madeTo, Written, layerWritten, layerMade, Stands}
 use Rattle.whole_box.proofs.Steps.{indices-more, indices-within, vertices-within, first-is, first-more, written-more, SameLengths, written-lengths}
 use Rattle.whole_box.proofs.Looks.{stands}
@@ -72,14 +72,14 @@ module _ (sdf : List Float) (k : Block) (i : Inside sdf k) (z : ℕ) (zs : (k .l
         written-more call z (zs .0) (zs .1) (omega arith) (omega arith) (plane-up sdf k i) w
 
     -- what the faces look up, once the layer is marked
-    pub stands-marked : {l : Lists} → l ≡ layerMarked (fieldOf sdf k) (boxOf k) z (made .vertices) (lists (s .positions) (s .normals) (s .cells) (s .strides) (s .map))
+    pub stands-marked : {l : Lists} → l ≡ layerMarked (fieldOf sdf k) (boxOf k) z (made .vertices) (listsOf s)
         → Stands (fieldOf sdf k) (boxOf k) z (made .vertices) (made .below) (l .cells) (l .map) (l .positions)
     unfolding layerMarked layerWritten
     stands-marked {l} e =
         subst (λ (u : Lists). Stands g b z (made .vertices) (made .below) (u .cells) (u .map) (u .positions)) (sym e)
         (subst (λ (n : Made). Stands g b z (n .vertices) (n .below) (layerWritten call z made s .cells) (layerWritten call z made s .map) (layerWritten call z made s .positions)) (sym (w .on)) (stands sdf k i z zs grown))
 
-    pub map-still : {l : Lists} → l ≡ layerMarked (fieldOf sdf k) (boxOf k) z (made .vertices) (lists (s .positions) (s .normals) (s .cells) (s .strides) (s .map)) → length sdf ≤ length (l .map)
+    pub map-still : {l : Lists} → l ≡ layerMarked (fieldOf sdf k) (boxOf k) z (made .vertices) (listsOf s) → length sdf ≤ length (l .map)
     unfolding layerMarked
     map-still e = omega (arith, map-long sdf k i z zs w, ap (λ (u : Lists). length (u .map)) e ∙ length-placed (entryAt g b z (made .vertices)) 0 (s .map))
 
@@ -100,13 +100,13 @@ module _ (sdf : List Float) (k : Block) (i : Inside sdf k) (z : ℕ) (zs : (k .l
     vertices-room = omega (arith, ap (λ (n : Made). n .vertices) (w .on), first-few)
 
     -- its two halves together
-    pub layer-whole : {l : Lists} {ix : List ℕ} {count used : ℕ} → l ≡ layerMarked (fieldOf sdf k) (boxOf k) z (made .vertices) (lists (s .positions) (s .normals) (s .cells) (s .strides) (s .map))
+    pub layer-whole : {l : Lists} {ix : List ℕ} {count used : ℕ} → l ≡ layerMarked (fieldOf sdf k) (boxOf k) z (made .vertices) (listsOf s)
         → ix ≡ sets (s .indices) (made .indices) (layerIndices (fieldOf sdf k) (boxOf k) (flagsOf k) (made .vertices) z)
         → count ≡ length (layerVertices (fieldOf sdf k) (boxOf k) z) → used ≡ length (layerIndices (fieldOf sdf k) (boxOf k) (flagsOf k) (made .vertices) z)
-        → (buffers (l .positions) (l .normals) (l .cells) (l .strides) (l .map) ix ≡ layerWritten (callOf sdf k) z made s)
+        → (withIndices ix l ≡ layerWritten (callOf sdf k) z made s)
         × (_≡_ {A = Made} (record { vertices = made .vertices + count; indices = made .indices + used; below = made .vertices }) (layerMade (callOf sdf k) z made))
     unfolding layerMarked layerWritten
     layer-whole e f h u = (
-      ap₂ (λ (n : Lists) (x : List ℕ). buffers (n .positions) (n .normals) (n .cells) (n .strides) (n .map) x) e f,
+      ap₂ (λ (n : Lists) (x : List ℕ). withIndices x n) e f,
       λ j. record { vertices = made .vertices + h j; indices = made .indices + u j; below = made .vertices },
     )

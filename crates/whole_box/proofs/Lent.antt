@@ -23,9 +23,10 @@ use Rattle.grid.proofs.Order.{box-ends}
 use Rattle.grid.proofs.Rows.{box-short}
 use Rattle.grid.proofs.Slab.{layer-alike}
 use Rattle.layer_vertices.specs.declared.Next.{Next}
-use Rattle.layer_vertices.specs.Marked.{Lists, lists, layerEntry, marked, Room}
+use Rattle.layer_vertices.specs.Marked.{Lists, lists, listed, layerEntry, marked, Room}
 use Rattle.layer_vertices.proofs.Alike.{marked-alike}
 use Rattle.whole_box.specs.declared.Made.{Made}
+use Rattle.whole_box.specs.Reading.{listsOf}
 use Rattle.whole_box.specs.Layers.{layerMarked, Written}
 use Rattle.whole_box.proofs.Map.{part-back}
 use Rattle.whole_box.proofs.Parts.{part, rest, layers-agree, layer-end}
@@ -55,8 +56,9 @@ module _ (sdf : List Float) (k : Block) (i : Inside sdf k) where
     layer-same = layer-alike (point (k .dims)) two (g .dist) b z (layers-agree sdf k i z zs)
 
     -- the room of the whole lists is that of what is lent
-    pub room-lent : {next : Next} {p n : List Float} {cs st mp mp' : List ℕ} → Room next (length (layerVertices (fieldOf sdf k) (boxOf k) z)) (lists p n cs st mp)
-        → Room next (length (layerVertices (twoLayers (part (k .dims .x * k .dims .y * z) (k .dims .x * k .dims .y) sdf) (rest (k .dims .x * k .dims .y * z + k .dims .x * k .dims .y) sdf) k z) (boxOf k) z)) (lists p n cs st mp')
+    pub room-lent : {next : Next} {p n : List Float} {cs st xs mp mp' : List ℕ} → Room next (length (layerVertices (fieldOf sdf k) (boxOf k) z)) (lists p n cs st xs mp)
+        → Room next (length (layerVertices (twoLayers (part (k .dims .x * k .dims .y * z) (k .dims .x * k .dims .y) sdf) (rest (k .dims .x * k .dims .y * z + k .dims .x * k .dims .y) sdf) k z) (boxOf k) z))
+        (lists p n cs st xs mp')
     room-lent r =
         let e = ap length layer-same in
         record {
@@ -64,20 +66,24 @@ module _ (sdf : List Float) (k : Block) (i : Inside sdf k) where
           normals = omega (arith, r .normals, e);
           cells = omega (arith, r .cells, e);
           strides = omega (arith, r .strides, e);
+          crossings = omega (arith, r .crossings, e);
           numbers = omega (arith, r .numbers, e);
         }
 
     -- what comes back
-    pub marked-back : (first : ℕ) {p n : List Float} {cs st q : List ℕ} (p₀ n₀ : List Float) (cs₀ st₀ mp₀ : List ℕ) → length sdf ≤ length mp₀
-        → lists p n cs st q ≡ marked (twoLayers (part (k .dims .x * k .dims .y * z) (k .dims .x * k .dims .y) sdf) (rest (k .dims .x * k .dims .y * z + k .dims .x * k .dims .y) sdf) k z) (boxOf k) z (record { place = first; number = first }) (lists p₀ n₀ cs₀ st₀ (part (k .dims .x * k .dims .y * z) (k .dims .x * k .dims .y) mp₀))
-        → lists p n cs st (take (k .dims .x * k .dims .y * z) mp₀ ++ (q ++ drop (k .dims .x * k .dims .y * z + k .dims .x * k .dims .y - k .dims .x * k .dims .y * z) (drop (k .dims .x * k .dims .y * z) mp₀)))
-        ≡ layerMarked (fieldOf sdf k) (boxOf k) z first (lists p₀ n₀ cs₀ st₀ mp₀)
+    pub marked-back : (first : ℕ) {p n : List Float} {cs st xs q : List ℕ} (p₀ n₀ : List Float) (cs₀ st₀ xs₀ mp₀ : List ℕ) → length sdf ≤ length mp₀
+        → lists p n cs st xs q ≡ marked (twoLayers (part (k .dims .x * k .dims .y * z) (k .dims .x * k .dims .y) sdf) (rest (k .dims .x * k .dims .y * z + k .dims .x * k .dims .y) sdf) k z) (boxOf k) z (record { place = first; number = first })
+        (lists p₀ n₀ cs₀ st₀ xs₀ (part (k .dims .x * k .dims .y * z) (k .dims .x * k .dims .y) mp₀))
+        → lists p n cs st xs (take (k .dims .x * k .dims .y * z) mp₀
+        ++ (q ++ drop (k .dims .x * k .dims .y * z + k .dims .x * k .dims .y - k .dims .x * k .dims .y * z) (drop (k .dims .x * k .dims .y * z) mp₀)))
+        ≡ layerMarked (fieldOf sdf k) (boxOf k) z first (lists p₀ n₀ cs₀ st₀ xs₀ mp₀)
     unfolding layerMarked marked
-    marked-back first {p} {n} {cs} {st} {q} p₀ n₀ cs₀ st₀ mp₀ long e =
+    marked-back first {p} {n} {cs} {st} {xs} {q} p₀ n₀ cs₀ st₀ xs₀ mp₀ long e =
         let a = k .dims .x * k .dims .y * z in
         let w = k .dims .x * k .dims .y in
-        ap (λ (s : Lists). lists (s .positions) (s .normals) (s .cells) (s .strides) (take a mp₀ ++ (s .map ++ drop (a + w - a) (drop a mp₀)))) (e ∙ marked-alike (point (k .dims)) two (g .dist) b z (layers-agree sdf k i z zs) (record { place = first; number = first }) (lists p₀ n₀ cs₀ st₀ (part a w mp₀)))
-        ∙ ap (λ (l : List ℕ). lists (marked g b z (record { place = first; number = first }) (lists p₀ n₀ cs₀ st₀ mp₀) .positions) (marked g b z (record { place = first; number = first }) (lists p₀ n₀ cs₀ st₀ mp₀) .normals) (marked g b z (record { place = first; number = first }) (lists p₀ n₀ cs₀ st₀ mp₀) .cells) (marked g b z (record { place = first; number = first }) (lists p₀ n₀ cs₀ st₀ mp₀) .strides) l)
+        ap (λ (s : Lists). lists (s .positions) (s .normals) (s .cells) (s .strides) (s .crossings) (take a mp₀ ++ (s .map ++ drop (a + w - a) (drop a mp₀))))
+        (e ∙ marked-alike (point (k .dims)) two (g .dist) b z (layers-agree sdf k i z zs) (record { place = first; number = first }) (lists p₀ n₀ cs₀ st₀ xs₀ (part a w mp₀)))
+        ∙ ap (λ (l : List ℕ). listed g first (layerVertices g b z) l (lists p₀ n₀ cs₀ st₀ xs₀ mp₀))
         (part-back (g .dims) plane-up z (layerEntry g b z first) mp₀ (omega (arith, layer-end sdf k i z zs)))
 
     -- ---- the room on the way
@@ -92,7 +98,7 @@ module _ (sdf : List Float) (k : Block) (i : Inside sdf k) where
       pub layer-within : made .vertices + length (layerVertices (fieldOf sdf k) (boxOf k) z) ≤ length (vertices (fieldOf sdf k) (boxOf k))
       layer-within = omega (arith, first-at, first-more g b (flagsOf k) z (zs .0), first-is g b (flagsOf k) (z + 1), vertices-within g b (flagsOf k) (z + 1) (omega arith) (omega arith))
 
-      pub written-room : Room (record { place = made .vertices; number = made .vertices }) (length (layerVertices (fieldOf sdf k) (boxOf k) z)) (lists (s .positions) (s .normals) (s .cells) (s .strides) (s .map))
+      pub written-room : Room (record { place = made .vertices; number = made .vertices }) (length (layerVertices (fieldOf sdf k) (boxOf k) z)) (listsOf s)
       written-room =
           let r = w .roomy in
           let h = layer-within in
@@ -102,6 +108,7 @@ module _ (sdf : List Float) (k : Block) (i : Inside sdf k) where
             normals = omega (arith, r .normals, e .normals);
             cells = omega (arith, r .cells, e .cells);
             strides = omega (arith, r .strides, e .strides);
+            crossings = omega (arith, r .crossings, e .crossings);
             numbers = omega (arith, vertices-few);
           }
 

@@ -13,7 +13,7 @@ use lib.Seq.{sets, drop-at, take-at}
 use Rattle.rules.specs.Lists.{upTo, joined, placed, over}
 use Rattle.rules.specs.Grid.{GridPoint, Box, Field, index, isCell}
 use Rattle.rules.specs.Cell.{Vector}
-use Rattle.rules.specs.Vertices.{cells, surfaceCell, layerVertices, vertices, firstVertex, vertexPosition, vertexNormal, cellEntry}
+use Rattle.rules.specs.Vertices.{cells, surfaceCell, layerVertices, vertices, firstVertex, vertexPosition, vertexNormal, vertexCrossings, cellEntry}
 use Rattle.rules.specs.Faces.{Flags, layerIndices, indices}
 use Rattle.rules.specs.Call.{Call, Buffers, flatVectors, flatPoints, written}
 use Rattle.rules.proofs.Lists.{joined-append, many-most, length-placed}
@@ -29,11 +29,11 @@ use Rattle.grid.proofs.Bounds.{fits, below-length}
 use Rattle.grid.proofs.Order.{box-ends}
 use Rattle.grid.proofs.Rows.{box-short}
 use Rattle.stores.proofs.Runs.{length-over, sets-over}
-use Rattle.layer_vertices.specs.Marked.{Lists, Room}
+use Rattle.layer_vertices.specs.Marked.{Lists, withMap, Room}
 use Rattle.layer_vertices.proofs.Passing.{vectors-append, points-append}
 use Rattle.whole_box.specs.declared.Made.{Made}
-use Rattle.whole_box.specs.Reading.{Roomy}
-use Rattle.whole_box.specs.Layers.{entryAt, lastAt, verticesTo, indicesTo, entryTo, writtenTo, madeTo, Written, layerWritten, layerMade, Stands}
+use Rattle.whole_box.specs.Reading.{listsOf, withIndices, Roomy}
+use Rattle.whole_box.specs.Layers.{entryAt, lastAt, verticesTo, indicesTo, entryTo, layerMarked, laid, writtenTo, madeTo, Written, layerWritten, layerMade, Stands}
 use Rattle.whole_box.proofs.Map.{map-more, map-none, map-last, map-number}
 
 -- ---- lists up to a layer
@@ -89,26 +89,19 @@ module _ (c : Call) (z : ℕ) (l : c .box .low .z ≤ z) (h : z < c .box .high .
   grows = omega (arith, vertices-within g b m (z + 1) (omega arith) (omega arith), ap length (vertices-more g b m z l), length-append before L)
 
   step : (t : Buffers) → Roomy (c .grid) (c .box) (c .flags) (c .size) t → layerWritten c z (madeTo c z) (writtenTo c z t) ≡ writtenTo c (z + 1) t
-  unfolding layerWritten writtenTo
+  unfolding layerWritten layerMarked writtenTo
   step t r =
       (λ i.
       record {
         positions = vectors (vertexPosition g) (t .positions) (r .positions) i;
         normals = vectors (vertexNormal g) (t .normals) (r .normals) i;
         cells = cells' i;
-        strides = strides' i;
+        strides = ones (index (g .dims)) (t .strides) (r .strides) i;
+        crossings = ones (vertexCrossings g) (t .crossings) (r .crossings) i;
         map = map-more g b xs ys up z (t .map) i;
         indices = indices' i;
       })
-      ∙ ap (λ (vs : List GridPoint).
-      record {
-        positions = over (flatVectors (map (vertexPosition g) vs)) (t .positions);
-        normals = over (flatVectors (map (vertexNormal g) vs)) (t .normals);
-        cells = over (flatPoints vs) (t .cells);
-        strides = over (map (index (g .dims)) vs) (t .strides);
-        map = placed (entryTo g b (z + 1)) 0 (t .map);
-        indices = over (indicesTo g b m (z + 1)) (t .indices);
-      }) (sym (vertices-more g b m z l))
+      ∙ ap (λ (vs : List GridPoint). laid g vs (placed (entryTo g b (z + 1)) 0 (t .map)) (indicesTo g b m (z + 1)) t) (sym (vertices-more g b m z l))
     where
       vectors : (f : GridPoint → Vector) (old : List Float) → 3 * length (vertices g b) ≤ length old
           → sets (over (flatVectors (map f before)) old) (3 * firstVertex g b z) (flatVectors (map f L)) ≡ over (flatVectors (map f (before ++ L))) old
@@ -121,10 +114,10 @@ module _ (c : Call) (z : ℕ) (l : c .box .low .z ≤ z) (h : z < c .box .high .
           sets-over (flatPoints before) (t .cells) (flatPoints L) (3 * firstVertex g b z) (omega (arith, first-is g b m z, length-points before)) (omega (arith, grows, r .cells, length-points before, length-points L))
           ∙ ap (λ (s : List ℕ). over s (t .cells)) (points-append before L)
 
-      strides' : sets (over (map (index (g .dims)) before) (t .strides)) (firstVertex g b z) (map (index (g .dims)) L) ≡ over (map (index (g .dims)) (before ++ L)) (t .strides)
-      strides' =
-          sets-over (map (index (g .dims)) before) (t .strides) (map (index (g .dims)) L) (firstVertex g b z) (first-is g b m z ∙ sym (length-map before (index (g .dims)))) (omega (arith, grows, r .strides, length-map before (index (g .dims)), length-map L (index (g .dims))))
-          ∙ ap (λ (s : List ℕ). over s (t .strides)) (sym (map-append (index (g .dims)) before L))
+      ones : (f : GridPoint → ℕ) (old : List ℕ) → length (vertices g b) ≤ length old → sets (over (map f before) old) (firstVertex g b z) (map f L) ≡ over (map f (before ++ L)) old
+      ones f old room =
+          sets-over (map f before) old (map f L) (firstVertex g b z) (first-is g b m z ∙ sym (length-map before f)) (omega (arith, grows, length-map before f, length-map L f))
+          ∙ ap (λ (s : List ℕ). over s old) (sym (map-append f before L))
 
       more : List ℕ
       more = layerIndices g b m (firstVertex g b z) z
@@ -157,7 +150,7 @@ module _ (c : Call) (z : ℕ) (l : c .box .low .z ≤ z) (h : z < c .box .high .
 
 -- the lists with another map
 abbrev pub with-map : Buffers → List ℕ → Buffers
-with-map s mp = record { positions = s .positions; normals = s .normals; cells = s .cells; strides = s .strides; map = mp; indices = s .indices }
+with-map s mp = withIndices (s .indices) (withMap mp (listsOf s))
 
 pub written-none : (c : Call) (t : Buffers) → Roomy (c .grid) (c .box) (c .flags) (c .size) t → Written c (c .box .low .z) t (record { vertices = 0; indices = 0; below = 0 }) t
 unfolding writtenTo joined firstVertex
@@ -168,16 +161,10 @@ written-none c t r =
     record {
       roomy = r;
       same =
-          (λ i. record { positions = t .positions; normals = t .normals; cells = t .cells; strides = t .strides; map = sym (map-none (c .grid) (c .box) (t .map)) i; indices = t .indices })
+          ap (with-map t) (sym (map-none (c .grid) (c .box) (t .map)))
           ∙ ap (λ (ys : List ℕ).
-          record {
-            positions = over (flatVectors (map (vertexPosition (c .grid)) (joined (layerVertices (c .grid) (c .box)) ys))) (t .positions);
-            normals = over (flatVectors (map (vertexNormal (c .grid)) (joined (layerVertices (c .grid) (c .box)) ys))) (t .normals);
-            cells = over (flatPoints (joined (layerVertices (c .grid) (c .box)) ys)) (t .cells);
-            strides = over (map (index (c .grid .dims)) (joined (layerVertices (c .grid) (c .box)) ys)) (t .strides);
-            map = placed (entryTo (c .grid) (c .box) z) 0 (t .map);
-            indices = over (joined (λ (y : ℕ). layerIndices (c .grid) (c .box) (c .flags) (firstVertex (c .grid) (c .box) y) y) ys) (t .indices);
-          }) (sym none);
+          laid (c .grid) (joined (layerVertices (c .grid) (c .box)) ys) (placed (entryTo (c .grid) (c .box) z) 0 (t .map))
+          (joined (λ (y : ℕ). layerIndices (c .grid) (c .box) (c .flags) (firstVertex (c .grid) (c .box) y) y) ys) t) (sym none);
       on =
           ap₂ (λ (ys us : List ℕ).
           record {
@@ -202,6 +189,7 @@ pub record SameLengths (s t : Buffers) : Type 0 where
   pub normals : length (s .normals) ≡ length (t .normals)
   pub cells : length (s .cells) ≡ length (t .cells)
   pub strides : length (s .strides) ≡ length (t .strides)
+  pub crossings : length (s .crossings) ≡ length (t .crossings)
   pub map : length (s .map) ≡ length (t .map)
   pub indices : length (s .indices) ≡ length (t .indices)
 
@@ -218,6 +206,9 @@ written-lengths c z l h {t} w =
       normals = ap (λ (b : Buffers). length (b .normals)) e ∙ length-over (flatVectors (map (vertexNormal (c .grid)) vs)) (t .normals) (omega (arith, r .normals, length-vectors (vertexNormal (c .grid)) vs));
       cells = ap (λ (b : Buffers). length (b .cells)) e ∙ length-over (flatPoints vs) (t .cells) (omega (arith, r .cells, length-points vs));
       strides = ap (λ (b : Buffers). length (b .strides)) e ∙ length-over (map (index (c .grid .dims)) vs) (t .strides) (omega (arith, r .strides, length-map vs (index (c .grid .dims))));
+      crossings =
+          ap (λ (b : Buffers). length (b .crossings)) e
+          ∙ length-over (map (vertexCrossings (c .grid)) vs) (t .crossings) (omega (arith, r .crossings, length-map vs (vertexCrossings (c .grid))));
       map = ap (λ (b : Buffers). length (b .map)) e ∙ length-placed (entryTo (c .grid) (c .box) z) 0 (t .map);
       indices = ap (λ (b : Buffers). length (b .indices)) e ∙ length-over (indicesTo (c .grid) (c .box) (c .flags) z) (t .indices) (omega (arith, r .indices));
     }

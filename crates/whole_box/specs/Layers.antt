@@ -10,14 +10,14 @@ use lib.Seq.{sets}
 use lib.Ieee.{Float}
 use Rattle.rules.specs.Lists.{upTo, joined, placed, over}
 use Rattle.rules.specs.Grid.{GridPoint, Box, Field, index, pointAt, isCell}
-use Rattle.rules.specs.Vertices.{layerVertices, firstVertex, vertexPosition, vertexNormal, cellEntry, mapEntry}
+use Rattle.rules.specs.Vertices.{layerVertices, firstVertex, vertexPosition, vertexNormal, vertexCrossings, cellEntry, mapEntry}
 use Rattle.rules.specs.Faces.{Flags, layerIndices}
 use Rattle.rules.specs.Call.{Call, Buffers, badDimensions, badBox, flatVectors, flatPoints}
 use Rattle.grid.specs.declared.Block.{Block}
 use Rattle.grid.specs.Block.{point, boxOf}
-use Rattle.layer_vertices.specs.Marked.{Lists, layerEntry, lastEntry}
+use Rattle.layer_vertices.specs.Marked.{Lists, listed, layerEntry, lastEntry}
 use Rattle.whole_box.specs.declared.Made.{Made}
-use Rattle.whole_box.specs.Reading.{Roomy}
+use Rattle.whole_box.specs.Reading.{listsOf, withIndices, Roomy}
 
 -- ---- the layer z, whose first vertex has the number `first`
 
@@ -30,14 +30,7 @@ entryAt g b z first j old = atLayer (g .dims) z (layerEntry g b z first) j old
 
 -- the vertices, in the lists from place `first` on
 unfoldable pub layerMarked : Field → Box → ℕ → ℕ → Lists → Lists
-layerMarked g b z first s =
-    record {
-      positions = sets (s .positions) (3 * first) (flatVectors (map (vertexPosition g) (layerVertices g b z)));
-      normals = sets (s .normals) (3 * first) (flatVectors (map (vertexNormal g) (layerVertices g b z)));
-      cells = sets (s .cells) (3 * first) (flatPoints (layerVertices g b z));
-      strides = sets (s .strides) first (map (index (g .dims)) (layerVertices g b z));
-      map = placed (entryAt g b z first) 0 (s .map);
-    }
+layerMarked g b z first s = listed g first (layerVertices g b z) (placed (entryAt g b z first) 0 (s .map)) s
 
 -- ---- the layers from min up to z, which is left out
 
@@ -50,16 +43,22 @@ indicesTo g b m z = joined (λ (y : ℕ). layerIndices g b m (firstVertex g b y)
 abbrev pub entryTo : Field → Box → ℕ → ℕ → ℕ → ℕ
 entryTo g b z j old = cond (ltb (pointAt (g .dims) j .z) z) (mapEntry g b j old) old
 
+-- the vertices of vs over the first numbers of the lists, and indices over the first of theirs; and a map
+abbrev pub laid : Field → List GridPoint → List ℕ → List ℕ → Buffers → Buffers
+laid g vs entries is s =
+    record {
+      positions = over (flatVectors (map (vertexPosition g) vs)) (s .positions);
+      normals = over (flatVectors (map (vertexNormal g) vs)) (s .normals);
+      cells = over (flatPoints vs) (s .cells);
+      strides = over (map (index (g .dims)) vs) (s .strides);
+      crossings = over (map (vertexCrossings g) vs) (s .crossings);
+      map = entries;
+      indices = over is (s .indices);
+    }
+
 unfoldable pub writtenTo : Call → ℕ → Buffers → Buffers
 writtenTo c z s =
-    record {
-      positions = over (flatVectors (map (vertexPosition (c .grid)) (verticesTo (c .grid) (c .box) z))) (s .positions);
-      normals = over (flatVectors (map (vertexNormal (c .grid)) (verticesTo (c .grid) (c .box) z))) (s .normals);
-      cells = over (flatPoints (verticesTo (c .grid) (c .box) z)) (s .cells);
-      strides = over (map (index (c .grid .dims)) (verticesTo (c .grid) (c .box) z)) (s .strides);
-      map = placed (entryTo (c .grid) (c .box) z) 0 (s .map);
-      indices = over (indicesTo (c .grid) (c .box) (c .flags) z) (s .indices);
-    }
+    laid (c .grid) (verticesTo (c .grid) (c .box) z) (placed (entryTo (c .grid) (c .box) z) 0 (s .map)) (indicesTo (c .grid) (c .box) (c .flags) z) s
 
 abbrev pub madeTo : Call → ℕ → Made
 madeTo c z =
@@ -82,14 +81,8 @@ pub record Reached (c : Call) (z : ℕ) (made : Made) (s : Buffers) : Type 0 whe
 -- one layer more
 unfoldable pub layerWritten : Call → ℕ → Made → Buffers → Buffers
 layerWritten c z made s =
-    record {
-      positions = sets (s .positions) (3 * made .vertices) (flatVectors (map (vertexPosition (c .grid)) (layerVertices (c .grid) (c .box) z)));
-      normals = sets (s .normals) (3 * made .vertices) (flatVectors (map (vertexNormal (c .grid)) (layerVertices (c .grid) (c .box) z)));
-      cells = sets (s .cells) (3 * made .vertices) (flatPoints (layerVertices (c .grid) (c .box) z));
-      strides = sets (s .strides) (made .vertices) (map (index (c .grid .dims)) (layerVertices (c .grid) (c .box) z));
-      map = placed (entryAt (c .grid) (c .box) z (made .vertices)) 0 (s .map);
-      indices = sets (s .indices) (made .indices) (layerIndices (c .grid) (c .box) (c .flags) (made .vertices) z);
-    }
+    withIndices (sets (s .indices) (made .indices) (layerIndices (c .grid) (c .box) (c .flags) (made .vertices) z))
+    (layerMarked (c .grid) (c .box) z (made .vertices) (listsOf s))
 
 abbrev pub layerMade : Call → ℕ → Made → Made
 layerMade c z made =

@@ -10,8 +10,9 @@ ghost use Rattle.rules.specs.Faces.{layerIndices};
 ghost use Rattle.rules.specs.Call.{written};
 ghost use Rattle.grid.specs.Block.{point, boxOf, flagsOf, fieldOf, callOf};
 ghost use Rattle.grid.specs.Inside.{Inside};
-ghost use Rattle.layer_vertices.specs.Marked.{lists, Room};
-ghost use Rattle.whole_box.specs.Reading.{buffers, Roomy};
+ghost use Rattle.layer_vertices.specs.Marked.{Room};
+ghost use Rattle.layer_vertices.specs.Lent.{listsGiven, listsBefore, listsAfter};
+ghost use Rattle.whole_box.specs.Reading.{buffersGiven, buffersBefore, buffersAfter, Roomy};
 ghost use Rattle.whole_box.specs.Layers.{layerMarked, layerWritten, layerMade, lastAt, InMap, Reached, Stands};
 use grid::Block;
 use layer_faces::Firsts;
@@ -34,13 +35,16 @@ fn mark_part(
     normals: &mut [f32],
     cells: &mut [u32],
     strides: &mut [u32],
+    crossings: &mut [u8],
     map: &mut [u32],
 ) -> usize
     requires { ⌜ Inside (now sdf) k ⌝ }
     requires { ⌜ (k .low .z ≤ z) × (z < k .high .z) ⌝ }
     requires { ⌜ length (now sdf) ≤ length (now map) ⌝ }
-    requires { ⌜ Room (record { place = first; number = first }) (length (layerVertices (fieldOf (now sdf) k) (boxOf k) z)) (lists (now positions) (now normals) (now cells) (now strides) (now map)) ⌝ }
-    ensures { λ r. ⌜ lists (now (positions .exit)) (now (normals .exit)) (now (cells .exit)) (now (strides .exit)) (now (map .exit)) ≡ layerMarked (fieldOf (now (sdf .entry)) k) (boxOf k) z first (lists (now (positions .entry)) (now (normals .entry)) (now (cells .entry)) (now (strides .entry)) (now (map .entry))) ⌝ }
+    requires { ⌜ Room (record { place = first; number = first }) (length (layerVertices (fieldOf (now sdf) k) (boxOf k) z))
+        (listsGiven positions normals cells strides crossings map) ⌝ }
+    ensures { λ r. ⌜ listsAfter positions normals cells strides crossings map
+        ≡ layerMarked (fieldOf (now (sdf .entry)) k) (boxOf k) z first (listsBefore positions normals cells strides crossings map) ⌝ }
     ensures { λ r. ⌜ r ≡ length (layerVertices (fieldOf (now (sdf .entry)) k) (boxOf k) z) ⌝ }
 {
     let plane = (k.dims.x as usize) * (k.dims.y as usize);
@@ -60,6 +64,7 @@ fn mark_part(
         normals,
         cells,
         strides,
+        crossings,
         &mut map[start..end],
     )
 }
@@ -133,18 +138,31 @@ fn mesh_layer(
     normals: &mut [f32],
     cells: &mut [u32],
     strides: &mut [u32],
+    crossings: &mut [u8],
     map: &mut [u32],
     indices: &mut [u32],
     made: Made,
 ) -> Made
     requires { ⌜ Inside (now sdf) k ⌝ }
     requires { ⌜ (k .low .z ≤ z) × (z < k .high .z) ⌝ }
-    requires { ⌜ Reached (callOf (now sdf) k) z made (buffers (now positions) (now normals) (now cells) (now strides) (now map) (now indices)) ⌝ }
-    ensures { λ r. ⌜ buffers (now (positions .exit)) (now (normals .exit)) (now (cells .exit)) (now (strides .exit)) (now (map .exit)) (now (indices .exit)) ≡ layerWritten (callOf (now (sdf .entry)) k) z made (buffers (now (positions .entry)) (now (normals .entry)) (now (cells .entry)) (now (strides .entry)) (now (map .entry)) (now (indices .entry))) ⌝ }
+    requires { ⌜ Reached (callOf (now sdf) k) z made (buffersGiven positions normals cells strides crossings map indices) ⌝ }
+    ensures { λ r. ⌜ buffersAfter positions normals cells strides crossings map indices
+        ≡ layerWritten (callOf (now (sdf .entry)) k) z made (buffersBefore positions normals cells strides crossings map indices) ⌝ }
     ensures { λ r. ⌜ r ≡ layerMade (callOf (now (sdf .entry)) k) z made ⌝ }
 {
     let first = made.vertices;
-    let count = mark_part(sdf, k, z, first, positions, normals, cells, strides, map);
+    let count = mark_part(
+        sdf,
+        k,
+        z,
+        first,
+        positions,
+        normals,
+        cells,
+        strides,
+        crossings,
+        map,
+    );
     let used = face_part(sdf, k, z, made, count, cells, map, positions, indices);
     Made {
         vertices: made.vertices + count,
@@ -173,12 +191,14 @@ pub fn mesh_box(
     normals: &mut [f32],
     cells: &mut [u32],
     strides: &mut [u32],
+    crossings: &mut [u8],
     map: &mut [u32],
     indices: &mut [u32],
 )
     requires { ⌜ Inside (now sdf) k ⌝ }
-    requires { ⌜ Roomy (fieldOf (now sdf) k) (boxOf k) (flagsOf k) (length (now sdf)) (buffers (now positions) (now normals) (now cells) (now strides) (now map) (now indices)) ⌝ }
-    ensures { λ r. ⌜ buffers (now (positions .exit)) (now (normals .exit)) (now (cells .exit)) (now (strides .exit)) (now (map .exit)) (now (indices .exit)) ≡ written (callOf (now (sdf .entry)) k) (buffers (now (positions .entry)) (now (normals .entry)) (now (cells .entry)) (now (strides .entry)) (now (map .entry)) (now (indices .entry))) ⌝ }
+    requires { ⌜ Roomy (fieldOf (now sdf) k) (boxOf k) (flagsOf k) (length (now sdf)) (buffersGiven positions normals cells strides crossings map indices) ⌝ }
+    ensures { λ r. ⌜ buffersAfter positions normals cells strides crossings map indices
+        ≡ written (callOf (now (sdf .entry)) k) (buffersBefore positions normals cells strides crossings map indices) ⌝ }
 {
     let from = k.low.z;
     let end = k.high.z;
@@ -196,6 +216,7 @@ pub fn mesh_box(
             normals,
             cells,
             strides,
+            crossings,
             map,
             indices,
             state,

@@ -110,4 +110,8 @@ pub fn old_contents(room: &Room, random: &mut Random) -> Contents {
         contents.map.iter_mut().for_each(|entry| *entry %= 16);
     }
     contents
+        .crossings
+        .iter_mut()
+        .for_each(|number| *number %= 256);
+    contents
 }

@@ -19,8 +19,8 @@ const LONGEST: u32 = 8;
 /// Trees with a face in the whole that a full run must reach.
 const ENOUGH: u64 = 10_000;
 
-/// A face by its six corners, each the cell and the bits of the position of its vertex.
-type Face = [[u32; 6]; 6];
+/// A face by its six corners, each the cell, the bits of the position and the number of crossings of its vertex.
+type Face = [[u32; 7]; 6];
 
 /// What was counted.
 #[derive(Default)]
@@ -142,7 +142,7 @@ fn looked_up(face: &[u32], buffer: &SurfaceNetsBuffer) -> Face {
         let vertex = face[corner] as usize;
         let [x, y, z] = buffer.surface_points[vertex];
         let [px, py, pz] = buffer.positions[vertex].map(f32::to_bits);
-        [x, y, z, px, py, pz]
+        [x, y, z, px, py, pz, buffer.crossings[vertex].into()]
     })
 }
 

@@ -14,13 +14,14 @@ pub type Spoil = fn(&mut Random, &mut OwnCall, &mut Room);
 
 /// Ordered so that a later one does not undo an earlier: distances while the box is still good, then
 /// room, then grid and map, then the box, then the dimensions.
-pub const SPOILS: [Spoil; 22] = [
+pub const SPOILS: [Spoil; 23] = [
     not_finite,
     above_the_cap,
     positions_one_short,
     normals_one_short,
     cells_one_short,
     strides_one_short,
+    crossings_one_short,
     some_list_far_too_short,
     indices_one_short,
     indices_far_too_short,
@@ -100,12 +101,17 @@ fn strides_one_short(_: &mut Random, call: &mut OwnCall, room: &mut Room) {
     room.strides = one_short(needed(call).strides);
 }
 
+fn crossings_one_short(_: &mut Random, call: &mut OwnCall, room: &mut Room) {
+    room.crossings = one_short(needed(call).crossings);
+}
+
 fn some_list_far_too_short(random: &mut Random, _: &mut OwnCall, room: &mut Room) {
-    let list = match random.between(0, 3) {
+    let list = match random.between(0, 4) {
         0 => &mut room.positions,
         1 => &mut room.normals,
         2 => &mut room.cells,
-        _ => &mut room.strides,
+        3 => &mut room.strides,
+        _ => &mut room.crossings,
     };
     *list = random.between(0, *list as u64) as usize;
 }

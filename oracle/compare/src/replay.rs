@@ -3,7 +3,7 @@
 use crate::guarded::Guarded;
 use crate::library;
 use oracle::call::Call;
-use oracle::stored::{from_bytes, old_contents, StoredCall};
+use oracle::stored::{from_bytes, old_contents, stored, StoredCall};
 use std::path::Path;
 use std::{fs, io};
 
@@ -40,6 +40,6 @@ fn agrees(call: &StoredCall) -> bool {
     };
     let mut buffers = old_contents(&call.room()).each(Guarded::holding);
     let answered = library::run(&asked, buffers.by_mut().each(Guarded::contents));
-    let mut kept = buffers.in_order().into_iter().zip(&call.after);
+    let mut kept = stored(buffers).into_iter().zip(&call.after);
     answered == call.verdict && kept.all(|(is, wanted)| is.first_difference(wanted).is_none())
 }

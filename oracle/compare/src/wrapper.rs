@@ -50,6 +50,7 @@ fn same(buffer: &SurfaceNetsBuffer, mesh: &Mesh) -> bool {
         && buffer.indices == mesh.indices
         && buffer.surface_points == mesh.surface_points
         && buffer.surface_strides == mesh.surface_strides
+        && buffer.crossings == mesh.crossings
         && buffer.stride_to_index == mesh.stride_to_index
 }
 

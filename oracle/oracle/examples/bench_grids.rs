@@ -40,6 +40,7 @@ impl Bench {
                 normals: 27,
                 cells: 27,
                 strides: 11,
+                crossings: 11,
                 map: 30,
                 indices: 39,
             },
@@ -79,6 +80,7 @@ fn print_more(lent: &Contents, verdict: &Verdict, show: Show) {
         Show::Counts => {}
         Show::Mesh => {
             words("strides", &lent.strides, verdict.vertices);
+            words("crossings", &lent.crossings, verdict.vertices);
             indices();
             bits("vertex 0", &lent.positions[..3]);
             bits("vertex 1", &lent.positions[3..6]);

@@ -49,13 +49,14 @@ impl MaxPlane {
     }
 }
 
-/// One number for each of the six lent buffers, or one thing of a kind for each.
+/// One number for each of the seven lent buffers, or one thing of a kind for each.
 #[derive(Clone, Copy, Debug, Default, PartialEq, Eq)]
 pub struct Lent<T> {
     pub positions: T,
     pub normals: T,
     pub cells: T,
     pub strides: T,
+    pub crossings: T,
     pub map: T,
     pub indices: T,
 }
@@ -64,28 +65,39 @@ pub struct Lent<T> {
 pub type Room = Lent<usize>;
 
 /// The names of the lent buffers, in the order of `in_order`.
-pub const BUFFERS: [&str; 6] = ["positions", "normals", "cells", "strides", "map", "indices"];
+pub const BUFFERS: [&str; 7] = [
+    "positions",
+    "normals",
+    "cells",
+    "strides",
+    "crossings",
+    "map",
+    "indices",
+];
 
 impl<T> Lent<T> {
-    /// The six, in the order of the call.
-    pub fn in_order(self) -> [T; 6] {
+    /// The seven, in the order of the call.
+    pub fn in_order(self) -> [T; 7] {
         [
             self.positions,
             self.normals,
             self.cells,
             self.strides,
+            self.crossings,
             self.map,
             self.indices,
         ]
     }
 
-    /// The six from the order of the call.
-    pub fn from_order([positions, normals, cells, strides, map, indices]: [T; 6]) -> Self {
+    /// The seven from the order of the call.
+    pub fn from_order(lists: [T; 7]) -> Self {
+        let [positions, normals, cells, strides, crossings, map, indices] = lists;
         Self {
             positions,
             normals,
             cells,
             strides,
+            crossings,
             map,
             indices,
         }
@@ -93,7 +105,7 @@ impl<T> Lent<T> {
 }
 
 impl<T> Lent<T> {
-    /// What a function makes of each of the six.
+    /// What a function makes of each of the seven.
     pub fn each<U>(self, make: impl FnMut(T) -> U) -> Lent<U> {
         Lent::from_order(self.in_order().map(make))
     }
@@ -104,6 +116,7 @@ impl<T> Lent<T> {
             normals: &self.normals,
             cells: &self.cells,
             strides: &self.strides,
+            crossings: &self.crossings,
             map: &self.map,
             indices: &self.indices,
         }
@@ -115,6 +128,7 @@ impl<T> Lent<T> {
             normals: &mut self.normals,
             cells: &mut self.cells,
             strides: &mut self.strides,
+            crossings: &mut self.crossings,
             map: &mut self.map,
             indices: &mut self.indices,
         }
@@ -130,6 +144,7 @@ impl Room {
             normals: threes,
             cells: threes,
             strides: vertices as usize,
+            crossings: vertices as usize,
             map: grid,
             indices: indices as usize,
         }

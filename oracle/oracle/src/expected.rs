@@ -1,6 +1,7 @@
-//! What a call must leave behind: the verdict and the whole contents of the six lent buffers.
+//! What a call must leave behind: the verdict and the whole contents of the seven lent buffers.
 //!
-//! Buffers are held as their 32-bit patterns, so that an equal answer means equal bits.
+//! Buffers are held as their 32-bit patterns, so that an equal answer means equal bits; of the crossings, which
+//! are bytes, each word is a byte's number.
 
 use crate::call::{Call, Lent, Room};
 use crate::model::{refused_before_counting, verdict, Verdict};
@@ -66,6 +67,10 @@ pub fn write_mesh(lent: &mut Contents, mesh: &Mesh) {
         mesh.surface_points.iter().flatten().copied(),
     );
     write(&mut lent.strides, mesh.surface_strides.iter().copied());
+    write(
+        &mut lent.crossings,
+        mesh.crossings.iter().map(|&n| n.into()),
+    );
     write(&mut lent.map, mesh.stride_to_index.iter().copied());
     write(&mut lent.indices, mesh.indices.iter().copied());
 }

@@ -60,7 +60,11 @@ fn refused_for_room(room: &Room, vertices: u64, indices: u64) -> Option<u32> {
     let threes_short = threes
         .iter()
         .any(|&length| (length as u128) < 3 * vertices as u128);
-    if threes_short || (room.strides as u128) < vertices as u128 {
+    let ones = [room.strides, room.crossings];
+    let ones_short = ones
+        .iter()
+        .any(|&length| (length as u128) < vertices as u128);
+    if threes_short || ones_short {
         Some(6)
     } else if (room.indices as u128) < indices as u128 {
         Some(7)

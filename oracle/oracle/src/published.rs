@@ -1,11 +1,12 @@
-//! Runs the published Rust on a call, and beside it the plain model of the faces and of the map's last points.
+//! Runs the published Rust on a call, and beside it the plain model of the faces, of the map's last points and of the number of crossings.
 
 use crate::call::{Call, MaxPlane};
 use crate::faces::{index_list, Vertices};
-use crate::model::{index, no_cells};
+use crate::model::{corners, crossings, index, no_cells};
 use ndshape::RuntimeShape;
 
-/// The Rust's buffers after a call, in the Rust's own shapes.
+/// The Rust's buffers after a call, in the Rust's own shapes, and the number of crossings of each vertex's cell, which
+/// the Rust does not say (document 02, request 13).
 #[derive(Default)]
 pub struct Mesh {
     pub positions: Vec<[f32; 3]>,
@@ -13,6 +14,7 @@ pub struct Mesh {
     pub indices: Vec<u32>,
     pub surface_points: Vec<[u32; 3]>,
     pub surface_strides: Vec<u32>,
+    pub crossings: Vec<u8>,
     pub stride_to_index: Vec<u32>,
 }
 
@@ -23,7 +25,7 @@ impl Mesh {
     /// Both builds are run, and the model must make the index list of each. The list is then that of the
     /// build that fits the call's flags, or, for one or two of them, the model's. The map is the Rust's, with
     /// 4,294,967,295 at each point of the box that is no cell (document 02, request 7), where the Rust keeps
-    /// the old number.
+    /// the old number. The crossings are counted by the model over the same cells.
     ///
     /// # Panics
     ///
@@ -38,6 +40,8 @@ impl Mesh {
             MaxPlane::NONE => none,
             _ => self.modelled(call),
         };
+        let count = |&cell: &[u32; 3]| crossings(&corners(call, cell)) as u8;
+        self.crossings = self.surface_points.iter().map(count).collect();
         for point in no_cells(call) {
             self.stride_to_index[index(call, point) as usize] = u32::MAX;
         }
@@ -91,6 +95,7 @@ macro_rules! run_in {
                     indices: buffer.indices,
                     surface_points: buffer.surface_points,
                     surface_strides: buffer.surface_strides,
+                    crossings: std::mem::take(&mut self.crossings),
                     stride_to_index: buffer.stride_to_index,
                 };
             }

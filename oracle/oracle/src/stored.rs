@@ -9,7 +9,8 @@ use crate::expected::{outcome, Contents};
 use crate::model::Verdict;
 use crate::published::Mesh;
 
-/// A call with its old contents made by the rule, and what it must leave behind.
+/// A call with its old contents made by the rule, and what it must leave behind in document 01's six buffers. The
+/// crossings are not stored: as many are lent as strides, so that no stored answer is another for them.
 #[derive(Clone, PartialEq)]
 pub struct StoredCall {
     pub grid: Vec<u32>,
@@ -22,7 +23,7 @@ pub struct StoredCall {
 }
 
 /// What each buffer holds before every stored call: element j of a float buffer is 1000 + j or
-/// 2000 + j, and of a whole-number buffer j above a mark of its own.
+/// 2000 + j, and of a whole-number buffer j above a mark of its own; of the crossings the byte of 100 + j.
 pub fn old_contents(room: &Room) -> Contents {
     let floats = |first: f32, length: usize| -> Vec<u32> {
         (0..length).map(|j| (first + j as f32).to_bits()).collect()
@@ -33,6 +34,11 @@ pub fn old_contents(room: &Room) -> Contents {
         normals: floats(2000.0, room.normals),
         cells: words(0x5100_0000, room.cells),
         strides: words(0x5200_0000, room.strides),
+        crossings: (100u8..=255)
+            .cycle()
+            .map(u32::from)
+            .take(room.crossings)
+            .collect(),
         map: words(0x5300_0000, room.map),
         indices: words(0x5400_0000, room.indices),
     }
@@ -50,13 +56,15 @@ impl StoredCall {
             max: call.max,
             max_plane: call.max_plane,
             verdict,
-            after: contents.in_order(),
+            after: stored(contents),
         }
     }
 
     /// The lengths of the lent buffers.
     pub fn room(&self) -> Room {
-        Room::from_order(std::array::from_fn(|i| self.after[i].len()))
+        let [positions, normals, cells, strides, map, indices] =
+            std::array::from_fn(|i| self.after[i].len());
+        Room::from_order([positions, normals, cells, strides, strides, map, indices])
     }
 
     fn write(&self, words: &mut Vec<u32>) {
@@ -100,6 +108,12 @@ impl StoredCall {
             after,
         })
     }
+}
+
+/// The buffers that are stored.
+pub fn stored<T>(lent: Lent<T>) -> [T; 6] {
+    let [positions, normals, cells, strides, _, map, indices] = lent.in_order();
+    [positions, normals, cells, strides, map, indices]
 }
 
 /// The whole file: the count of calls, then each.

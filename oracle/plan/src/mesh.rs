@@ -20,11 +20,13 @@ fn faces(sdf: &[f32], dims: [u32; 3], b: &Block, into: &mut HashMap<Face, i64>, 
     for _ in 0..3 {
         let (mut positions, mut normals) = (vec![0.0; p], vec![0.0; p]);
         let (mut cells, mut strides, mut indices) = (vec![0; p], vec![0; v], vec![0; i]);
+        let mut crossings = vec![0; v];
         let mut lent = Lent {
             positions: &mut positions,
             normals: &mut normals,
             cells: &mut cells,
             strides: &mut strides,
+            crossings: &mut crossings,
             stride_to_index: &mut map,
             indices: &mut indices,
         };

@@ -1,7 +1,7 @@
 -- Each way out by the tests that led there. Assumes nothing.
 use mathlib.Core.Path.{_∙_}
 use Rattle.judge.specs.Reading.{roomOf}
-use Rattle.judge.proofs.Judging.{positions-short, normals-short, cells-short, strides-short, indices-short, room-enough}
+use Rattle.judge.proofs.Judging.{positions-short, normals-short, cells-short, strides-short, crossings-short, indices-short, room-enough}
 use borrow.Author.Needs.{needs}
 use Rattle.judge.proofs.room_answer.Statement.{statement}
 use Rattle.judge.proofs.room_answer.Tie as tie
@@ -51,17 +51,37 @@ counted-requires-5 c κs = search needs
 returns-5 : tie.Need-returns-5
 returns-5 c =
     let a = c .before .before .before .before .before .before .before .before .before .before .before .args in
-    let r = roomOf (a .room) in
-    c .counted5 .ensures ∙ indices-short r (a .vertices) (a .indices) (c .before .before .before .before .before .before .before .before .before .if1 .left) (c .before .before .before .before .before .before .before .if2 .left) (c .before .before .before .before .before .if3 .left) (c .before .before .before .if4 .left) (c .before .if5 .taken)
+    let p = c .before .before .before .before .before .before .before .before .before .if1 .left in
+    let n = c .before .before .before .before .before .before .before .if2 .left in
+    let l = c .before .before .before .before .before .if3 .left in
+    let s = c .before .before .before .if4 .left in
+    c .counted5 .ensures ∙ crossings-short (roomOf (a .room)) (a .vertices) (a .indices) p n l s (c .before .if5 .taken)
 
 counted-requires-6 : tie.Need-counted-requires-6
 counted-requires-6 c κs = search needs
 
 returns-6 : tie.Need-returns-6
 returns-6 c =
-    let a = c .before .before .before .before .before .before .before .before .before .before .before .args in
-    let r = roomOf (a .room) in
-    c .counted6 .ensures ∙ room-enough r (a .vertices) (a .indices) (c .before .before .before .before .before .before .before .before .before .if1 .left) (c .before .before .before .before .before .before .before .if2 .left) (c .before .before .before .before .before .if3 .left) (c .before .before .before .if4 .left) (c .before .if5 .left)
+    let a = c .before .before .before .before .before .before .before .before .before .before .before .before .before .args in
+    let p = c .before .before .before .before .before .before .before .before .before .before .before .if1 .left in
+    let n = c .before .before .before .before .before .before .before .before .before .if2 .left in
+    let l = c .before .before .before .before .before .before .before .if3 .left in
+    let s = c .before .before .before .before .before .if4 .left in
+    let x = c .before .before .before .if5 .left in
+    c .counted6 .ensures ∙ indices-short (roomOf (a .room)) (a .vertices) (a .indices) p n l s x (c .before .if6 .taken)
+
+counted-requires-7 : tie.Need-counted-requires-7
+counted-requires-7 c κs = search needs
+
+returns-7 : tie.Need-returns-7
+returns-7 c =
+    let a = c .before .before .before .before .before .before .before .before .before .before .before .before .before .args in
+    let p = c .before .before .before .before .before .before .before .before .before .before .before .if1 .left in
+    let n = c .before .before .before .before .before .before .before .before .before .if2 .left in
+    let l = c .before .before .before .before .before .before .before .if3 .left in
+    let s = c .before .before .before .before .before .if4 .left in
+    let x = c .before .before .before .if5 .left in
+    c .counted7 .ensures ∙ room-enough (roomOf (a .room)) (a .vertices) (a .indices) p n l s x (c .before .if6 .left)
 
 pub room-answer-spec : {M : Type 1} → statement M
 room-answer-spec =
@@ -79,4 +99,6 @@ room-answer-spec =
     counted-requires-5
     returns-5
     counted-requires-6
-    returns-6)
+    returns-6
+    counted-requires-7
+    returns-7)

@@ -26,24 +26,24 @@ use Rattle.layer_vertices.proofs.mark_layer.Statement.{statement}
 use Rattle.layer_vertices.proofs.mark_layer.Tie as tie
 
 abbrev Inv-loop : tie.InvT-loop
-Inv-loop lower upper k z positions₀ normals₀ cells₀ strides₀ map₀ from end first state₀ y₀ positions normals cells strides map state y =
+Inv-loop lower upper k z positions₀ normals₀ cells₀ strides₀ crossings₀ map₀ from end first state₀ y₀ positions normals cells strides crossings map state y =
     Counting from end y
-    × Passes (twoLayers lower upper k z) (boxOf k) state₀ (lists positions₀ normals₀ cells₀ strides₀ map₀) (layerTo (pointsOf (boxOf k)) z y) state
-    (lists positions normals cells strides map)
+    × Passes (twoLayers lower upper k z) (boxOf k) state₀ (lists positions₀ normals₀ cells₀ strides₀ crossings₀ map₀) (layerTo (pointsOf (boxOf k)) z y) state
+    (lists positions normals cells strides crossings map)
 
 abbrev μ-loop : tie.MeasureT-loop
-μ-loop lower upper k z positions₀ normals₀ cells₀ strides₀ map₀ from end first state₀ y₀ positions normals cells strides map state y = end - y
+μ-loop lower upper k z positions₀ normals₀ cells₀ strides₀ crossings₀ map₀ from end first state₀ y₀ positions normals cells strides crossings map state y = end - y
 
 -- ---- the places that a later one leads back to
 
 abbrev entry-of : tie.At-loop Inv-loop μ-loop → tie.Start Inv-loop μ-loop
-entry-of c = c .before .before .before .before .before .before .before .before
+entry-of c = c .before .before .before .before .before .before .before .before .before
 
-abbrev turn-of : tie.After-mark-row-arg5 Inv-loop μ-loop → tie.In-loop Inv-loop μ-loop
-turn-of c = c .before .before .before .before .before
+abbrev turn-of : tie.After-mark-row-arg6 Inv-loop μ-loop → tie.In-loop Inv-loop μ-loop
+turn-of c = c .before .before .before .before .before .before
 
-abbrev call-of : tie.After-slice-known10 Inv-loop μ-loop → tie.After-mark-row Inv-loop μ-loop
-call-of c = c .before .before .before .before .before .before .before .before .before .before
+abbrev call-of : tie.After-slice-known12 Inv-loop μ-loop → tie.After-mark-row Inv-loop μ-loop
+call-of c = c .before .before .before .before .before .before .before .before .before .before .before .before
 
 here : (c : tie.In-loop Inv-loop μ-loop) → AtRow (entry-of (c .before) .args .k) (entry-of (c .before) .args .z) (c .before .loop .y)
 here c = row-of (entry-of (c .before) .pre .0) (c .before .loop .inv .0) (c .loop-test .taken)
@@ -52,7 +52,7 @@ here c = row-of (entry-of (c .before) .pre .0) (c .before .loop .inv .0) (c .loo
 
 loop-holds : tie.Need-loop-holds Inv-loop μ-loop
 loop-holds c =
-    let s = c .before .before .before .before .before .before .before in
+    let s = c .before .before .before .before .before .before .before .before in
     (layer-begun (s .pre .0), passes-none (layer-begins (pointsOf (boxOf (s .args .k))) (s .args .z)))
 
 mark-row-requires : tie.Need-mark-row-requires Inv-loop μ-loop
@@ -100,7 +100,8 @@ abbrev cleared-of : tie.After-struct-known Inv-loop μ-loop → tie.After-clear-
 cleared-of c = c .before .before .before
 
 lengths : (c : tie.After-struct-known Inv-loop μ-loop) → let a = entry-of (done-of (cleared-of c) .before) .args in let w = done-of (cleared-of c) .before .loop in
-    SameLengths (lists (w .positions) (w .normals) (w .cells) (w .strides) (w .map)) (lists (a .positions .now) (a .normals .now) (a .cells .now) (a .strides .now) (a .map .now))
+    SameLengths (lists (w .positions) (w .normals) (w .cells) (w .strides) (w .crossings) (w .map))
+    (lists (a .positions .now) (a .normals .now) (a .cells .now) (a .strides .now) (a .crossings .now) (a .map .now))
 lengths c = passes-lengths (done-of (cleared-of c) .before .loop .inv .1)
 
 clear-row-requires : tie.Need-clear-row-requires Inv-loop μ-loop
@@ -129,7 +130,10 @@ same-length-4 : tie.Need-same-length-4 Inv-loop μ-loop
 same-length-4 c = lengths c .strides
 
 same-length-5 : tie.Need-same-length-5 Inv-loop μ-loop
-same-length-5 c =
+same-length-5 c = lengths c .crossings
+
+same-length-6 : tie.Need-same-length-6 Inv-loop μ-loop
+same-length-6 c =
     let m = cleared-of c in
     let w = done-of m .before .loop in
     let a = entry-of (done-of m .before) .args in
@@ -171,4 +175,5 @@ mark-layer-spec =
     same-length-3
     same-length-4
     same-length-5
+    same-length-6
     returns)

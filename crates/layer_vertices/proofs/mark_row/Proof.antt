@@ -24,18 +24,18 @@ use Rattle.layer_vertices.proofs.mark_row.Statement.{statement}
 use Rattle.layer_vertices.proofs.mark_row.Tie as tie
 
 abbrev Inv-loop : tie.InvT-loop
-Inv-loop lower upper k y z positions₀ normals₀ cells₀ strides₀ map₀ from end row at₀ low₀ state₀ x₀ positions normals cells strides map at low state x =
+Inv-loop lower upper k y z positions₀ normals₀ cells₀ strides₀ crossings₀ map₀ from end row at₀ low₀ state₀ x₀ positions normals cells strides crossings map at low state x =
     OnRow k y z at x × ((low ≡ sideBetween lower upper at (k .dims .x))
-    × Passes (twoLayers lower upper k z) (boxOf k) state₀ (lists positions₀ normals₀ cells₀ strides₀ map₀) (rowTo (boxOf k) z y x) state
-    (lists positions normals cells strides map))
+    × Passes (twoLayers lower upper k z) (boxOf k) state₀ (lists positions₀ normals₀ cells₀ strides₀ crossings₀ map₀) (rowTo (boxOf k) z y x) state
+    (lists positions normals cells strides crossings map))
 
 abbrev μ-loop : tie.MeasureT-loop
-μ-loop lower upper k y z positions₀ normals₀ cells₀ strides₀ map₀ from end row at₀ low₀ state₀ x₀ positions normals cells strides map at low state x = end - x
+μ-loop lower upper k y z positions₀ normals₀ cells₀ strides₀ crossings₀ map₀ from end row at₀ low₀ state₀ x₀ positions normals cells strides crossings map at low state x = end - x
 
 -- ---- the places that a later one leads back to
 
 abbrev begin-of : tie.After-side-between Inv-loop μ-loop → tie.Start Inv-loop μ-loop
-begin-of c = c .before .before .before .before .before .before .before .before .before
+begin-of c = c .before .before .before .before .before .before .before .before .before .before
 
 abbrev entry-of : tie.At-loop Inv-loop μ-loop → tie.Start Inv-loop μ-loop
 entry-of c = begin-of (c .before)
@@ -43,11 +43,11 @@ entry-of c = begin-of (c .before)
 abbrev turn-of : tie.After-corners Inv-loop μ-loop → tie.In-loop Inv-loop μ-loop
 turn-of c = c .before .before
 
-abbrev read-of : tie.After-mark-cell-arg5 Inv-loop μ-loop → tie.After-corners Inv-loop μ-loop
-read-of c = c .before .before .before .before .before .before
+abbrev read-of : tie.After-mark-cell-arg6 Inv-loop μ-loop → tie.After-corners Inv-loop μ-loop
+read-of c = c .before .before .before .before .before .before .before
 
-abbrev call-of : tie.After-slice-known10 Inv-loop μ-loop → tie.After-mark-cell Inv-loop μ-loop
-call-of c = c .before .before .before .before .before .before .before .before .before .before
+abbrev call-of : tie.After-slice-known12 Inv-loop μ-loop → tie.After-mark-cell Inv-loop μ-loop
+call-of c = c .before .before .before .before .before .before .before .before .before .before .before .before
 
 -- ---- the row, the cell of a turn, and what is read of it
 
@@ -75,13 +75,13 @@ cast-at : tie.Need-cast-at Inv-loop μ-loop
 cast-at c = search needs
 
 mul-at : tie.Need-mul-at Inv-loop μ-loop
-mul-at c = row-fits (row (c .before .before .before .before .before .before .before .before))
+mul-at c = row-fits (row (c .before .before .before .before .before .before .before .before .before))
 
 add-at : tie.Need-add-at Inv-loop μ-loop
-add-at c = first-fits (row (c .before .before .before .before .before .before .before .before))
+add-at c = first-fits (row (c .before .before .before .before .before .before .before .before .before))
 
 side-between-requires : tie.Need-side-between-requires Inv-loop μ-loop
-side-between-requires c κs = first-side (row (c .before .before .before .before .before .before .before .before)) refl
+side-between-requires c κs = first-side (row (c .before .before .before .before .before .before .before .before .before)) refl
 
 loop-holds : tie.Need-loop-holds Inv-loop μ-loop
 loop-holds c =
@@ -159,7 +159,10 @@ same-length-4 : tie.Need-same-length-4 Inv-loop μ-loop
 same-length-4 c = passes-lengths (c .before .loop .inv .1 .1) .strides
 
 same-length-5 : tie.Need-same-length-5 Inv-loop μ-loop
-same-length-5 c = let w = c .before .loop in length-set (w .map) (w .at) 4294967295 ∙ passes-lengths (w .inv .1 .1) .map
+same-length-5 c = passes-lengths (c .before .loop .inv .1 .1) .crossings
+
+same-length-6 : tie.Need-same-length-6 Inv-loop μ-loop
+same-length-6 c = let w = c .before .loop in length-set (w .map) (w .at) 4294967295 ∙ passes-lengths (w .inv .1 .1) .map
 
 returns : tie.Need-returns Inv-loop μ-loop
 returns c =
@@ -199,4 +202,5 @@ mark-row-spec =
     same-length-3
     same-length-4
     same-length-5
+    same-length-6
     returns)

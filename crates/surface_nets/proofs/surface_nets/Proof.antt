@@ -4,7 +4,7 @@ use mathlib.Core.Path.{_≡_, ap, sym, refl, _∙_}
 use native.Mathlib.Omega.{arith}
 use Rattle.rules.specs.Call.{Call, Buffers, Answer, answer, room}
 use Rattle.rules.proofs.Locality.{when-done, when-refused}
-use Rattle.whole_box.specs.Reading.{buffers}
+use Rattle.whole_box.specs.Reading.{buffersGiven}
 use Rattle.surface_nets.specs.Reading.{blockOf, callMade, Binary32}
 use Rattle.surface_nets.proofs.Done.{done-inside, done-roomy}
 use borrow.Author.Needs.{needs}
@@ -18,20 +18,20 @@ above-zero {n = suc n} h = omega arith
 -- ---- the call, its lists, and what the answer says
 
 abbrev entry-of : tie.After-answer-for → tie.Start
-entry-of c = c .before .before .before .before .before .before .before .before
+entry-of c = c .before .before .before .before .before .before .before .before .before
 
 abbrev call-of : tie.Start → Call
 call-of s = let a = s .args in callMade (a .sdf .now) (a .dims) (a .low) (a .high) (a .max-plane)
 
 abbrev lists-of : tie.Start → Buffers
-lists-of s = let a = s .args in buffers (a .positions .now) (a .normals .now) (a .cells .now) (a .strides .now) (a .stride-to-index .now) (a .indices .now)
+lists-of s = let a = s .args in buffersGiven (a .positions) (a .normals) (a .cells) (a .strides) (a .crossings) (a .stride-to-index) (a .indices)
 
 number : (c : tie.After-answer-for) → c .answer-for .result .number ≡ answer (call-of (entry-of c)) (room (lists-of (entry-of c))) .number
 number c = ap (λ (t : Answer). t .number) (c .answer-for .ensures)
 
 -- each number of the grid is a value of its type, which nothing changes
 numbers : (c : tie.After-answer-for) → Binary32 (entry-of c .args .sdf .now)
-numbers c i l = c .before .before .before .before .before .before .before .shared-slice-known .given i
+numbers c i l = c .before .before .before .before .before .before .before .before .shared-slice-known .given i
 
 -- ---- the needs
 
@@ -46,7 +46,7 @@ returns c =
 
 mesh-box-requires : tie.Need-mesh-box-requires
 mesh-box-requires c κs =
-    let q = c .before .before .before .before .before .before in
+    let q = c .before .before .before .before .before .before .before in
     let a = entry-of (q .before) .args in
     let k = blockOf (a .dims) (a .low) (a .high) (a .max-plane) in
     let e = sym (number (q .before)) ∙ q .if1 .left in
@@ -70,10 +70,13 @@ same-length-5 c = search needs
 same-length-6 : tie.Need-same-length-6
 same-length-6 c = search needs
 
+same-length-7 : tie.Need-same-length-7
+same-length-7 c = search needs
+
 returns-2 : tie.Need-returns-2
 returns-2 c =
-    let m = c .before .before .before .before .before .before .before .before .before .before .before .before in
-    let q = m .before .before .before .before .before .before .before in
+    let m = c .before .before .before .before .before .before .before .before .before .before .before .before .before .before in
+    let q = m .before .before .before .before .before .before .before .before in
     let s = entry-of (q .before) in
     (q .before .answer-for .ensures, (m .mesh-box .ensures ∙ sym (when-done (call-of s) (lists-of s) (sym (number (q .before)) ∙ q .if1 .left)), numbers (q .before)))
 
@@ -90,4 +93,5 @@ surface-nets-spec =
     same-length-4
     same-length-5
     same-length-6
+    same-length-7
     returns-2)

@@ -16,85 +16,85 @@ cast-plane-2 c = search needs
 
 mul-plane : tie.Need-mul-plane
 mul-plane c =
-    let s = c .before .before .before .before .before .before .before .before in
+    let s = c .before .before .before .before .before .before .before .before .before in
     omega (arith, layer-few (s .args .sdf .now) (s .args .k) (s .pre .0) (s .args .z) (s .pre .1 .0), layer-end (s .args .sdf .now) (s .args .k) (s .pre .0) (s .args .z) (s .pre .1 .0))
 
 mul-start : tie.Need-mul-start
 mul-start c =
-    let s = c .before .before .before .before .before .before .before .before in
+    let s = c .before .before .before .before .before .before .before .before .before in
     omega (arith, layer-few (s .args .sdf .now) (s .args .k) (s .pre .0) (s .args .z) (s .pre .1 .0), layer-end (s .args .sdf .now) (s .args .k) (s .pre .0) (s .args .z) (s .pre .1 .0))
 
 add-end : tie.Need-add-end
 add-end c =
-    let s = c .before .before .before .before .before .before .before .before in
+    let s = c .before .before .before .before .before .before .before .before .before in
     omega (arith, layer-few (s .args .sdf .now) (s .args .k) (s .pre .0) (s .args .z) (s .pre .1 .0), layer-end (s .args .sdf .now) (s .args .k) (s .pre .0) (s .args .z) (s .pre .1 .0))
 
-cast-t16 : tie.Need-cast-t16
-cast-t16 c = let r = c .before .before .before .before .before .before .before .before .pre .1 .1 .1 in omega arith
+cast-t17 : tie.Need-cast-t17
+cast-t17 c = let r = c .before .before .before .before .before .before .before .before .before .pre .1 .1 .1 in omega arith
 
 mul-mark-layer : tie.Need-mul-mark-layer
 mul-mark-layer c =
-    let s = c .before .before .before .before .before .before .before .before in
+    let s = c .before .before .before .before .before .before .before .before .before in
     omega (arith, layer-few (s .args .sdf .now) (s .args .k) (s .pre .0) (s .args .z) (s .pre .1 .0), layer-end (s .args .sdf .now) (s .args .k) (s .pre .0) (s .args .z) (s .pre .1 .0))
 
 sub-mark-layer : tie.Need-sub-mark-layer
 sub-mark-layer c =
-    let s = c .before .before .before .before .before .before .before .before in
+    let s = c .before .before .before .before .before .before .before .before .before in
     omega (arith, layer-few (s .args .sdf .now) (s .args .k) (s .pre .0) (s .args .z) (s .pre .1 .0), layer-end (s .args .sdf .now) (s .args .k) (s .pre .0) (s .args .z) (s .pre .1 .0))
 
 part-mark-layer-start : tie.Need-part-mark-layer-start
 part-mark-layer-start c =
-    let s = c .before .before .before .before .before .before .before .before in
+    let s = c .before .before .before .before .before .before .before .before .before in
     omega (arith, layer-few (s .args .sdf .now) (s .args .k) (s .pre .0) (s .args .z) (s .pre .1 .0), layer-end (s .args .sdf .now) (s .args .k) (s .pre .0) (s .args .z) (s .pre .1 .0))
 
 part-mark-layer-end : tie.Need-part-mark-layer-end
 part-mark-layer-end c =
-    let s = c .before .before .before .before .before .before .before .before in
+    let s = c .before .before .before .before .before .before .before .before .before in
     omega (arith, layer-few (s .args .sdf .now) (s .args .k) (s .pre .0) (s .args .z) (s .pre .1 .0), layer-end (s .args .sdf .now) (s .args .k) (s .pre .0) (s .args .z) (s .pre .1 .0))
 
 mul-mark-layer-2 : tie.Need-mul-mark-layer-2
 mul-mark-layer-2 c =
-    let s = c .before .before .before .before .before .before .before .before .before in
+    let s = c .before .before .before .before .before .before .before .before .before .before in
     omega (arith, layer-few (s .args .sdf .now) (s .args .k) (s .pre .0) (s .args .z) (s .pre .1 .0), layer-end (s .args .sdf .now) (s .args .k) (s .pre .0) (s .args .z) (s .pre .1 .0))
 
 sub-mark-layer-2 : tie.Need-sub-mark-layer-2
 sub-mark-layer-2 c =
-    let s = c .before .before .before .before .before .before .before .before .before in
+    let s = c .before .before .before .before .before .before .before .before .before .before in
     omega (arith, layer-few (s .args .sdf .now) (s .args .k) (s .pre .0) (s .args .z) (s .pre .1 .0), layer-end (s .args .sdf .now) (s .args .k) (s .pre .0) (s .args .z) (s .pre .1 .0))
 
 part-mark-layer-start-2 : tie.Need-part-mark-layer-start-2
 part-mark-layer-start-2 c =
-    let s = c .before .before .before .before .before .before .before .before .before in
+    let s = c .before .before .before .before .before .before .before .before .before .before in
     omega (arith, layer-few (s .args .sdf .now) (s .args .k) (s .pre .0) (s .args .z) (s .pre .1 .0), layer-end (s .args .sdf .now) (s .args .k) (s .pre .0) (s .args .z) (s .pre .1 .0))
 
 part-mark-layer-end-2 : tie.Need-part-mark-layer-end-2
 part-mark-layer-end-2 c =
-    let s = c .before .before .before .before .before .before .before .before .before in
+    let s = c .before .before .before .before .before .before .before .before .before .before in
     omega (arith, layer-few (s .args .sdf .now) (s .args .k) (s .pre .0) (s .args .z) (s .pre .1 .0), layer-end (s .args .sdf .now) (s .args .k) (s .pre .0) (s .args .z) (s .pre .1 .0))
 
 mul-mark-layer-3 : tie.Need-mul-mark-layer-3
 mul-mark-layer-3 c =
-    let s = c .before .before .before .before .before .before .before .before .before .before .before .before .before .before in
+    let s = c .before .before .before .before .before .before .before .before .before .before .before .before .before .before .before .before in
     omega (arith, layer-few (s .args .sdf .now) (s .args .k) (s .pre .0) (s .args .z) (s .pre .1 .0), layer-end (s .args .sdf .now) (s .args .k) (s .pre .0) (s .args .z) (s .pre .1 .0), s .pre .1 .1 .0)
 
 sub-mark-layer-3 : tie.Need-sub-mark-layer-3
 sub-mark-layer-3 c =
-    let s = c .before .before .before .before .before .before .before .before .before .before .before .before .before .before in
+    let s = c .before .before .before .before .before .before .before .before .before .before .before .before .before .before .before .before in
     omega (arith, layer-few (s .args .sdf .now) (s .args .k) (s .pre .0) (s .args .z) (s .pre .1 .0), layer-end (s .args .sdf .now) (s .args .k) (s .pre .0) (s .args .z) (s .pre .1 .0), s .pre .1 .1 .0)
 
 part-mark-layer-start-3 : tie.Need-part-mark-layer-start-3
 part-mark-layer-start-3 c =
-    let s = c .before .before .before .before .before .before .before .before .before .before .before .before .before .before in
+    let s = c .before .before .before .before .before .before .before .before .before .before .before .before .before .before .before .before in
     omega (arith, layer-few (s .args .sdf .now) (s .args .k) (s .pre .0) (s .args .z) (s .pre .1 .0), layer-end (s .args .sdf .now) (s .args .k) (s .pre .0) (s .args .z) (s .pre .1 .0), s .pre .1 .1 .0)
 
 part-mark-layer-end-3 : tie.Need-part-mark-layer-end-3
 part-mark-layer-end-3 c =
-    let s = c .before .before .before .before .before .before .before .before .before .before .before .before .before .before in
+    let s = c .before .before .before .before .before .before .before .before .before .before .before .before .before .before .before .before in
     omega (arith, layer-few (s .args .sdf .now) (s .args .k) (s .pre .0) (s .args .z) (s .pre .1 .0), layer-end (s .args .sdf .now) (s .args .k) (s .pre .0) (s .args .z) (s .pre .1 .0), s .pre .1 .1 .0)
 
 mark-layer-requires : tie.Need-mark-layer-requires
 mark-layer-requires c κs =
-    let s = c .before .before .before .before .before .before .before .before .before .before .before .before .before .before .before in
+    let s = c .before .before .before .before .before .before .before .before .before .before .before .before .before .before .before .before .before in
     let a = s .args in
     let i = s .pre .0 in
     let zs = s .pre .1 .0 in
@@ -115,12 +115,17 @@ same-length-4 c = search needs
 same-length-5 : tie.Need-same-length-5
 same-length-5 c = search needs
 
+same-length-6 : tie.Need-same-length-6
+same-length-6 c = search needs
+
 returns : tie.Need-returns
 returns c =
-    let s = c .before .before .before .before .before .before .before .before .before .before .before .before .before .before .before .before .before .before .before .before .before .before .before .before .before .before in
+    let e = c .before .before .before .before .before .before .before .before .before .before .before .before in
+    let s = e .before .before .before .before .before .before .before .before .before .before .before .before .before .before .before .before .before .before in
     let a = s .args in
-    let m = c .before .before .before .before .before .before .before .before .before .before .mark-layer in (
-      marked-back (a .sdf .now) (a .k) (s .pre .0) (a .z) (s .pre .1 .0) (a .first) (a .positions .now) (a .normals .now) (a .cells .now) (a .strides .now) (a .map .now) (s .pre .1 .1 .0) (m .ensures .0),
+    let m = e .mark-layer in (
+      marked-back (a .sdf .now) (a .k) (s .pre .0) (a .z) (s .pre .1 .0) (a .first) (a .positions .now) (a .normals .now) (a .cells .now) (a .strides .now)
+          (a .crossings .now) (a .map .now) (s .pre .1 .1 .0) (m .ensures .0),
       m .ensures .1 ∙ ap length (layer-same (a .sdf .now) (a .k) (s .pre .0) (a .z) (s .pre .1 .0)),
     )
 
@@ -133,7 +138,7 @@ mark-part-spec =
     mul-plane
     mul-start
     add-end
-    cast-t16
+    cast-t17
     mul-mark-layer
     sub-mark-layer
     part-mark-layer-start
@@ -152,4 +157,5 @@ mark-part-spec =
     same-length-3
     same-length-4
     same-length-5
+    same-length-6
     returns)

@@ -4,11 +4,12 @@ use Prim.Native.Nat.{ℕ, _-_}
 use native.Mathlib.Omega.{arith}
 use mathlib.Core.Path.{ap, _∙_}
 use lib.ListN.{length}
+use Rattle.rules.specs.Call.{Buffers}
 use Rattle.rules.proofs.Lists.{length-placed}
 use Rattle.grid.specs.Block.{point, boxOf, callOf}
 use Rattle.grid.proofs.Bounds.{fits}
 use Rattle.grid.proofs.Walks.{Counting, begun, ended, cell-spans, AtLayer, at-layer}
-use Rattle.whole_box.specs.Reading.{buffers}
+use Rattle.whole_box.specs.Reading.{buffers, buffersGiven}
 use Rattle.whole_box.specs.Layers.{lastAt, Written, writtenTo}
 use Rattle.whole_box.proofs.Steps.{SameLengths, written-none, written-all, written-lengths}
 use Rattle.whole_box.proofs.Lent.{plane-up}
@@ -19,46 +20,51 @@ use Rattle.whole_box.proofs.mesh_box.Statement.{statement}
 use Rattle.whole_box.proofs.mesh_box.Tie as tie
 
 abbrev Inv-loop : tie.InvT-loop
-Inv-loop sdf k positions₀ normals₀ cells₀ strides₀ map₀ indices₀ from end state₀ z₀ positions normals cells strides map indices state z =
-    Counting from end z × Written (callOf sdf k) z (buffers positions₀ normals₀ cells₀ strides₀ map₀ indices₀) state (buffers positions normals cells strides map indices)
+Inv-loop sdf k positions₀ normals₀ cells₀ strides₀ crossings₀ map₀ indices₀ from end state₀ z₀ positions normals cells strides crossings map indices state z =
+    Counting from end z × Written (callOf sdf k) z (buffers positions₀ normals₀ cells₀ strides₀ crossings₀ map₀ indices₀) state
+    (buffers positions normals cells strides crossings map indices)
 
 abbrev μ-loop : tie.MeasureT-loop
-μ-loop sdf k positions₀ normals₀ cells₀ strides₀ map₀ indices₀ from end state₀ z₀ positions normals cells strides map indices state z = end - z
+μ-loop sdf k positions₀ normals₀ cells₀ strides₀ crossings₀ map₀ indices₀ from end state₀ z₀ positions normals cells strides crossings map indices state z = end - z
 
 -- ---- the places that a later one leads back to
 
 abbrev entry-of : tie.At-loop Inv-loop μ-loop → tie.Start Inv-loop μ-loop
-entry-of c = c .before .before .before .before .before .before .before .before
+entry-of c = c .before .before .before .before .before .before .before .before .before
 
-abbrev turn-of : tie.After-mesh-layer-arg6 Inv-loop μ-loop → tie.In-loop Inv-loop μ-loop
-turn-of c = c .before .before .before .before .before .before
+-- the lists as they are lent
+abbrev lent-of : tie.Start Inv-loop μ-loop → Buffers
+lent-of s = let a = s .args in buffersGiven (a .positions) (a .normals) (a .cells) (a .strides) (a .crossings) (a .map) (a .indices)
 
-abbrev call-of : tie.After-slice-known12 Inv-loop μ-loop → tie.After-mesh-layer Inv-loop μ-loop
-call-of c = c .before .before .before .before .before .before .before .before .before .before .before .before
+abbrev turn-of : tie.After-mesh-layer-arg7 Inv-loop μ-loop → tie.In-loop Inv-loop μ-loop
+turn-of c = c .before .before .before .before .before .before .before
+
+abbrev call-of : tie.After-slice-known14 Inv-loop μ-loop → tie.After-mesh-layer Inv-loop μ-loop
+call-of c = c .before .before .before .before .before .before .before .before .before .before .before .before .before .before
 
 -- ---- the layer of a turn
 
 here : (c : tie.In-loop Inv-loop μ-loop) → AtLayer (entry-of (c .before) .args .k) (c .before .loop .z)
 here c = at-layer (entry-of (c .before) .pre .0) (c .before .loop .inv .0) (c .loop-test .taken)
 
-lengths : (c : tie.At-loop Inv-loop μ-loop) → let a = entry-of c .args in let w = c .loop in
-    SameLengths (buffers (w .positions) (w .normals) (w .cells) (w .strides) (w .map) (w .indices)) (buffers (a .positions .now) (a .normals .now) (a .cells .now) (a .strides .now) (a .map .now) (a .indices .now))
+lengths : (c : tie.At-loop Inv-loop μ-loop) → let w = c .loop in
+    SameLengths (buffers (w .positions) (w .normals) (w .cells) (w .strides) (w .crossings) (w .map) (w .indices)) (lent-of (entry-of c))
 lengths c = let a = entry-of c .args in let w = c .loop in written-lengths (callOf (a .sdf .now) (a .k)) (w .z) (w .inv .0 .low) (w .inv .0 .high) (w .inv .1)
 
 -- ---- the needs
 
 loop-holds : tie.Need-loop-holds Inv-loop μ-loop
 loop-holds c =
-    let s = c .before .before .before .before .before .before .before in
+    let s = c .before .before .before .before .before .before .before .before in
     let a = s .args in
-    (begun (cell-spans (s .pre .0) .z), written-none (callOf (a .sdf .now) (a .k)) (buffers (a .positions .now) (a .normals .now) (a .cells .now) (a .strides .now) (a .map .now) (a .indices .now)) (s .pre .1))
+    (begun (cell-spans (s .pre .0) .z), written-none (callOf (a .sdf .now) (a .k)) (lent-of s) (s .pre .1))
 
 mesh-layer-requires : tie.Need-mesh-layer-requires Inv-loop μ-loop
 mesh-layer-requires c κs =
     let t = turn-of c in
     let s = entry-of (t .before) in
     let a = s .args in
-    (s .pre .0, (here t .turn .here, record { start = buffers (a .positions .now) (a .normals .now) (a .cells .now) (a .strides .now) (a .map .now) (a .indices .now); written = t .before .loop .inv .1 }))
+    (s .pre .0, (here t .turn .here, record { start = lent-of s; written = t .before .loop .inv .1 }))
 
 add-z : tie.Need-add-z Inv-loop μ-loop
 add-z c = here (turn-of (call-of c .before)) .turn .fits
@@ -78,7 +84,7 @@ loop-again c =
 
 -- ---- after the layers of cells, the last layer
 
-abbrev cleared-of : tie.After-slice-known13 Inv-loop μ-loop → tie.After-clear-part Inv-loop μ-loop
+abbrev cleared-of : tie.After-slice-known15 Inv-loop μ-loop → tie.After-clear-part Inv-loop μ-loop
 cleared-of c = c .before .before
 
 abbrev done-of : tie.After-clear-part Inv-loop μ-loop → tie.After-loop Inv-loop μ-loop
@@ -103,13 +109,16 @@ same-length-4 : tie.Need-same-length-4 Inv-loop μ-loop
 same-length-4 c = lengths (done-of (cleared-of c) .before) .strides
 
 same-length-5 : tie.Need-same-length-5 Inv-loop μ-loop
-same-length-5 c =
+same-length-5 c = lengths (done-of (cleared-of c) .before) .crossings
+
+same-length-6 : tie.Need-same-length-6 Inv-loop μ-loop
+same-length-6 c =
     let m = cleared-of c in
     let a = entry-of (done-of m .before) .args in
     ap length (m .clear-part .ensures) ∙ length-placed (lastAt (point (a .k .dims)) (boxOf (a .k))) 0 (done-of m .before .loop .map) ∙ lengths (done-of m .before) .map
 
-same-length-6 : tie.Need-same-length-6 Inv-loop μ-loop
-same-length-6 c = lengths (done-of (cleared-of c) .before) .indices
+same-length-7 : tie.Need-same-length-7 Inv-loop μ-loop
+same-length-7 c = lengths (done-of (cleared-of c) .before) .indices
 
 returns : tie.Need-returns Inv-loop μ-loop
 returns c =
@@ -119,7 +128,7 @@ returns c =
     let a = s .args in
     let w = l .before .loop in
     let call = callOf (a .sdf .now) (a .k) in
-    let before = buffers (a .positions .now) (a .normals .now) (a .cells .now) (a .strides .now) (a .map .now) (a .indices .now) in
+    let before = lent-of s in
     let f = fits (a .sdf .now) (a .k) (s .pre .0) in
     let layers = w .inv .1 .same ∙ ap (λ (n : ℕ). writtenTo call n before) (ended (w .inv .0) (l .loop-test .left)) in
     written-all call (omega (arith, f .x .1)) (omega (arith, f .y .1)) (plane-up (a .sdf .now) (a .k) (s .pre .0)) before layers (m .clear-part .ensures)
@@ -142,4 +151,5 @@ mesh-box-spec =
     same-length-4
     same-length-5
     same-length-6
+    same-length-7
     returns)

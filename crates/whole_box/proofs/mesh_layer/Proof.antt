@@ -2,7 +2,7 @@
 use mathlib.Core.Path.{_∙_}
 use native.Mathlib.Omega.{arith}
 use Rattle.grid.specs.Block.{callOf}
-use Rattle.whole_box.specs.Reading.{buffers}
+use Rattle.whole_box.specs.Reading.{buffersGiven}
 use Rattle.whole_box.specs.Layers.{Written}
 use Rattle.whole_box.proofs.Lent.{written-room, map-long}
 use Rattle.whole_box.proofs.Layer.{stands-marked, map-still, indices-room, vertices-room, layer-whole}
@@ -13,23 +13,24 @@ use Rattle.whole_box.proofs.mesh_layer.Tie as tie
 -- ---- the places that a later one leads back to
 
 abbrev start-of : tie.After-mark-part → tie.Start
-start-of c = c .before .before .before .before .before .before .before .before .before .before .before .before .before
+start-of c = c .before .before .before .before .before .before .before .before .before .before .before .before .before .before .before
 
 -- the lists that the layers before leave
-so-far : (s : tie.Start) → let a = s .args in Written (callOf (a .sdf .now) (a .k)) (a .z) (s .pre .1 .1 .start) (a .made) (buffers (a .positions .now) (a .normals .now) (a .cells .now) (a .strides .now) (a .map .now) (a .indices .now))
+so-far : (s : tie.Start) → let a = s .args in Written (callOf (a .sdf .now) (a .k)) (a .z) (s .pre .1 .1 .start) (a .made)
+    (buffersGiven (a .positions) (a .normals) (a .cells) (a .strides) (a .crossings) (a .map) (a .indices))
 so-far s = s .pre .1 .1 .written
 
 -- ---- the needs
 
 mark-part-requires : tie.Need-mark-part-requires
 mark-part-requires c κs =
-    let s = c .before .before .before .before .before .before .before .before .before .before .before .before in
+    let s = c .before .before .before .before .before .before .before .before .before .before .before .before .before .before in
     let a = s .args in
     (s .pre .0, (s .pre .1 .0, (map-long (a .sdf .now) (a .k) (s .pre .0) (a .z) (s .pre .1 .0) (so-far s), written-room (a .sdf .now) (a .k) (s .pre .0) (a .z) (s .pre .1 .0) (so-far s))))
 
 face-part-requires : tie.Need-face-part-requires
 face-part-requires c κs =
-    let m = c .before .before .before .before .before .before .before .before .before .before .before .before .before .before in
+    let m = c .before .before .before .before .before .before .before .before .before .before .before .before .before .before .before .before in
     let s = start-of m in
     let a = s .args in
     let e = m .mark-part .ensures in (
@@ -46,19 +47,20 @@ face-part-requires c κs =
       ),
     )
 
-add-t32 : tie.Need-add-t32
-add-t32 c =
-    let m = c .before .before .before .before .before .before .before .before .before .before .before .before .before .before .before .before .before .before in
+add-t35 : tie.Need-add-t35
+add-t35 c =
+    let m = c .before .before .before .before .before .before .before .before .before .before .before .before .before .before .before .before .before .before .before .before in
     let s = start-of m in
     let a = s .args in
     omega (arith, m .mark-part .ensures .1, vertices-room (a .sdf .now) (a .k) (s .pre .0) (a .z) (s .pre .1 .0) (so-far s))
 
-add-t33 : tie.Need-add-t33
-add-t33 c =
-    let m = c .before .before .before .before .before .before .before .before .before .before .before .before .before .before .before .before .before .before .before in
+add-t36 : tie.Need-add-t36
+add-t36 c =
+    let f = c .before .before .before .before in
+    let m = f .before .before .before .before .before .before .before .before .before .before .before .before .before .before .before .before .before in
     let s = start-of m in
     let a = s .args in
-    omega (arith, c .before .before .before .before .face-part .ensures .1, indices-room (a .sdf .now) (a .k) (s .pre .0) (a .z) (s .pre .1 .0) (so-far s), s .good .1 .1 .1 .1 .1 .1 .1 .1 .0)
+    omega (arith, f .face-part .ensures .1, indices-room (a .sdf .now) (a .k) (s .pre .0) (a .z) (s .pre .1 .0) (so-far s), s .good .1 .1 .1 .1 .1 .1 .1 .1 .1 .0)
 
 same-length : tie.Need-same-length
 same-length c = search needs
@@ -78,12 +80,17 @@ same-length-5 c = search needs
 same-length-6 : tie.Need-same-length-6
 same-length-6 c = search needs
 
+same-length-7 : tie.Need-same-length-7
+same-length-7 c = search needs
+
 returns : tie.Need-returns
 returns c =
-    let m = c .before .before .before .before .before .before .before .before .before .before .before .before .before .before .before .before .before .before .before in
+    let f = c .before .before .before .before in
+    let m = f .before .before .before .before .before .before .before .before .before .before .before .before .before .before .before .before .before in
     let s = start-of m in
     let a = s .args in
-    layer-whole (a .sdf .now) (a .k) (s .pre .0) (a .z) (s .pre .1 .0) (so-far s) (m .mark-part .ensures .0) (c .before .before .before .before .face-part .ensures .0) (m .mark-part .ensures .1) (c .before .before .before .before .face-part .ensures .1)
+    layer-whole (a .sdf .now) (a .k) (s .pre .0) (a .z) (s .pre .1 .0) (so-far s) (m .mark-part .ensures .0)
+    (f .face-part .ensures .0) (m .mark-part .ensures .1) (f .face-part .ensures .1)
 
 pub mesh-layer-spec : {M : Type 1} → statement M
 mesh-layer-spec =
@@ -91,12 +98,13 @@ mesh-layer-spec =
     (tie.spec
     mark-part-requires
     face-part-requires
-    add-t32
-    add-t33
+    add-t35
+    add-t36
     same-length
     same-length-2
     same-length-3
     same-length-4
     same-length-5
     same-length-6
+    same-length-7
     returns)

@@ -1,2 +1,3 @@
--- What the counts are, of one cell and of a list of cells.
+-- What the counts are: of runs of distances, and of a list of cells.
+pub mod Runs
 pub mod Tally

@@ -1,17 +1,21 @@
-// V and I before anything is written: the surface cells, and six for each owned edge with exactly one negative end. One function for a
-// cell, a row, a layer and the box.
+// V and I before anything is written: the surface cells, and six for each owned edge with exactly one negative end. A row is counted by loops over
+// runs of distances, which neither branch nor stop early; which of a row's edges the box owns is settled before them, by where a run begins and how
+// long it is.
 ghost use mathlib.Core.Path.{_≡_};
-ghost use mathlib.Core.Bool.{_&&_};
-ghost use Prim.Native.Nat.{_+_, _<_, _≤_};
-ghost use lib.Ieee.{unlike};
+ghost use mathlib.Core.Bool.{_&&_, cond};
+ghost use Prim.Native.Nat.{_+_, _-_, _<_, _≤_};
+ghost use lib.Dec.{leb};
+ghost use lib.ListN.{length};
 ghost use Rattle.rules.specs.Lists.{one};
 ghost use Rattle.rules.specs.Vertices.{rowCells, layerCells, cells};
 ghost use Rattle.grid.specs.Block.{boxOf, flagsOf, fieldOf};
+ghost use Rattle.grid.specs.Corners.{sideAt};
 ghost use Rattle.grid.specs.Inside.{Inside};
-ghost use Rattle.count.specs.Tally.{cellTally, tallyOf};
+ghost use Rattle.count.specs.Runs.{sideNegatives, surfaceRun, changesRun, ownedEdges};
+ghost use Rattle.count.specs.Tally.{tallyOf};
 use grid::Block;
 use grid::Extent;
-use grid::ownership::Own;
+use grid::ownership::owns;
 
 // Vertices and indices, counted.
 pub struct Tally {
@@ -19,66 +23,132 @@ pub struct Tally {
     pub indices: usize,
 }
 
-// 1 for an owned edge with exactly one negative end.
-fn face_count(own: bool, n1: bool, n2: bool) -> usize
-    ensures { λ r. ⌜ r ≡ one (own && unlike n1 n2) ⌝ }
+// How many of a row's x, y and z edges the box owns.
+struct OwnedEdges {
+    x: usize,
+    y: usize,
+    z: usize,
+}
+
+fn counted(yes: bool) -> u32
+    ensures { λ r. ⌜ r ≡ one yes ⌝ }
     ensures { λ r. ⌜ r ≤ 1 ⌝ }
 {
-    if !own {
-        return 0;
-    }
-    if n1 == n2 {
-        return 0;
-    }
-    1
+    yes as u32
 }
 
-// What one cell adds, from its corner values and the edges that the box owns.
-fn count_cell(d: &[f32; 8], own: Own) -> Tally
-    ensures { λ r. ⌜ r ≡ cellTally (now (d .entry)) own ⌝ }
+// How many corners of a side are negative.
+fn side_negatives(sdf: &[f32], at: usize, row: usize, layer: usize) -> u32
+    requires { ⌜ at + row + layer < length (now sdf) ⌝ }
+    ensures { λ r. ⌜ r ≡ sideNegatives (sideAt (now (sdf .entry)) at row layer) ⌝ }
+    ensures { λ r. ⌜ r ≤ 4 ⌝ }
 {
-    if !cube::is_surface(d) {
-        return Tally {
-            vertices: 0,
-            indices: 0,
-        };
+    let s = grid::corners::side_at(sdf, at, row, layer);
+    let a = counted(cube::negative(s.a));
+    let b = counted(cube::negative(s.b));
+    let c = counted(cube::negative(s.c));
+    let d = counted(cube::negative(s.d));
+    a + b + c + d
+}
+
+// 1 where 1 to 7 of 8 corners are negative.
+fn surface_count(negatives: u32) -> u32
+    ensures { λ r. ⌜ r ≡ one (leb 1 negatives && leb negatives 7) ⌝ }
+    ensures { λ r. ⌜ r ≤ 1 ⌝ }
+{
+    counted((1 <= negatives) & (negatives <= 7))
+}
+
+// How many of n cells in a row are surface cells, `at` being the place of the first one's lowest corner. A cell shares its upper x side with the
+// next cell's lower one: the negatives of each side are counted once, and carried.
+fn surface_cells(sdf: &[f32], at: usize, row: usize, layer: usize, n: usize) -> u32
+    requires { ⌜ at + n + row + layer < length (now sdf) ⌝ }
+    requires { ⌜ n ≤ 16777217 ⌝ }
+    ensures { λ r. ⌜ r ≡ surfaceRun (now (sdf .entry)) at row layer n ⌝ }
+{
+    let mut low = side_negatives(sdf, at, row, layer);
+    let mut count = 0u32;
+    for j in 0usize..n {
+        let high = side_negatives(sdf, at + j + 1, row, layer);
+        count += surface_count(low + high);
+        low = high;
     }
-    let n = cube::negative(d[0]);
-    let x = face_count(own.x, n, cube::negative(d[1]));
-    let y = face_count(own.y, n, cube::negative(d[2]));
-    let z = face_count(own.z, n, cube::negative(d[4]));
-    Tally {
-        vertices: 1,
-        indices: 6 * (x + y + z),
+    count
+}
+
+// How many of n edges have exactly one negative end: the lower ends are n distances from p on, the upper ones n from q on.
+fn changes(sdf: &[f32], p: usize, q: usize, n: usize) -> u32
+    requires { ⌜ (p + n ≤ length (now sdf)) × (q + n ≤ length (now sdf)) ⌝ }
+    requires { ⌜ n ≤ 16777217 ⌝ }
+    ensures { λ r. ⌜ r ≡ changesRun (now (sdf .entry)) p q n ⌝ }
+{
+    let mut count = 0u32;
+    for j in 0usize..n {
+        let low = cube::negative(sdf[p + j]);
+        let high = cube::negative(sdf[q + j]);
+        count += counted(low != high);
+    }
+    count
+}
+
+fn pick(first: bool, n: usize, m: usize) -> usize
+    ensures { λ r. ⌜ r ≡ cond first n m ⌝ }
+{
+    if first {
+        return n;
+    }
+    m
+}
+
+// All n but one, and none of none.
+fn all_but_one(n: usize) -> usize
+    ensures { λ r. ⌜ r ≡ n - 1 ⌝ }
+{
+    if n == 0 {
+        return 0;
+    }
+    n - 1
+}
+
+// The row (y, z): its y and z edges are all but the first, whose x is min, and its x edges all but the last, unless max plane.
+fn owned_edges(k: Block, y: u32, z: u32) -> OwnedEdges
+    requires { ⌜ (k .low .x ≤ k .high .x) × ((y < k .high .y) × (z < k .high .z)) ⌝ }
+    ensures { λ r. ⌜ r ≡ ownedEdges (boxOf k) (flagsOf k) y z ⌝ }
+{
+    let n = (k.high.x - k.low.x) as usize;
+    let inner = all_but_one(n);
+    let above_y = k.low.y < y;
+    let above_z = k.low.z < z;
+    let inner_y = y != k.high.y - 1;
+    let inner_z = z != k.high.z - 1;
+    let along = pick(k.max_plane.x, n, inner);
+    OwnedEdges {
+        x: pick(owns(above_y, above_z, true, true), along, 0),
+        y: pick(owns(above_z, true, k.max_plane.y, inner_y), inner, 0),
+        z: pick(owns(true, above_y, k.max_plane.z, inner_z), inner, 0),
     }
 }
 
-// A cell shares its upper x side with the next cell's lower one: each side is read once, and carried.
 fn count_row(sdf: &[f32], k: Block, y: u32, z: u32) -> Tally
     requires { ⌜ Inside (now sdf) k ⌝ }
     requires { ⌜ (k .low .y ≤ y) × (y < k .high .y) ⌝ }
     requires { ⌜ (k .low .z ≤ z) × (z < k .high .z) ⌝ }
     ensures { λ r. ⌜ r ≡ tallyOf (fieldOf (now (sdf .entry)) k) (boxOf k) (flagsOf k) (rowCells (boxOf k) z y) ⌝ }
 {
-    let from = k.low.x;
-    let end = k.high.x;
     let row = k.dims.x as usize;
     let layer = row * (k.dims.y as usize);
-    let mut at = grid::place::linearize(k.dims, Extent { x: from, y, z });
-    let mut low = grid::corners::side_at(sdf, at, row, layer);
-    let mut vertices = 0usize;
-    let mut indices = 0usize;
-    for x in from..end {
-        let high = grid::corners::side_at(sdf, at + 1, row, layer);
-        let d = grid::corners::corners(low, high);
-        let own = grid::ownership::owned_at(k, Extent { x, y, z });
-        let one = count_cell(&d, own);
-        vertices += one.vertices;
-        indices += one.indices;
-        low = high;
-        at += 1;
+    let n = (k.high.x - k.low.x) as usize;
+    let at = grid::place::linearize(k.dims, Extent { x: k.low.x, y, z });
+    let next = at + 1;
+    let own = owned_edges(k, y, z);
+    let vertices = surface_cells(sdf, at, row, layer, n);
+    let along_x = changes(sdf, at, next, own.x);
+    let along_y = changes(sdf, next, next + row, own.y);
+    let along_z = changes(sdf, next, next + layer, own.z);
+    Tally {
+        vertices: vertices as usize,
+        indices: 6 * ((along_x as usize) + (along_y as usize) + (along_z as usize)),
     }
-    Tally { vertices, indices }
 }
 
 fn count_layer(sdf: &[f32], k: Block, z: u32) -> Tally

@@ -1,48 +1,46 @@
--- The rules of CUBE_CORNERS and CUBE_EDGES at each of their entries, from one computed test a table (Table). The rows are those of document
--- 01; that the code has just these is seen where the functions of tables are proved. Assumes nothing.
-use mathlib.Core.Path.{_≡_, refl, ap}
-use mathlib.Core.Bool.{true}
-use mathlib.Core.List.{List, [], _∷_, map}
-use Prim.Native.Nat.{ℕ, _/_, _%_, _<_}
-use lib.Dec.{ltb}
-use lib.ListN.{getD}
-use lib.Ieee.{ofInt}
-use borrow.Author.Tests.{ltb-true}
-use Rattle.rules.specs.Cell.{Vector, CubeEdge, cubeEdge, cubeEdges, eight, cornerVector, float}
+-- The ends of the cube's edges where several edges in a row have the same: the rules' list computed there. Assumes nothing.
+use Prim.Native.Nat.{ℕ, zero, suc, _+_, _≤_, _<_}
+use native.Mathlib.Omega.{arith}
+use mathlib.Core.Bool.{Bool, _&&_}
+use mathlib.Core.Logic.{_⊎_, inl, inr}
+use mathlib.Core.Path.{_≡_, sym, ap, _∙_}
+use lib.Dec.{T, eqb, ltb, eqb→eq, ltb→lt}
+use lib.Ieee.Fits.{and-l, and-r}
+use Rattle.rules.specs.Cell.{CubeEdge}
+use Rattle.rules.proofs.Tests.{less-or-not}
 use Rattle.cube.specs.Reading.{edgeAt}
-use Rattle.cube.proofs.Table.{at}
 
--- ---- the edges: a row is the two corners at an edge's ends
+-- whether the n edges from `low` on have the corner r at that end
+abbrev alike : (CubeEdge → ℕ) → ℕ → ℕ → ℕ → Bool
+alike end r low zero = ltb r 8
+alike end r low (suc n) = eqb r (end (edgeAt (low + n))) && alike end r low n
 
-abbrev pub edgeRows : List (List ℕ)
-edgeRows = map (λ (e : CubeEdge). e .a ∷ e .b ∷ []) cubeEdges
+pub ends-alike : (end : CubeEdge → ℕ) (r low n : ℕ) → T (alike end r low n) → (k : ℕ) → low ≤ k → k < low + n → (r ≡ end (edgeAt k)) × (r < 8)
+ends-alike end r low zero t k h i = absurd (omega arith)
+ends-alike end r low (suc n) t k h i = at (less-or-not k (low + n)) (ends-alike end r low n rest k h)
+  where
+    rest : T (alike end r low n)
+    rest = and-r (eqb r (end (edgeAt (low + n)))) (alike end r low n) t
 
-abbrev edgeOf : List ℕ → CubeEdge
-edgeOf row = cubeEdge (getD row 0 0) (getD row 1 0)
+    corner : (m : ℕ) → T (alike end r low m) → r < 8
+    corner zero s = ltb→lt r 8 s
+    corner (suc m) s = corner m (and-r (eqb r (end (edgeAt (low + m)))) (alike end r low m) s)
 
-edges-are : (k : ℕ) → k < 12 → edgeOf (getD edgeRows k []) ≡ edgeAt k
-edges-are = at edgeOf edgeAt [] edgeRows refl
+    last : k ≡ low + n → (r ≡ end (edgeAt k)) × (r < 8)
+    last e = (eqb→eq r (end (edgeAt (low + n))) (and-l (eqb r (end (edgeAt (low + n)))) (alike end r low n) t) ∙ ap (λ (j : ℕ). end (edgeAt j)) (sym e), corner n rest)
 
-pub first-end : (k : ℕ) → k < 12 → (getD (getD edgeRows k []) 0 0 ≡ edgeAt k .a) × (getD (getD edgeRows k []) 0 0 < 8)
-first-end k h = (
-  ap (λ (e : CubeEdge). e .a) (edges-are k h),
-  ltb-true _ _ (at (λ (row : List ℕ). ltb (getD row 0 0) 8) (λ k. true) [] edgeRows refl k h),
-)
+    at : (k < low + n) ⊎ (low + n ≤ k) → (k < low + n → (r ≡ end (edgeAt k)) × (r < 8)) → (r ≡ end (edgeAt k)) × (r < 8)
+    at (inl j) before = before j
+    at (inr j) before = last (omega arith)
 
-pub second-end : (k : ℕ) → k < 12 → (getD (getD edgeRows k []) 1 0 ≡ edgeAt k .b) × (getD (getD edgeRows k []) 1 0 < 8)
-second-end k h = (
-  ap (λ (e : CubeEdge). e .b) (edges-are k h),
-  ltb-true _ _ (at (λ (row : List ℕ). ltb (getD row 1 0) 8) (λ k. true) [] edgeRows refl k h),
-)
+-- an edge by its number
+pub end-at : (end : CubeEdge → ℕ) (r n : ℕ) → T (alike end r n 1) → (k : ℕ) → k ≡ n → (r ≡ end (edgeAt k)) × (r < 8)
+end-at end r n t k e = ends-alike end r n 1 t k (omega arith) (omega arith)
 
--- ---- the corners: a row is a corner's three coordinates
+-- ---- what an arm knows of the arms before it
 
-abbrev pub cornerRows : List (List ℕ)
-cornerRows = map (λ (i : ℕ). i % 2 ∷ i / 2 % 2 ∷ i / 4 ∷ []) eight
+pub neither : {A B : Type 0} → (A ⊎ B → ⊥) → (A → ⊥) × (B → ⊥)
+neither f = (λ a. f (inl a), λ b. f (inr b))
 
-abbrev pub vectorOf : List ℕ → Vector
-vectorOf row = record { x = float (getD row 0 0); y = float (getD row 1 0); z = float (getD row 2 0) }
-
-pub corners-are : (k : ℕ) → k < 8 → vectorOf (getD cornerRows k []) ≡ cornerVector k
-unfolding ofInt
-corners-are = at vectorOf cornerVector [] cornerRows refl
+pub past : (n k : ℕ) → n ≤ k → (k ≡ n → ⊥) → n + 1 ≤ k
+past n k h i = omega arith

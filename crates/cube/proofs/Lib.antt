@@ -3,7 +3,6 @@
 pub mod Answer
 pub mod CubeTables
 pub mod OneResult
-pub mod Table
 pub mod Taking
 pub mod Unique
 pub mod Corners

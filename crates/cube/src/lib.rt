@@ -20,5 +20,3 @@ pub use crossing::negative;
 pub use gradient::sdf_gradient;
 pub use point::Point;
 pub use point::position_in;
-pub use tables::CUBE_CORNERS;
-pub use tables::CUBE_EDGES;

@@ -3,7 +3,7 @@ use Prim.Native.Nat.{ℕ, _+_, _*_}
 use native.Mathlib.Omega.{arith}
 use mathlib.Core.Bool.{Bool, true, false, _&&_, cond}
 use mathlib.Core.List.{List, [], _∷_, _++_}
-use mathlib.Core.Path.{_≡_, refl, ap, _∙_}
+use mathlib.Core.Path.{_≡_, refl, ap, ap₂, _∙_}
 use lib.Dec.{T}
 use lib.Ieee.{Float, lt}
 use lib.ListN.{length, length-append}
@@ -19,14 +19,25 @@ use Rattle.layer_faces.specs.Quads.{Seen, quadOf, here, below, quadX, qu
 
 -- ---- one quad
 
--- by the tests that chose its corners
-pub six-is : {short n1 : Bool} (s n : Bool) (v1 v2 v3 v4 : ℕ) → short ≡ s → n1 ≡ n → six s n v1 v2 v3 v4 ≡ six short n1 v1 v2 v3 v4
-six-is s n v1 v2 v3 v4 e f = rw (e, f)
+-- the four vertices round the edge from an end of the shorter diagonal on, chosen by one test, and their order in the triangles by the other
+picked : (s n : Bool) (v1 v2 v3 v4 : ℕ) → let a = cond s v1 v2 in let b = cond s v2 v4 in let c = cond s v4 v3 in let d = cond s v3 v1 in
+    a ∷ cond n b c ∷ cond n c b ∷ a ∷ cond n c d ∷ cond n d c ∷ [] ≡ six s n v1 v2 v3 v4
+picked true true v1 v2 v3 v4 = refl
+picked true false v1 v2 v3 v4 = refl
+picked false true v1 v2 v3 v4 = refl
+picked false false v1 v2 v3 v4 = refl
 
-pub quad-of : (v1 v2 v3 v4 : Seen) {n1 : Bool} (s n : Bool) → lt (squaredDistance (v1 .position) (v4 .position)) (squaredDistance (v2 .position) (v3 .position)) ≡ s → n1 ≡ n
-    → six s n (v1 .number) (v2 .number) (v3 .number) (v4 .number) ≡ quadOf n1 v1 v2 v3 v4
+pub quad-picked : (v1 v2 v3 v4 : Seen) (n1 : Bool) {s : Bool} {a b c d second third fifth sixth : ℕ}
+    → s ≡ lt (squaredDistance (v1 .position) (v4 .position)) (squaredDistance (v2 .position) (v3 .position))
+    → a ≡ cond s (v1 .number) (v2 .number) → b ≡ cond s (v2 .number) (v4 .number) → c ≡ cond s (v4 .number) (v3 .number) → d ≡ cond s (v3 .number) (v1 .number)
+    → second ≡ cond n1 b c → third ≡ cond n1 c b → fifth ≡ cond n1 c d → sixth ≡ cond n1 d c
+    → a ∷ second ∷ third ∷ a ∷ fifth ∷ sixth ∷ [] ≡ quadOf n1 v1 v2 v3 v4
 unfolding quadOf
-quad-of v1 v2 v3 v4 s n e f = six-is s n (v1 .number) (v2 .number) (v3 .number) (v4 .number) e f
+quad-picked v1 v2 v3 v4 n1 {s} es ea eb ec ed e2 e3 e5 e6 =
+    let six-by : Bool → List ℕ = λ (t : Bool). six t n1 (v1 .number) (v2 .number) (v3 .number) (v4 .number) in
+    (λ i. ea i ∷ (e2 ∙ ap₂ (cond n1) eb ec) i ∷ (e3 ∙ ap₂ (cond n1) ec eb) i ∷ ea i ∷ (e5 ∙ ap₂ (cond n1) ec ed) i ∷ (e6 ∙ ap₂ (cond n1) ed ec) i ∷ [])
+    ∙ picked s n1 (v1 .number) (v2 .number) (v3 .number) (v4 .number)
+    ∙ ap six-by es
 
 pub length-quad : (n1 : Bool) (v1 v2 v3 v4 : Seen) → length (quadOf n1 v1 v2 v3 v4) ≡ 6
 unfolding quadOf

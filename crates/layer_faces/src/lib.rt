@@ -90,7 +90,17 @@ fn vertex_back(map: &[u32], positions: &[f32], cell: usize, s: Step) -> Vertex
     }
 }
 
-// Two triangles, split along the shorter diagonal, facing away from the negative end.
+fn pick(first: bool, x: u32, y: u32) -> u32
+    ensures { λ r. ⌜ r ≡ cond first x y ⌝ }
+{
+    if first {
+        return x;
+    }
+    y
+}
+
+// Two triangles, split along the shorter diagonal, facing away from the negative end. The four vertices go round the edge from an end of that diagonal
+// on, a b c d, so that the triangles are a b c and a c d, or both turned; chosen without a branch, since neither test can be foreseen.
 fn make_quad(
     v1: Vertex,
     v2: Vertex,
@@ -107,23 +117,21 @@ fn make_quad(
     let p2 = v2.position;
     let p3 = v3.position;
     let p4 = v4.position;
-    let a = v1.number;
-    let b = v2.number;
-    let c = v3.number;
-    let d = v4.number;
-    if p1.squared_distance(p4) < p2.squared_distance(p3) {
-        if n1 {
-            stores::put_six(indices, at, a, b, d, a, d, c);
-            return;
-        }
-        stores::put_six(indices, at, a, d, b, a, c, d);
-        return;
-    }
-    if n1 {
-        stores::put_six(indices, at, b, d, c, b, c, a);
-        return;
-    }
-    stores::put_six(indices, at, b, c, d, b, a, c);
+    let shorter = p1.squared_distance(p4) < p2.squared_distance(p3);
+    let a = pick(shorter, v1.number, v2.number);
+    let b = pick(shorter, v2.number, v4.number);
+    let c = pick(shorter, v4.number, v3.number);
+    let d = pick(shorter, v3.number, v1.number);
+    stores::put_six(
+        indices,
+        at,
+        a,
+        pick(n1, b, c),
+        pick(n1, c, b),
+        a,
+        pick(n1, c, d),
+        pick(n1, d, c),
+    );
 }
 
 // The face of one edge, if the box owns it and exactly one end is negative.

@@ -1,127 +1,165 @@
--- The invariant: the counts are those of the cells before x, `at` is the place of x, and the carried side is the side at x. Assumes nothing.
-use Prim.Native.Nat.{_+_, _-_, _*_}
-use mathlib.Core.Path.{_≡_}
+-- The row's runs lie in the grid, and what they count is what the row's cells count. Assumes nothing.
+use Prim.Native.Nat.{_+_, _-_, _*_, _≤_}
+use native.Mathlib.Omega.{arith}
+use mathlib.Core.Path.{_≡_, ap, _∙_}
 use borrow.Author.Needs.{needs}
-use Rattle.grid.specs.Block.{boxOf}
-use Rattle.grid.specs.Corners.{sideAt}
-use Rattle.grid.specs.Order.{rowTo}
-use Rattle.grid.proofs.Walks.{Row, OnRow, AtCell, row-first, first-side, layer-fits, row-begun, at-cell, row-done}
-use Rattle.grid.proofs.Order.{row-begins}
-use Rattle.count.proofs.Tallies.{Counts, counts-none, counts-all, Step, step, cell-counts}
+use Rattle.grid.specs.Block.{boxOf, flagsOf}
+use Rattle.grid.proofs.Walks.{Row, row-first, layer-fits, cell-spans}
+use Rattle.count.specs.declared.OwnedEdges.{OwnedEdges}
+use Rattle.count.specs.Runs.{changesRun, rowLength, ownedEdges}
+use Rattle.count.proofs.Rows.{Reach, reach, row-tally}
 use Rattle.count.proofs.count_row.Statement.{statement}
 use Rattle.count.proofs.count_row.Tie as tie
 
-abbrev Inv-loop : tie.InvT-loop
-Inv-loop sdf k y z from end row layer at₀ low₀ vertices₀ indices₀ x₀ at low vertices indices x =
-    OnRow k y z at x × (low ≡ sideAt sdf at (k .dims .x) (k .dims .x * k .dims .y)) × Counts sdf k (rowTo (boxOf k) z y x) vertices indices
+-- ---- the places that a later one leads back to
 
-abbrev μ-loop : tie.MeasureT-loop
-μ-loop sdf k y z from end row layer at₀ low₀ vertices₀ indices₀ x₀ at low vertices indices x = end - x
+abbrev entry-of : tie.After-linearize → tie.Start
+entry-of c = c .before .before .before .before .before
 
--- the places that a later one leads back to
-abbrev entry-of : tie.At-loop Inv-loop μ-loop → tie.Start Inv-loop μ-loop
-entry-of c = c .before .before .before .before .before .before
-
-abbrev turn-of : tie.After-count-cell Inv-loop μ-loop → tie.In-loop Inv-loop μ-loop
-turn-of c = c .before .before .before .before .before
-
--- the row, the cell of a turn, and what the cell adds
-row : (s : tie.Start Inv-loop μ-loop) → Row (s .args .sdf .now) (s .args .k) (s .args .y) (s .args .z)
+row : (s : tie.Start) → Row (s .args .sdf .now) (s .args .k) (s .args .y) (s .args .z)
 row s = record { inside = s .pre .0; along-y = s .pre .1 .0; along-z = s .pre .1 .1 }
 
-here : (c : tie.In-loop Inv-loop μ-loop) → let a = entry-of (c .before) .args in let w = c .before .loop in
-    AtCell (a .sdf .now) (a .k) (a .y) (a .z) (w .at) (w .x)
-here c = at-cell (row (entry-of (c .before))) (c .before .loop .inv .0) (c .loop-test .taken)
+there : (c : tie.After-linearize) → let a = entry-of c .args in Reach (a .sdf .now) (a .k) (a .y) (a .z) (c .linearize .result)
+there c = reach (row (entry-of c)) (c .linearize .ensures)
 
-more : (c : tie.After-count-cell Inv-loop μ-loop) → let a = entry-of (turn-of c .before) .args in let w = turn-of c .before .loop in let r = c .count-cell .result in
-    Step (a .sdf .now) (a .k) (rowTo (boxOf (a .k)) (a .z) (a .y) (w .x + 1)) (w .vertices) (w .indices) (r .vertices) (r .indices)
-more c =
-    let h = here (turn-of c) in
-    let o = c .before .before in
-    let inv = turn-of c .before .loop .inv in
-    step (inv .2)
-    (cell-counts (h .place) (inv .1) (o .before .before .side-at2 .ensures) (o .before .corners .ensures) (o .owned-at .ensures) (c .count-cell .ensures))
-    (h .grows) (h .short)
+-- ---- how many edges are owned on each axis
 
-cast-row : tie.Need-cast-row Inv-loop μ-loop
+module _ (c : tie.After-owned-edges) where
+  abbrev all : OwnedEdges
+  all = let a = entry-of (c .before) .args in ownedEdges (boxOf (a .k)) (flagsOf (a .k)) (a .y) (a .z)
+
+  on-x : c .owned-edges .result .x ≡ all .x
+  on-x = ap (λ (o : OwnedEdges). o .x) (c .owned-edges .ensures)
+
+  on-y : c .owned-edges .result .y ≡ all .y
+  on-y = ap (λ (o : OwnedEdges). o .y) (c .owned-edges .ensures)
+
+  on-z : c .owned-edges .result .z ≡ all .z
+  on-z = ap (λ (o : OwnedEdges). o .z) (c .owned-edges .ensures)
+
+  -- whatever is owned, no more than the row has
+  few : let o = c .owned-edges .result in let n = rowLength (boxOf (entry-of (c .before) .args .k)) in (o .x ≤ n) × (o .y ≤ n - 1) × (o .z ≤ n - 1)
+  few =
+      let r = there (c .before) in
+      let x = on-x in
+      let y = on-y in
+      let z = on-z in
+      (omega arith, omega arith, omega arith)
+
+-- ---- the needs
+
+cast-row : tie.Need-cast-row
 cast-row c = search needs
 
-cast-layer : tie.Need-cast-layer Inv-loop μ-loop
+cast-layer : tie.Need-cast-layer
 cast-layer c = search needs
 
-mul-layer : tie.Need-mul-layer Inv-loop μ-loop
+mul-layer : tie.Need-mul-layer
 mul-layer c = layer-fits (row (c .before .before .before))
 
-linearize-requires : tie.Need-linearize-requires Inv-loop μ-loop
-linearize-requires c κs = row-first (row (c .before .before .before))
+sub-n : tie.Need-sub-n
+sub-n c = cell-spans (c .before .before .before .before .pre .0) .x .ordered
 
-side-at-requires : tie.Need-side-at-requires Inv-loop μ-loop
-side-at-requires c κs = first-side (row (c .before .before .before .before)) (c .linearize .ensures)
+cast-n : tie.Need-cast-n
+cast-n c = search needs
 
-loop-holds : tie.Need-loop-holds Inv-loop μ-loop
-loop-holds c =
-    let s = c .before .before .before .before .before in
-    (row-begun (row s) (c .before .linearize .ensures), c .side-at .ensures, counts-none (row-begins (boxOf (s .args .k)) (s .args .z) (s .args .y)))
+linearize-requires : tie.Need-linearize-requires
+linearize-requires c κs = row-first (row (c .before .before .before .before))
 
-add-side-at : tie.Need-add-side-at Inv-loop μ-loop
-add-side-at c = here c .at-fits
+add-next : tie.Need-add-next
+add-next c = let r = there c in omega arith
 
-side-at-requires-2 : tie.Need-side-at-requires-2 Inv-loop μ-loop
-side-at-requires-2 c κs = here c .high-side
+owned-edges-requires : tie.Need-owned-edges-requires
+owned-edges-requires c κs = let s = entry-of c in (cell-spans (s .pre .0) .x .ordered, (s .pre .1 .0 .1, s .pre .1 .1 .1))
 
-corners-requires : tie.Need-corners-requires Inv-loop μ-loop
-corners-requires c κs = search needs
+surface-cells-requires : tie.Need-surface-cells-requires
+surface-cells-requires c κs =
+    let r = there (c .before) in
+    let o = few c in
+    (omega arith, omega arith)
 
-owned-at-requires : tie.Need-owned-at-requires Inv-loop μ-loop
-owned-at-requires c κs = here (c .before .before) .cell
+changes-requires : tie.Need-changes-requires
+changes-requires c κs =
+    let r = there (c .before .before) in
+    let o = few (c .before) in
+    ((omega arith, omega arith), omega arith)
 
-count-cell-requires : tie.Need-count-cell-requires Inv-loop μ-loop
-count-cell-requires c κs = search needs
+add-changes : tie.Need-add-changes
+add-changes c = let r = there (c .before .before .before) in omega arith
 
-add-vertices : tie.Need-add-vertices Inv-loop μ-loop
-add-vertices c = more (c .before) .vertices-fit
+changes-requires-2 : tie.Need-changes-requires-2
+changes-requires-2 c κs =
+    let r = there (c .before .before .before) in
+    let o = few (c .before .before) in
+    ((omega arith, omega arith), omega arith)
 
-add-indices : tie.Need-add-indices Inv-loop μ-loop
-add-indices c = more (c .before .before) .indices-fit
+add-changes-2 : tie.Need-add-changes-2
+add-changes-2 c = let r = there (c .before .before .before .before) in omega arith
 
-add-at : tie.Need-add-at Inv-loop μ-loop
-add-at c = here (turn-of (c .before .before)) .at-fits
+changes-requires-3 : tie.Need-changes-requires-3
+changes-requires-3 c κs =
+    let r = there (c .before .before .before .before) in
+    let o = few (c .before .before .before) in
+    ((omega arith, omega arith), omega arith)
 
-add-x : tie.Need-add-x Inv-loop μ-loop
-add-x c = here (turn-of (c .before .before)) .turn .fits
+cast-t15 : tie.Need-cast-t15
+cast-t15 c = search needs
 
-loop-less : tie.Need-loop-less Inv-loop μ-loop
-loop-less c = here (turn-of (c .before .before)) .turn .less
+cast-t18 : tie.Need-cast-t18
+cast-t18 c = search needs
 
-loop-again : tie.Need-loop-again Inv-loop μ-loop
-loop-again c =
-    let m = c .before .before in
-    (here (turn-of m) .next, m .before .before .before .before .side-at2 .ensures, more m .counts)
+cast-t19 : tie.Need-cast-t19
+cast-t19 c = search needs
 
-returns : tie.Need-returns Inv-loop μ-loop
-returns c = let w = c .before .loop in counts-all (w .inv .2) (row-done (w .inv .0) (c .loop-test .left))
+add-t20 : tie.Need-add-t20
+add-t20 c = search needs
+
+cast-t21 : tie.Need-cast-t21
+cast-t21 c = search needs
+
+add-t22 : tie.Need-add-t22
+add-t22 c = search needs
+
+mul-t23 : tie.Need-mul-t23
+mul-t23 c = search needs
+
+returns : tie.Need-returns
+returns c =
+    let o = c .before .before .before .before in
+    let s = entry-of (o .before) in
+    let a = s .args in
+    let l = a .sdf .now in
+    let row = a .k .dims .x in
+    let layer = a .k .dims .x * a .k .dims .y in
+    let at = o .before .linearize .result in
+    let x = c .before .before .changes .ensures ∙ ap (changesRun l at (at + 1)) (on-x o) in
+    let y = c .before .changes2 .ensures ∙ ap (changesRun l (at + 1) (at + 1 + row)) (on-y o) in
+    let z = c .changes3 .ensures ∙ ap (changesRun l (at + 1) (at + 1 + layer)) (on-z o) in
+    row-tally l (a .k) (s .pre .1 .0) (s .pre .1 .1) (o .before .linearize .ensures) (c .before .before .before .surface-cells .ensures) (λ i. 6 * (x i + y i + z i))
 
 pub count-row-spec : {M : Type 1} → statement M
 count-row-spec =
     tie.close
     (tie.spec
-    Inv-loop
-    μ-loop
     cast-row
     cast-layer
     mul-layer
+    sub-n
+    cast-n
     linearize-requires
-    side-at-requires
-    loop-holds
-    add-side-at
-    side-at-requires-2
-    corners-requires
-    owned-at-requires
-    count-cell-requires
-    add-vertices
-    add-indices
-    add-at
-    add-x
-    loop-less
-    loop-again
+    add-next
+    owned-edges-requires
+    surface-cells-requires
+    changes-requires
+    add-changes
+    changes-requires-2
+    add-changes-2
+    changes-requires-3
+    cast-t15
+    cast-t18
+    cast-t19
+    add-t20
+    cast-t21
+    add-t22
+    mul-t23
     returns)

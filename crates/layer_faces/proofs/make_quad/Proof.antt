@@ -1,11 +1,9 @@
--- Each way out by the tests that led there: one for the diagonal, one for the facing. Assumes nothing.
-use mathlib.Core.Bool.{true, false}
-use mathlib.Core.Path.{ap, ap₂, sym, _∙_}
-use native.Mathlib.Omega.{arith}
+-- Four corners chosen by the diagonals' lengths, and their order by the facing: the six that are put are the quad's. Assumes nothing.
+use mathlib.Core.Path.{ap, ap₂, _∙_}
 use lib.Ieee.{lt}
 use lib.Seq.{sets}
 use Rattle.layer_faces.specs.Quads.{seen}
-use Rattle.layer_faces.proofs.Puts.{quad-of}
+use Rattle.layer_faces.proofs.Puts.{quad-picked}
 use borrow.Author.Needs.{needs}
 use Rattle.layer_faces.proofs.make_quad.Statement.{statement}
 use Rattle.layer_faces.proofs.make_quad.Tie as tie
@@ -16,61 +14,48 @@ squared-distance-requires c κs = search needs
 squared-distance-requires-2 : tie.Need-squared-distance-requires-2
 squared-distance-requires-2 c κs = search needs
 
+pick-requires : tie.Need-pick-requires
+pick-requires c κs = search needs
+
+pick-requires-2 : tie.Need-pick-requires-2
+pick-requires-2 c κs = search needs
+
+pick-requires-3 : tie.Need-pick-requires-3
+pick-requires-3 c κs = search needs
+
+pick-requires-4 : tie.Need-pick-requires-4
+pick-requires-4 c κs = search needs
+
+pick-requires-5 : tie.Need-pick-requires-5
+pick-requires-5 c κs = search needs
+
+pick-requires-6 : tie.Need-pick-requires-6
+pick-requires-6 c κs = search needs
+
+pick-requires-7 : tie.Need-pick-requires-7
+pick-requires-7 c κs = search needs
+
+pick-requires-8 : tie.Need-pick-requires-8
+pick-requires-8 c κs = search needs
+
 put-six-requires : tie.Need-put-six-requires
-put-six-requires c κs =
-    let r = c .before .before .before .before .before .before .before .before .before .before .pre in
-    omega arith
+put-six-requires c κs = search needs
 
 same-length : tie.Need-same-length
 same-length c = search needs
 
 returns : tie.Need-returns
 returns c =
-    let a = c .before .before .before .before .before .before .before .before .before .before .before .before .before .args in
+    let chosen = c .before .before .before in
+    let round = chosen .before .before .before .before .before in
+    let measured = round .before .before .before .before in
+    let a = measured .before .before .before .before .before .before .before .args in
     c .before .before .put-six .ensures
-    ∙ ap (sets (a .indices .now) (a .at)) (quad-of (seen (a .v1)) (seen (a .v2)) (seen (a .v3)) (seen (a .v4)) true true (sym (ap₂ lt (c .before .before .before .before .before .before .before .squared-distance .ensures) (c .before .before .before .before .before .before .squared-distance2 .ensures)) ∙ c .before .before .before .before .before .if1 .taken) (c .before .before .before .before .if2 .taken))
-
-put-six-requires-2 : tie.Need-put-six-requires-2
-put-six-requires-2 c κs =
-    let r = c .before .before .before .before .before .before .before .before .before .before .pre in
-    omega arith
-
-same-length-2 : tie.Need-same-length-2
-same-length-2 c = search needs
-
-returns-2 : tie.Need-returns-2
-returns-2 c =
-    let a = c .before .before .before .before .before .before .before .before .before .before .before .before .before .args in
-    c .before .before .put-six2 .ensures
-    ∙ ap (sets (a .indices .now) (a .at)) (quad-of (seen (a .v1)) (seen (a .v2)) (seen (a .v3)) (seen (a .v4)) true false (sym (ap₂ lt (c .before .before .before .before .before .before .before .squared-distance .ensures) (c .before .before .before .before .before .before .squared-distance2 .ensures)) ∙ c .before .before .before .before .before .if1 .taken) (c .before .before .before .before .if2 .left))
-
-put-six-requires-3 : tie.Need-put-six-requires-3
-put-six-requires-3 c κs =
-    let r = c .before .before .before .before .before .before .before .before .before .before .pre in
-    omega arith
-
-same-length-3 : tie.Need-same-length-3
-same-length-3 c = search needs
-
-returns-3 : tie.Need-returns-3
-returns-3 c =
-    let a = c .before .before .before .before .before .before .before .before .before .before .before .before .before .args in
-    c .before .before .put-six3 .ensures
-    ∙ ap (sets (a .indices .now) (a .at)) (quad-of (seen (a .v1)) (seen (a .v2)) (seen (a .v3)) (seen (a .v4)) false true (sym (ap₂ lt (c .before .before .before .before .before .before .before .squared-distance .ensures) (c .before .before .before .before .before .before .squared-distance2 .ensures)) ∙ c .before .before .before .before .before .if1 .left) (c .before .before .before .before .if3 .taken))
-
-put-six-requires-4 : tie.Need-put-six-requires-4
-put-six-requires-4 c κs =
-    let r = c .before .before .before .before .before .before .before .before .before .before .pre in
-    omega arith
-
-same-length-4 : tie.Need-same-length-4
-same-length-4 c = search needs
-
-returns-4 : tie.Need-returns-4
-returns-4 c =
-    let a = c .before .before .before .before .before .before .before .before .before .before .before .before .before .args in
-    c .before .before .put-six4 .ensures
-    ∙ ap (sets (a .indices .now) (a .at)) (quad-of (seen (a .v1)) (seen (a .v2)) (seen (a .v3)) (seen (a .v4)) false false (sym (ap₂ lt (c .before .before .before .before .before .before .before .squared-distance .ensures) (c .before .before .before .before .before .before .squared-distance2 .ensures)) ∙ c .before .before .before .before .before .if1 .left) (c .before .before .before .before .if3 .left))
+    ∙ ap (sets (a .indices .now) (a .at)) (
+    quad-picked (seen (a .v1)) (seen (a .v2)) (seen (a .v3)) (seen (a .v4)) (a .n1)
+    (ap₂ lt (measured .before .squared-distance .ensures) (measured .squared-distance2 .ensures))
+    (round .before .before .before .pick .ensures) (round .before .before .pick2 .ensures) (round .before .pick3 .ensures) (round .pick4 .ensures)
+    (chosen .before .before .before .pick5 .ensures) (chosen .before .before .pick6 .ensures) (chosen .before .pick7 .ensures) (chosen .pick8 .ensures))
 
 pub make-quad-spec : {M : Type 1} → statement M
 make-quad-spec =
@@ -78,15 +63,14 @@ make-quad-spec =
     (tie.spec
     squared-distance-requires
     squared-distance-requires-2
+    pick-requires
+    pick-requires-2
+    pick-requires-3
+    pick-requires-4
+    pick-requires-5
+    pick-requires-6
+    pick-requires-7
+    pick-requires-8
     put-six-requires
     same-length
-    returns
-    put-six-requires-2
-    same-length-2
-    returns-2
-    put-six-requires-3
-    same-length-3
-    returns-3
-    put-six-requires-4
-    same-length-4
-    returns-4)
+    returns)

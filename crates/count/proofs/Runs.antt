@@ -1,0 +1,81 @@
+-- How many numbers of a run pass a test: one number more, the first or the last left out, a test that does not look at the number. Assumes nothing.
+use Prim.Native.Nat.{ℕ, suc, _+_, _-_, _≤_, _<_}
+use native.Mathlib.Numerals.{add-one}
+use native.Mathlib.Omega.{arith}
+use mathlib.Core.Bool.{Bool, true, false, not, _&&_, _||_, cond}
+use mathlib.Core.List.{[], _∷_}
+use mathlib.Core.Logic.{inl, inr}
+use mathlib.Core.Path.{_≡_, refl, ap, _∙_}
+use lib.Dec.{ltb, eqb}
+use borrow.Author.Tests.{lt-ltb, le-ltb, eq-eqb, ne-eqb}
+use Rattle.rules.specs.Lists.{one, run, upTo, many}
+use Rattle.rules.proofs.Tests.{less-or-not}
+use Rattle.rules.proofs.Lists.{all-each, many-append, many-same, many-map, many-never}
+use Rattle.rules.proofs.Runs.{upTo-none, upTo-first, upTo-last, upTo-each}
+
+pub none-counted : (f : ℕ → Bool) → 0 ≡ many f (run 0)
+unfolding run many
+none-counted f = refl
+
+-- one number more, as a loop counts it
+pub one-more : (f : ℕ → Bool) (n : ℕ) {count more now' : ℕ} → count ≡ many f (run n) → more ≡ one (f n) → now' ≡ count + more → now' ≡ many f (run (n + 1))
+unfolding run many
+one-more f n e d h = rw add-one (omega (arith, many-append f (run n) (n ∷ [])))
+
+-- ---- the first left out, and the last
+
+pub many-above : (f : ℕ → Bool) (from to : ℕ) → many (λ (x : ℕ). ltb from x && f x) (upTo from to) ≡ many f (upTo (suc from) to)
+unfolding many
+many-above f from to = elim (less-or-not from to) [ inl h ↦ some h | inr h ↦ none h ]
+  where
+    above : ℕ → Bool
+    above x = ltb from x && f x
+
+    none : to ≤ from → many above (upTo from to) ≡ many f (upTo (suc from) to)
+    none h = rw (upTo-none from to h, upTo-none (suc from) to (omega arith))
+
+    first : one (above from) ≡ 0
+    first = ap (λ (t : Bool). one (t && f from)) (le-ltb from from (omega arith))
+
+    others : many above (upTo (suc from) to) ≡ many f (upTo (suc from) to)
+    others = many-same (upTo-each (suc from) to (λ x l u. ap (λ (t : Bool). t && f x) (lt-ltb from x (omega arith))))
+
+    some : from < to → many above (upTo from to) ≡ many f (upTo (suc from) to)
+    some h = ap (many above) (upTo-first from to h) ∙ omega (arith, first, others)
+
+-- the last stays where the flag is set
+pub many-before : (flag : Bool) (f : ℕ → Bool) (from to : ℕ)
+    → many (λ (x : ℕ). (flag || not (eqb x (to - 1))) && f x) (upTo from to) ≡ many f (upTo from (cond flag to (to - 1)))
+unfolding many
+many-before true f from to = refl
+many-before false f from to = elim (less-or-not from to) [ inl h ↦ some h | inr h ↦ none h ]
+  where
+    before : ℕ → Bool
+    before x = not (eqb x (to - 1)) && f x
+
+    none : to ≤ from → many before (upTo from to) ≡ many f (upTo from (to - 1))
+    none h = rw (upTo-none from to h, upTo-none from (to - 1) (omega arith))
+
+    last : before (to - 1) ≡ false
+    last = ap (λ (t : Bool). not t && f (to - 1)) (eq-eqb (to - 1) (to - 1) refl)
+
+    others : many before (upTo from (to - 1)) ≡ many f (upTo from (to - 1))
+    others = many-same (upTo-each from (to - 1) (λ x l u. ap (λ (t : Bool). not t && f x) (ne-eqb x (to - 1) (λ e. omega arith))))
+
+    some : from < to → many before (upTo from to) ≡ many f (upTo from (to - 1))
+    some h =
+        let end : to ≡ suc (to - 1) = omega arith in
+        ap (λ (n : ℕ). many before (upTo from n)) end
+        ∙ ap (many before) (upTo-last from (to - 1) (omega arith))
+        ∙ many-append before (upTo from (to - 1)) ((to - 1) ∷ [])
+        ∙ omega (arith, ap one last, others)
+
+-- ---- a test that does not look at the number
+
+-- where it passes, a run from `first` up to `last` is counted, n numbers long and the j-th by the test h; else none
+pub many-owned : (own : Bool) (f f' h : ℕ → Bool) (from to first last n : ℕ) → many f (upTo from to) ≡ many f' (upTo first last) → last - first ≡ n
+    → ((j : ℕ) → f' (first + j) ≡ h j) → many (λ (x : ℕ). own && f x) (upTo from to) ≡ many h (run (cond own n 0))
+unfolding upTo
+many-owned true f f' h from to first last n e len s =
+    e ∙ many-map f' (λ (j : ℕ). first + j) (run (last - first)) ∙ many-same (all-each s (run (last - first))) ∙ ap (λ (i : ℕ). many h (run i)) len
+many-owned false f f' h from to first last n e len s = many-never (upTo from to) ∙ none-counted h

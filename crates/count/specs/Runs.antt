@@ -1,0 +1,45 @@
+-- What the code counts in a row, from runs of distances: surface cells, edges with exactly one negative end, and how many edges of the row the box
+-- owns. These follow the code and stand in no contract that another crate sees. Definitions only. Assumes nothing.
+use Prim.Native.Nat.{ℕ, _+_, _-_}
+use mathlib.Core.Bool.{Bool, not, _&&_, _||_, cond}
+use mathlib.Core.List.{List}
+use lib.Dec.{ltb, eqb}
+use lib.ListN.{getD}
+use lib.Ieee.{Float, nan, unlike}
+use Rattle.rules.specs.Lists.{one, many, run}
+use Rattle.rules.specs.Grid.{Box}
+use Rattle.rules.specs.Cell.{negative, surface}
+use Rattle.rules.specs.Faces.{Flags}
+use Rattle.grid.specs.declared.corners.Side.{Side}
+use Rattle.grid.specs.Corners.{sideAt, eightOf}
+use Rattle.count.specs.declared.OwnedEdges.{OwnedEdges}
+
+abbrev pub sideNegatives : Side → ℕ
+sideNegatives s = one (negative (s .a)) + one (negative (s .b)) + one (negative (s .c)) + one (negative (s .d))
+
+-- whether the j-th cell of a row is a surface cell, `at` being the place of the row's first corner
+abbrev pub surfaceAt : List Float → ℕ → ℕ → ℕ → ℕ → Bool
+surfaceAt l at row layer j = surface (eightOf (sideAt l (at + j) row layer) (sideAt l (at + j + 1) row layer))
+
+abbrev pub surfaceRun : List Float → ℕ → ℕ → ℕ → ℕ → ℕ
+surfaceRun l at row layer n = many (surfaceAt l at row layer) (run n)
+
+-- whether exactly one of two distances is negative: the j-th from p on, and the j-th from q on
+abbrev pub changesAt : List Float → ℕ → ℕ → ℕ → Bool
+changesAt l p q j = unlike (negative (getD l (p + j) nan)) (negative (getD l (q + j) nan))
+
+abbrev pub changesRun : List Float → ℕ → ℕ → ℕ → ℕ
+changesRun l p q n = many (changesAt l p q) (run n)
+
+-- how many cells a row has
+abbrev pub rowLength : Box → ℕ
+rowLength b = b .high .x - b .low .x
+
+-- of the row (y, z): its x edges but the last, which is owned with the max plane alone, and its y and z edges but the first, whose x is min
+unfoldable pub ownedEdges : Box → Flags → ℕ → ℕ → OwnedEdges
+ownedEdges b m y z =
+    record {
+      x = cond (ltb (b .low .y) y && ltb (b .low .z) z) (cond (m .x) (rowLength b) (rowLength b - 1)) 0;
+      y = cond (ltb (b .low .z) z && (m .y || not (eqb y (b .high .y - 1)))) (rowLength b - 1) 0;
+      z = cond (ltb (b .low .y) y && (m .z || not (eqb z (b .high .z - 1)))) (rowLength b - 1) 0;
+    }

@@ -8,16 +8,16 @@ use native.Mathlib.Omega.{arith}
 use lib.Dec.{T, lit≤}
 use lib.ListN.{length, getD, take, replicate, List·getD-append}
 use lib.Ieee.{nan, binary32, ofBits}
-use Rattle.rules.specs.Lists.{many, joined}
+use Rattle.lists.specs.Lists.{many, joined}
 use Rattle.rules.specs.Grid.{GridPoint, axisX, Box, index, inBox}
 use Rattle.rules.specs.Cell.{one32}
 use Rattle.rules.specs.Call.{answers}
 use Rattle.rules.specs.Faces.{allThree}
 use Rattle.rules.specs.Cutting.{Piece, Cuts, uncut, cut, pieces, Fits, lowerPiece, upperPiece}
 use Rattle.rules.proofs.Indexes.{within}
-use Rattle.rules.proofs.Lists.{All, none, more, all-at, total}
+use Rattle.lists.proofs.Lists.{All, none, more, all-at, total}
 use Rattle.rules.proofs.Crossings.{Possible}
-use Rattle.rules.proofs.Permutation.{Perm}
+use Rattle.lists.proofs.Permutation.{Perm}
 use Rattle.rules.proofs.Locality.{SameWritten}
 use Rattle.grid.specs.Block.{point}
 use Rattle.cube.proofs.ClosedCell.{InCell}
@@ -49,7 +49,8 @@ use Rattle.applied.proofs.OnePoint.{front, grid, spoiled, dims, opened,
 -- ---- one outcome alone
 
 -- whatever fits the contract of surface_nets at these arguments is what stands there: the answer 0, V 8 and I 36, and the seven lists
-pub one-outcome : (o : Outcome 8 kinds.ps kinds.r (whole .lifetimes) (whole .args)) → FitsContract 8 kinds.ps kinds.r reads.Learnt (whole .lifetimes) (whole .args) o → o ≡ whole .outcome
+pub one-outcome : (o : Outcome 8 kinds.ps kinds.r (whole .lifetimes) (whole .args)) → FitsContract 8 kinds.ps kinds.r reads.Learnt (whole .lifetimes) (whole .args) o → o ≡ whole
+    .outcome
 one-outcome o l = surface-nets-once (whole .lifetimes) (whole .args) o (whole .outcome) l (whole .fits)
 
 -- ---- every position in its cell

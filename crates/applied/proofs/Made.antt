@@ -9,10 +9,11 @@ use denote.Ref.{RefT}
 use lib.Ieee.{Float}
 use Rattle.rules.specs.Call.{Buffers, answer, afterwards, room}
 use Rattle.grid.specs.declared.Extent.{Extent}
-use Rattle.grid.specs.declared.MaxPlane.{MaxPlane}
+use Rattle.grid.specs.declared.EachAxis.{EachAxis}
 use Rattle.judge.specs.declared.Answer.{Answer}
-use Rattle.judge.specs.Reading.{answerOf}
-use Rattle.surface_nets.specs.Reading.{callMade, Binary32}
+use Rattle.judge.specs.AsRules.{answerOf}
+use Rattle.lists.specs.Floats.{Binary32}
+use Rattle.surface_nets.specs.AsRules.{callMade}
 use Rattle.bed.specs.Boundary.{extent, planes, said}
 use Rattle.promises.proofs.Runs.{Run, BedRun}
 use Rattle.closed_mesh.proofs.Outcome.{Mesh, Test}
@@ -26,7 +27,7 @@ to x = record { ptr = (0, 0); name = 0; now = x }
 abbrev eight : Lfts 8
 eight = ([], ([], ([], ([], ([], ([], ([], ([], tt))))))))
 
-module _ (grid : List Float) (dims low high : Extent) (plane : MaxPlane) (r : Answer) (before after : Buffers)
+module _ (grid : List Float) (dims low high : Extent) (plane : EachAxis) (r : Answer) (before after : Buffers)
     (answered : answerOf r ≡ answer (callMade grid dims low high plane) (room before))
     (left : after ≡ afterwards (callMade grid dims low high plane) before) (numbers : Binary32 grid) where
   -- a call of surface_nets
@@ -34,7 +35,25 @@ module _ (grid : List Float) (dims low high : Extent) (plane : MaxPlane) (r : An
   runOf =
       record {
         lifetimes = eight;
-        args = (to grid, (dims, (low, (high, (plane, (to (before .positions), (to (before .normals), (to (before .cells), (to (before .strides), (to (before .crossings), (to (before .map), (to (before .indices), tt))))))))))));
+        args = (
+          to grid,
+          (
+            dims,
+            (
+              low,
+              (
+                high,
+                (
+                  plane,
+                  (
+                    to (before .positions),
+                    (to (before .normals), (to (before .cells), (to (before .strides), (to (before .crossings), (to (before .map), (to (before .indices), tt)))))),
+                  ),
+                ),
+              ),
+            ),
+          ),
+        );
         outcome =
             record {
               result = r;
@@ -50,7 +69,25 @@ module _ (grid : List Float) (dims low high : Extent) (plane : MaxPlane) (r : An
         lifetimes = eight;
         args = runOf .args;
         result = r;
-        exit = (to grid, (dims, (low, (high, (plane, (to (after .positions), (to (after .normals), (to (after .cells), (to (after .strides), (to (after .crossings), (to (after .map), (to (after .indices), tt))))))))))));
+        exit = (
+          to grid,
+          (
+            dims,
+            (
+              low,
+              (
+                high,
+                (
+                  plane,
+                  (
+                    to (after .positions),
+                    (to (after .normals), (to (after .cells), (to (after .strides), (to (after .crossings), (to (after .map), (to (after .indices), tt)))))),
+                  ),
+                ),
+              ),
+            ),
+          ),
+        );
         learnt = (answered, (left, numbers));
       }
 
@@ -62,11 +99,101 @@ module _ (grid : List Float) (dx dy dz lx ly lz hx hy hz : ℕ) (px py pz : Bool
   bedRunOf =
       record {
         lifetimes = ([], ([], eight));
-        args = (to grid, (dx, (dy, (dz, (lx, (ly, (lz, (hx, (hy, (hz, (px, (py, (pz, (to (before .positions), (to (before .normals), (to (before .cells), (to (before .strides), (to (before .crossings), (to (before .map), (to (before .indices), (to 5, (to 6, tt))))))))))))))))))))));
+        args = (
+          to grid,
+          (
+            dx,
+            (
+              dy,
+              (
+                dz,
+                (
+                  lx,
+                  (
+                    ly,
+                    (
+                      lz,
+                      (
+                        hx,
+                        (
+                          hy,
+                          (
+                            hz,
+                            (
+                              px,
+                              (
+                                py,
+                                (
+                                  pz,
+                                  (
+                                    to (before .positions),
+                                    (
+                                      to (before .normals),
+                                      (to (before .cells), (to (before .strides), (to (before .crossings), (to (before .map), (to (before .indices), (to 5, (to 6, tt))))))),
+                                    ),
+                                  ),
+                                ),
+                              ),
+                            ),
+                          ),
+                        ),
+                      ),
+                    ),
+                  ),
+                ),
+              ),
+            ),
+          ),
+        );
         outcome =
             record {
               result = n;
-              last = (tt, (tt, (tt, (tt, (tt, (tt, (tt, (tt, (tt, (tt, (tt, (tt, (tt, (after .positions, (after .normals, (after .cells, (after .strides, (after .crossings, (after .map, (after .indices, (v, (i, tt))))))))))))))))))))));
+              last = (
+                tt,
+                (
+                  tt,
+                  (
+                    tt,
+                    (
+                      tt,
+                      (
+                        tt,
+                        (
+                          tt,
+                          (
+                            tt,
+                            (
+                              tt,
+                              (
+                                tt,
+                                (
+                                  tt,
+                                  (
+                                    tt,
+                                    (
+                                      tt,
+                                      (
+                                        tt,
+                                        (
+                                          after .positions,
+                                          (
+                                            after .normals,
+                                            (after .cells, (after .strides, (after .crossings, (after .map, (after .indices, (v, (i, tt))))))),
+                                          ),
+                                        ),
+                                      ),
+                                    ),
+                                  ),
+                                ),
+                              ),
+                            ),
+                          ),
+                        ),
+                      ),
+                    ),
+                  ),
+                ),
+              );
             };
         fits = (answered, (left, numbers));
       }

@@ -10,19 +10,20 @@ use lib.IntN.{pos}
 use lib.ListN.{getD, length, drop, replicate}
 use lib.Ieee.{Float, nan, fin, binary32, fits, ofBits}
 use lib.Ieee.Fits.{and-l, and-r}
-use Rattle.rules.specs.Lists.{run, joined}
+use Rattle.lists.specs.Lists.{run, joined}
 use Rattle.rules.specs.Cell.{one32}
 use Rattle.rules.specs.Call.{Buffers, room, answer, afterwards}
 use Rattle.rules.specs.Cutting.{facesSeen}
 use Rattle.rules.proofs.Cases as rules
-use Rattle.rules.proofs.Lists.{All, all-at}
-use Rattle.rules.proofs.Lists as lists
+use Rattle.lists.proofs.Lists.{All, all-at}
+use Rattle.lists.proofs.Lists as lists
 use Rattle.grid.specs.declared.Extent.{Extent}
-use Rattle.grid.specs.declared.MaxPlane.{MaxPlane}
+use Rattle.grid.specs.declared.EachAxis.{EachAxis}
 use Rattle.judge.specs.declared.Answer.{Answer}
-use Rattle.judge.specs.Reading.{answerOf}
+use Rattle.judge.specs.AsRules.{answerOf}
 use Rattle.whole_box.proofs.Steps.{with-map}
-use Rattle.surface_nets.specs.Reading.{callMade, Binary32}
+use Rattle.lists.specs.Floats.{Binary32}
+use Rattle.surface_nets.specs.AsRules.{callMade}
 use Rattle.promises.proofs.Runs.{Run, BedRun}
 use Rattle.skin.specs.Links.{links}
 use Rattle.skin.specs.Enclosed.{inner, enclosed}
@@ -51,7 +52,7 @@ abbrev pub dims : Extent
 dims = extent 4 4 4
 
 -- no max plane
-abbrev noPlane : MaxPlane
+abbrev noPlane : EachAxis
 noPlane = record { x = false; y = false; z = false }
 
 -- the corners: of the whole, and of the pieces of the cut

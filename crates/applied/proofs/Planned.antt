@@ -4,10 +4,10 @@ use mathlib.Core.Bool.{true, false}
 use mathlib.Core.List.{List, [], _∷_, map}
 use mathlib.Core.Path.{_≡_, refl}
 use lib.ListN.{length}
-use Rattle.rules.specs.Lists.{joined}
+use Rattle.lists.specs.Lists.{joined}
 use Rattle.rules.specs.Cutting.{Piece, pieces}
-use Rattle.rules.proofs.Lists.{All, more, none}
-use Rattle.rules.proofs.Permutation.{Perm}
+use Rattle.lists.proofs.Lists.{All, more, none}
+use Rattle.lists.proofs.Permutation.{Perm}
 use Rattle.rules.proofs.Cutting.{cuts-plan}
 use Rattle.plan.specs.declared.Block.{Block}
 use Rattle.plan.specs.Plan.{piece, block, Checks, planAnswer, badPiece}

@@ -10,8 +10,8 @@ use denote.Triple.Clauses.{Lasts, atExit}
 use borrow.Fn.Kinds.{PK, RK, Out, Dens, resT, endedOf}
 use Rattle.rules.specs.Call.{answer, room}
 use Rattle.grid.specs.Block.{point}
-use Rattle.whole_box.specs.Reading.{buffersGiven}
-use Rattle.surface_nets.specs.Reading.{callMade}
+use Rattle.whole_box.specs.LentLists.{buffersGiven}
+use Rattle.surface_nets.specs.AsRules.{callMade}
 use Rattle.skin.specs.Scan.{answers, examined}
 use Rattle.mesh_file.specs.Mesh.{Mesh, mesh, Held}
 use Rattle.mesh_file.specs.Writing.{writing, written}

@@ -6,13 +6,13 @@ use mathlib.Core.List.{List}
 use lib.Ieee.{Float}
 use Rattle.rules.specs.Call.{Call, Answer}
 use Rattle.grid.specs.declared.Extent.{Extent}
-use Rattle.grid.specs.declared.MaxPlane.{MaxPlane}
-use Rattle.surface_nets.specs.Reading.{callMade}
+use Rattle.grid.specs.declared.EachAxis.{EachAxis}
+use Rattle.surface_nets.specs.AsRules.{callMade}
 
 abbrev pub extent : ℕ → ℕ → ℕ → Extent
 extent x y z = record { x = x; y = y; z = z }
 
-abbrev pub planes : Bool → Bool → Bool → MaxPlane
+abbrev pub planes : Bool → Bool → Bool → EachAxis
 planes x y z = record { x = x; y = y; z = z }
 
 -- dimensions, min, max, and the max plane on each axis

@@ -19,7 +19,8 @@ pub extern "C" fn bed_is_enclosed(
     max_z: u32,
     enclosed: &mut bool,
 ) -> u32
-    ensures { λ r. ⌜ answers r (now (enclosed .exit)) ≡ examined (now (sdf .entry)) (extent «dim_x» «dim_y» «dim_z») (extent «min_x» «min_y» «min_z») (extent «max_x» «max_y» «max_z») ⌝ }
+    ensures { λ r. ⌜ answers r (now (enclosed .exit)) ≡ examined (now (sdf .entry)) (extent «dim_x» «dim_y» «dim_z») (extent «min_x» «min_y» «min_z»)
+        (extent «max_x» «max_y» «max_z») ⌝ }
 {
     let dims = Extent {
         x: dim_x,

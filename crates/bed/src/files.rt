@@ -36,7 +36,8 @@ pub extern "C" fn bed_read_mesh(
     ensures { λ _. ⌜ mesh (now (positions .exit)) (now (normals .exit)) (now (indices .exit))
         ≡ filledIn (now (file .entry)) (readOf (now (file .entry))) (mesh (now (positions .entry)) (now (normals .entry)) (now (indices .entry))) ⌝ }
     ensures { λ _. ⌜ now («vertex_count» .exit) ≡ readingIn (readOf (now (file .entry))) (mesh (now (positions .entry)) (now (normals .entry)) (now (indices .entry))) .vertices ⌝ }
-    ensures { λ _. ⌜ now («triangle_count» .exit) ≡ readingIn (readOf (now (file .entry))) (mesh (now (positions .entry)) (now (normals .entry)) (now (indices .entry))) .triangles ⌝ }
+    ensures { λ _. ⌜ now («triangle_count» .exit) ≡ readingIn (readOf (now (file .entry))) (mesh (now (positions .entry)) (now (normals .entry)) (now (indices .entry)))
+        .triangles ⌝ }
     ensures { λ _. ⌜ Bytes (now (file .entry)) ⌝ }
 {
     let read = mesh_file::read_mesh(file, positions, normals, indices);

@@ -7,11 +7,11 @@ pub mod weighing;
 
 ghost use mathlib.Core.Path.{_≡_};
 ghost use Rattle.rules.specs.Call.{answer, afterwards, room};
-ghost use Rattle.whole_box.specs.Reading.{buffersBefore, buffersAfter};
-ghost use Rattle.surface_nets.specs.Reading.{Binary32};
+ghost use Rattle.whole_box.specs.LentLists.{buffersBefore, buffersAfter};
+ghost use Rattle.lists.specs.Floats.{Binary32};
 ghost use Rattle.bed.specs.Boundary.{asked, said};
+use grid::EachAxis;
 use grid::Extent;
-use grid::MaxPlane;
 
 // Document 01's call: the answer number, with V and I behind the last two.
 #[no_mangle]
@@ -62,7 +62,7 @@ pub extern "C" fn bed_surface_nets(
         y: max_y,
         z: max_z,
     };
-    let max_plane = MaxPlane {
+    let max_plane = EachAxis {
         x: max_plane_x,
         y: max_plane_y,
         z: max_plane_z,

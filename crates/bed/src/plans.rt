@@ -18,7 +18,8 @@ pub extern "C" fn bed_check_plan(
     max_plane_z: bool,
     holds: &mut bool,
 ) -> u32
-    ensures { λ r. ⌜ Checks (map piece (now (blocks .entry))) (piece (block «min_x» «min_y» «min_z» «max_x» «max_y» «max_z» «max_plane_x» «max_plane_y» «max_plane_z»)) r (now (holds .exit)) ⌝ }
+    ensures { λ r. ⌜ Checks (map piece (now (blocks .entry))) (piece (block «min_x» «min_y» «min_z» «max_x» «max_y» «max_z» «max_plane_x» «max_plane_y» «max_plane_z»)) r
+        (now (holds .exit)) ⌝ }
 {
     let whole = Block {
         min_x,

@@ -2,8 +2,8 @@
 ghost use Prim.Native.Nat.{_≤_};
 use crate::said;
 use grid::Block;
+use grid::EachAxis;
 use grid::Extent;
-use grid::MaxPlane;
 use surface_nets::Answer;
 
 // What is asked, but for the grid and the lent lists.
@@ -11,7 +11,7 @@ pub(crate) struct Call {
     pub(crate) dims: Extent,
     pub(crate) low: Extent,
     pub(crate) high: Extent,
-    pub(crate) max_plane: MaxPlane,
+    pub(crate) max_plane: EachAxis,
 }
 
 // How much of three of the lists is lent; the others are lent whole.

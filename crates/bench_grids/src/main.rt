@@ -8,8 +8,8 @@ use bench::Call;
 use bench::Room;
 use bench::Show;
 use bench::case;
+use grid::EachAxis;
 use grid::Extent;
-use grid::MaxPlane;
 
 // Room for the largest mesh here, and three numbers to spare in each list.
 const AMPLE: Room = Room {
@@ -28,7 +28,7 @@ fn plain(dims: Extent, low: Extent, high: Extent) -> Call {
         dims,
         low,
         high,
-        max_plane: MaxPlane::NONE,
+        max_plane: EachAxis::NONE,
     }
 }
 
@@ -47,7 +47,7 @@ fn with_plane() -> Call {
         dims: at(3, 3, 3),
         low: at(0, 0, 0),
         high: at(2, 2, 2),
-        max_plane: MaxPlane::ALL,
+        max_plane: EachAxis::ALL,
     }
 }
 

@@ -6,11 +6,31 @@ use lib.ListN.{take}
 use Rattle.skin.specs.declared.Enclosed.{Enclosed as Tested}
 use Rattle.skin.specs.Links.{links}
 use Rattle.skin.specs.Scan.{answers, examined}
-use Rattle.closed_mesh.proofs.Outcome.{Input, Mesh, meshInput, meshPlane, meshAnswer, meshEntry, meshExit, Test, testInput, BedMesh, bedMeshInput, bedMeshPlane, bedMeshAnswer, bedMeshEntry, bedMeshExit, BedTest, bedTestInput, bedTested}
+use Rattle.closed_mesh.proofs.Outcome.{
+  Input,
+  Mesh,
+  meshInput,
+  meshPlane,
+  meshAnswer,
+  meshEntry,
+  meshExit,
+  Test,
+  testInput,
+  BedMesh,
+  bedMeshInput,
+  bedMeshPlane,
+  bedMeshAnswer,
+  bedMeshEntry,
+  bedMeshExit,
+  BedTest,
+  bedTestInput,
+  bedTested,
+}
 use Rattle.closed_mesh.proofs.Closed.{Even, Meshed, mesh-closed-yes}
 
 -- the test of one input, said of another that is the same
-moved : {i k : Input} {r : Tested} → i ≡ k → r ≡ examined (i .sdf) (i .dims) (i .low) (i .high) → r ≡ answers 0 true → examined (k .sdf) (k .dims) (k .low) (k .high) ≡ answers 0 true
+moved : {i k : Input} {r : Tested} → i ≡ k → r ≡ examined (i .sdf) (i .dims) (i .low) (i .high) → r ≡ answers 0 true → examined (k .sdf) (k .dims) (k .low) (k .high) ≡ answers 0
+    true
 moved p e y = subst (λ (k : Input). examined (k .sdf) (k .dims) (k .low) (k .high) ≡ answers 0 true) p (sym e ∙ y)
 
 -- ---- surface_nets and is_enclosed

@@ -6,13 +6,13 @@ use mathlib.Core.List.{List}
 use mathlib.Core.Path.{_≡_, sym, ap, ap₂, subst, subst₂, _∙_}
 use lib.Dec.{T}
 use lib.ListN.{length, take}
-use Rattle.rules.specs.Lists.{many}
+use Rattle.lists.specs.Lists.{many}
 use Rattle.rules.specs.Grid.{GridPoint, Axis, stepUp}
 use Rattle.rules.specs.Faces.{Edge, owned, indices}
 use Rattle.rules.specs.Call.{Call, Answer, Buffers, answer, room, afterwards}
-use Rattle.grid.specs.declared.MaxPlane.{MaxPlane}
+use Rattle.grid.specs.declared.EachAxis.{EachAxis}
 use Rattle.grid.specs.Block.{flags}
-use Rattle.surface_nets.specs.Reading.{callMade}
+use Rattle.surface_nets.specs.AsRules.{callMade}
 use Rattle.skin.specs.Links.{Link, link, sameLink, links, faceLinks, numberOf, Square}
 use Rattle.skin.specs.Enclosed.{Enclosed}
 use Rattle.skin.specs.Scan.{answers, examined}
@@ -26,12 +26,12 @@ abbrev pub Even : List Link → Type 0
 Even sides = (i j : ℕ) → many (sameLink (link i j)) sides ≡ many (sameLink (link j i)) sides
 
 -- what the contract of a mesh call says, with the answer 0
-pub record Meshed (i : Input) (plane : MaxPlane) (r : Answer) (entry exit : Buffers) : Type 0 where
+pub record Meshed (i : Input) (plane : EachAxis) (r : Answer) (entry exit : Buffers) : Type 0 where
   pub said : r ≡ answer (callMade (i .sdf) (i .dims) (i .low) (i .high) plane) (room entry)
   pub left : exit ≡ afterwards (callMade (i .sdf) (i .dims) (i .low) (i .high) plane) entry
   pub done : r .number ≡ 0
 
-module _ {i : Input} {plane : MaxPlane} {r : Answer} {entry exit : Buffers} (m : Meshed i plane r entry exit) where
+module _ {i : Input} {plane : EachAxis} {r : Answer} {entry exit : Buffers} (m : Meshed i plane r entry exit) where
   abbrev call : Call
   call = callMade (i .sdf) (i .dims) (i .low) (i .high) plane
 

@@ -10,9 +10,9 @@ use lib.Ieee.{Float}
 use Rattle.rules.specs.Grid.{Box, Field}
 use Rattle.rules.specs.Call.{Answer, Buffers}
 use Rattle.grid.specs.declared.Extent.{Extent}
-use Rattle.grid.specs.declared.MaxPlane.{MaxPlane}
-use Rattle.judge.specs.Reading.{answerOf}
-use Rattle.whole_box.specs.Reading.{buffersGiven}
+use Rattle.grid.specs.declared.EachAxis.{EachAxis}
+use Rattle.judge.specs.AsRules.{answerOf}
+use Rattle.whole_box.specs.LentLists.{buffersGiven}
 use Rattle.skin.specs.declared.Enclosed.{Enclosed as Tested}
 use Rattle.skin.specs.Scan.{answers, gridOf, boxFrom}
 use Rattle.bed.specs.Boundary.{extent, planes, said}
@@ -60,7 +60,7 @@ module _ (o : Mesh) where
       let (sdf, (dims, (low, (high, _)))) = o .args in
       input (now sdf) dims low high
 
-  abbrev pub meshPlane : MaxPlane
+  abbrev pub meshPlane : EachAxis
   meshPlane = o .args .1 .1 .1 .1 .0
 
   abbrev pub meshAnswer : Answer
@@ -98,7 +98,7 @@ module _ (o : BedMesh) where
       let (sdf, (dx, (dy, (dz, (lx, (ly, (lz, (hx, (hy, (hz, _)))))))))) = o .args in
       input (now sdf) (extent dx dy dz) (extent lx ly lz) (extent hx hy hz)
 
-  abbrev pub bedMeshPlane : MaxPlane
+  abbrev pub bedMeshPlane : EachAxis
   bedMeshPlane = let (x, (y, (z, _))) = o .args .1 .1 .1 .1 .1 .1 .1 .1 .1 .1 in planes x y z
 
   abbrev pub bedMeshAnswer : Answer

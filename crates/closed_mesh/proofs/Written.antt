@@ -8,14 +8,14 @@ use mathlib.Core.Path.{_≡_, sym, ap, _∙_}
 use lib.ListN.{length, getD, take, drop}
 use lib.Seq.{take-at}
 use lib.Ieee.Bits.{is-true}
-use Rattle.rules.specs.Lists.{one, many, place, over}
+use Rattle.lists.specs.Lists.{one, many, place, over}
 use Rattle.rules.specs.Grid.{GridPoint, samePoint, isCell}
 use Rattle.rules.specs.Vertices.{surfaceCell, vertices}
 use Rattle.rules.specs.Faces.{indices}
 use Rattle.rules.specs.Call.{Call, Buffers, room, answer, flatPoints, written, afterwards}
 use Rattle.rules.specs.Cutting.{pointIn}
-use Rattle.rules.proofs.Tests.{one-most}
-use Rattle.rules.proofs.Lists.{many-some}
+use Rattle.lists.proofs.Tests.{one-most}
+use Rattle.lists.proofs.Lists.{many-some}
 use Rattle.rules.proofs.Counting.{samePoint-itself, vertices-once}
 use Rattle.rules.proofs.Accepted.{done-counted}
 use Rattle.rules.proofs.Locality.{when-done}
@@ -64,7 +64,8 @@ module _ (c : Call) (s : Buffers) (done : answer c (room s) .number ≡ 0) where
     where
       t : ThreeAt (λ (q : GridPoint). q .x) (λ (q : GridPoint). q .y) (λ (q : GridPoint). q .z) (over (flatPoints vs) (s .cells)) v 0 (getD vs v origin)
       t =
-          three-over (λ (q : GridPoint). q .x) (λ (q : GridPoint). q .y) (λ (q : GridPoint). q .z) (flatPoints vs) (drop (length (flatPoints vs)) (s .cells)) v 0 (getD vs v origin) (omega (arith, vertex-within v h, length-points vs))
+          three-over (λ (q : GridPoint). q .x) (λ (q : GridPoint). q .y) (λ (q : GridPoint). q .z) (flatPoints vs) (drop (length (flatPoints vs)) (s .cells)) v 0
+          (getD vs v origin) (omega (arith, vertex-within v h, length-points vs))
           (three-at (λ (q : GridPoint). q .x) (λ (q : GridPoint). q .y) (λ (q : GridPoint). q .z) vs v 0 origin (vertex-within v h))
 
   -- and each has the number at which it stands

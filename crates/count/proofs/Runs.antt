@@ -8,10 +8,10 @@ use mathlib.Core.Logic.{inl, inr}
 use mathlib.Core.Path.{_≡_, refl, ap, _∙_}
 use lib.Dec.{ltb, eqb}
 use borrow.Author.Tests.{lt-ltb, le-ltb, eq-eqb, ne-eqb}
-use Rattle.rules.specs.Lists.{one, run, upTo, many}
-use Rattle.rules.proofs.Tests.{less-or-not}
-use Rattle.rules.proofs.Lists.{all-each, many-append, many-same, many-map, many-never}
-use Rattle.rules.proofs.Runs.{upTo-none, upTo-first, upTo-last, upTo-each}
+use Rattle.lists.specs.Lists.{one, run, upTo, many}
+use Rattle.lists.proofs.Tests.{less-or-not}
+use Rattle.lists.proofs.Lists.{all-each, many-append, many-same, many-map, many-never}
+use Rattle.lists.proofs.Runs.{upTo-none, upTo-first, upTo-last, upTo-each}
 
 pub none-counted : (f : ℕ → Bool) → 0 ≡ many f (run 0)
 unfolding run many
@@ -70,12 +70,23 @@ many-before false f from to = elim (less-or-not from to) [ inl h ↦ some h | in
         ∙ many-append before (upTo from (to - 1)) ((to - 1) ∷ [])
         ∙ omega (arith, ap one last, others)
 
+-- ---- a run from 0
+
+-- a run from `first` up to `last`, the number x counted by what the test h says of its place in the run
+pub many-run : (f h : ℕ → Bool) (first last : ℕ) → ((x : ℕ) → first ≤ x → x < last → f x ≡ h (x - first)) → many f (upTo first last) ≡ many h (run (last - first))
+unfolding upTo
+many-run f h first last s =
+    many-same (upTo-each first last (λ x low high. s x low high))
+    ∙ many-map (λ (x : ℕ). h (x - first)) (λ (j : ℕ). first + j) (run (last - first))
+    ∙ many-same (all-each (λ j. ap h (back j)) (run (last - first)))
+  where
+    back : (j : ℕ) → first + j - first ≡ j
+    back j = omega arith
+
 -- ---- a test that does not look at the number
 
--- where it passes, a run from `first` up to `last` is counted, n numbers long and the j-th by the test h; else none
+-- where it passes, a run from `first` up to `last` is counted, n numbers long; else none
 pub many-owned : (own : Bool) (f f' h : ℕ → Bool) (from to first last n : ℕ) → many f (upTo from to) ≡ many f' (upTo first last) → last - first ≡ n
-    → ((j : ℕ) → f' (first + j) ≡ h j) → many (λ (x : ℕ). own && f x) (upTo from to) ≡ many h (run (cond own n 0))
-unfolding upTo
-many-owned true f f' h from to first last n e len s =
-    e ∙ many-map f' (λ (j : ℕ). first + j) (run (last - first)) ∙ many-same (all-each s (run (last - first))) ∙ ap (λ (i : ℕ). many h (run i)) len
+    → ((x : ℕ) → first ≤ x → x < last → f' x ≡ h (x - first)) → many (λ (x : ℕ). own && f x) (upTo from to) ≡ many h (run (cond own n 0))
+many-owned true f f' h from to first last n e len s = e ∙ many-run f' h first last s ∙ ap (λ (i : ℕ). many h (run i)) len
 many-owned false f f' h from to first last n e len s = many-never (upTo from to) ∙ none-counted h

@@ -6,30 +6,30 @@ use mathlib.Core.List.{List}
 use lib.Dec.{ltb, eqb}
 use lib.ListN.{getD}
 use lib.Ieee.{Float, nan, unlike}
-use Rattle.rules.specs.Lists.{one, many, run}
+use Rattle.lists.specs.Lists.{one, many, run}
 use Rattle.rules.specs.Grid.{Box}
 use Rattle.rules.specs.Cell.{negative, surface}
 use Rattle.rules.specs.Faces.{Flags}
 use Rattle.grid.specs.declared.corners.Side.{Side}
-use Rattle.grid.specs.Corners.{sideAt, eightOf}
+use Rattle.grid.specs.Corners.{sideBetween, eightOf}
 use Rattle.count.specs.declared.OwnedEdges.{OwnedEdges}
 
 abbrev pub sideNegatives : Side → ℕ
 sideNegatives s = one (negative (s .a)) + one (negative (s .b)) + one (negative (s .c)) + one (negative (s .d))
 
--- whether the j-th cell of a row is a surface cell, `at` being the place of the row's first corner
-abbrev pub surfaceAt : List Float → ℕ → ℕ → ℕ → ℕ → Bool
-surfaceAt l at row layer j = surface (eightOf (sideAt l (at + j) row layer) (sideAt l (at + j + 1) row layer))
+-- whether the j-th cell of a row is a surface cell, `at` being the place of the row's first corner in its layer
+abbrev pub surfaceAt : List Float → List Float → ℕ → ℕ → ℕ → Bool
+surfaceAt lower upper at row j = surface (eightOf (sideBetween lower upper (at + j) row) (sideBetween lower upper (at + j + 1) row))
 
-abbrev pub surfaceRun : List Float → ℕ → ℕ → ℕ → ℕ → ℕ
-surfaceRun l at row layer n = many (surfaceAt l at row layer) (run n)
+abbrev pub surfaceRun : List Float → List Float → ℕ → ℕ → ℕ → ℕ
+surfaceRun lower upper at row n = many (surfaceAt lower upper at row) (run n)
 
--- whether exactly one of two distances is negative: the j-th from p on, and the j-th from q on
-abbrev pub changesAt : List Float → ℕ → ℕ → ℕ → Bool
-changesAt l p q j = unlike (negative (getD l (p + j) nan)) (negative (getD l (q + j) nan))
+-- whether exactly one of two distances is negative: the j-th of the first list from p on, and the j-th of the second from q on
+abbrev pub changesAt : List Float → ℕ → List Float → ℕ → ℕ → Bool
+changesAt l p l' q j = unlike (negative (getD l (p + j) nan)) (negative (getD l' (q + j) nan))
 
-abbrev pub changesRun : List Float → ℕ → ℕ → ℕ → ℕ
-changesRun l p q n = many (changesAt l p q) (run n)
+abbrev pub changesRun : List Float → ℕ → List Float → ℕ → ℕ → ℕ
+changesRun l p l' q n = many (changesAt l p l' q) (run n)
 
 -- how many cells a row has
 abbrev pub rowLength : Box → ℕ

@@ -2,7 +2,7 @@
 use Prim.Native.Nat.{_*_}
 use mathlib.Core.List.{List}
 use lib.ListN.{length}
-use Rattle.rules.specs.Lists.{keep, joined}
+use Rattle.lists.specs.Lists.{keep, joined}
 use Rattle.rules.specs.Grid.{GridPoint, Box, Field}
 use Rattle.rules.specs.Vertices.{surfaceCell}
 use Rattle.rules.specs.Faces.{Flags, cellEdges}

@@ -1,20 +1,21 @@
-// V and I before anything is written: the surface cells, and six for each owned edge with exactly one negative end. A row is counted by loops over
-// runs of distances, which neither branch nor stop early; which of a row's edges the box owns is settled before them, by where a run begins and how
-// long it is.
+// V and I before anything is written: the surface cells, and six for each owned edge with exactly one negative end. A layer of cells is counted from
+// its two layers of distances, which are lent apart, so that the whole box and a single layer have one count. A row is counted by loops over runs of
+// distances, which neither branch nor stop early; which of a row's edges the box owns is settled before them, by where a run begins and how long it is.
 ghost use mathlib.Core.Path.{_≡_};
 ghost use mathlib.Core.Bool.{_&&_, cond};
 ghost use Prim.Native.Nat.{_+_, _-_, _<_, _≤_};
 ghost use lib.Dec.{leb};
 ghost use lib.ListN.{length};
-ghost use Rattle.rules.specs.Lists.{one};
+ghost use Rattle.lists.specs.Lists.{one};
+ghost use Rattle.rules.specs.Cell.{negative};
 ghost use Rattle.rules.specs.Vertices.{rowCells, layerCells, cells};
 ghost use Rattle.grid.specs.Block.{boxOf, flagsOf, fieldOf};
-ghost use Rattle.grid.specs.Corners.{sideAt};
+ghost use Rattle.grid.specs.Corners.{sideBetween};
 ghost use Rattle.grid.specs.Inside.{Inside};
+ghost use Rattle.grid.specs.Layers.{twoLayers, InLayers};
 ghost use Rattle.count.specs.Runs.{sideNegatives, surfaceRun, changesRun, ownedEdges};
 ghost use Rattle.count.specs.Tally.{tallyOf};
 use grid::Block;
-use grid::Extent;
 use grid::ownership::owns;
 
 // Vertices and indices, counted.
@@ -38,12 +39,12 @@ fn counted(yes: bool) -> u32
 }
 
 // How many corners of a side are negative.
-fn side_negatives(sdf: &[f32], at: usize, row: usize, layer: usize) -> u32
-    requires { ⌜ at + row + layer < length (now sdf) ⌝ }
-    ensures { λ r. ⌜ r ≡ sideNegatives (sideAt (now (sdf .entry)) at row layer) ⌝ }
+fn side_negatives(lower: &[f32], upper: &[f32], at: usize, row: usize) -> u32
+    requires { ⌜ (at + row < length (now lower)) × (at + row < length (now upper)) ⌝ }
+    ensures { λ r. ⌜ r ≡ sideNegatives (sideBetween (now (lower .entry)) (now (upper .entry)) at row) ⌝ }
     ensures { λ r. ⌜ r ≤ 4 ⌝ }
 {
-    let s = grid::corners::side_at(sdf, at, row, layer);
+    let s = grid::corners::side_between(lower, upper, at, row);
     let a = counted(cube::negative(s.a));
     let b = counted(cube::negative(s.b));
     let c = counted(cube::negative(s.c));
@@ -61,31 +62,31 @@ fn surface_count(negatives: u32) -> u32
 
 // How many of n cells in a row are surface cells, `at` being the place of the first one's lowest corner. A cell shares its upper x side with the
 // next cell's lower one: the negatives of each side are counted once, and carried.
-fn surface_cells(sdf: &[f32], at: usize, row: usize, layer: usize, n: usize) -> u32
-    requires { ⌜ at + n + row + layer < length (now sdf) ⌝ }
+fn surface_cells(lower: &[f32], upper: &[f32], at: usize, row: usize, n: usize) -> u32
+    requires { ⌜ (at + n + row < length (now lower)) × (at + n + row < length (now upper)) ⌝ }
     requires { ⌜ n ≤ 16777217 ⌝ }
-    ensures { λ r. ⌜ r ≡ surfaceRun (now (sdf .entry)) at row layer n ⌝ }
+    ensures { λ r. ⌜ r ≡ surfaceRun (now (lower .entry)) (now (upper .entry)) at row n ⌝ }
 {
-    let mut low = side_negatives(sdf, at, row, layer);
+    let mut low = side_negatives(lower, upper, at, row);
     let mut count = 0u32;
     for j in 0usize..n {
-        let high = side_negatives(sdf, at + j + 1, row, layer);
+        let high = side_negatives(lower, upper, at + j + 1, row);
         count += surface_count(low + high);
         low = high;
     }
     count
 }
 
-// How many of n edges have exactly one negative end: the lower ends are n distances from p on, the upper ones n from q on.
-fn changes(sdf: &[f32], p: usize, q: usize, n: usize) -> u32
-    requires { ⌜ (p + n ≤ length (now sdf)) × (q + n ≤ length (now sdf)) ⌝ }
+// How many of n edges have exactly one negative end: the lower ends are n distances of a from p on, the upper ones n of b from q on.
+fn changes(a: &[f32], p: usize, b: &[f32], q: usize, n: usize) -> u32
+    requires { ⌜ (p + n ≤ length (now a)) × (q + n ≤ length (now b)) ⌝ }
     requires { ⌜ n ≤ 16777217 ⌝ }
-    ensures { λ r. ⌜ r ≡ changesRun (now (sdf .entry)) p q n ⌝ }
+    ensures { λ r. ⌜ r ≡ changesRun (now (a .entry)) p (now (b .entry)) q n ⌝ }
 {
     let mut count = 0u32;
     for j in 0usize..n {
-        let low = cube::negative(sdf[p + j]);
-        let high = cube::negative(sdf[q + j]);
+        let low = cube::negative(a[p + j]);
+        let high = cube::negative(b[q + j]);
         count += counted(low != high);
     }
     count
@@ -129,43 +130,53 @@ fn owned_edges(k: Block, y: u32, z: u32) -> OwnedEdges
     }
 }
 
-fn count_row(sdf: &[f32], k: Block, y: u32, z: u32) -> Tally
-    requires { ⌜ Inside (now sdf) k ⌝ }
+fn count_row(lower: &[f32], upper: &[f32], k: Block, y: u32, z: u32) -> Tally
+    requires { ⌜ InLayers (now lower) (now upper) k z ⌝ }
     requires { ⌜ (k .low .y ≤ y) × (y < k .high .y) ⌝ }
-    requires { ⌜ (k .low .z ≤ z) × (z < k .high .z) ⌝ }
-    ensures { λ r. ⌜ r ≡ tallyOf (fieldOf (now (sdf .entry)) k) (boxOf k) (flagsOf k) (rowCells (boxOf k) z y) ⌝ }
+    ensures { λ r. ⌜ r ≡ tallyOf (twoLayers (now (lower .entry)) (now (upper .entry)) k z) (boxOf k) (flagsOf k) (rowCells (boxOf k) z y) ⌝ }
 {
     let row = k.dims.x as usize;
-    let layer = row * (k.dims.y as usize);
     let n = (k.high.x - k.low.x) as usize;
-    let at = grid::place::linearize(k.dims, Extent { x: k.low.x, y, z });
+    let at = (k.low.x as usize) + row * (y as usize);
     let next = at + 1;
     let own = owned_edges(k, y, z);
-    let vertices = surface_cells(sdf, at, row, layer, n);
-    let along_x = changes(sdf, at, next, own.x);
-    let along_y = changes(sdf, next, next + row, own.y);
-    let along_z = changes(sdf, next, next + layer, own.z);
+    let vertices = surface_cells(lower, upper, at, row, n);
+    let along_x = changes(lower, at, lower, next, own.x);
+    let along_y = changes(lower, next, lower, next + row, own.y);
+    let along_z = changes(lower, next, upper, next, own.z);
     Tally {
         vertices: vertices as usize,
         indices: 6 * ((along_x as usize) + (along_y as usize) + (along_z as usize)),
     }
 }
 
-fn count_layer(sdf: &[f32], k: Block, z: u32) -> Tally
-    requires { ⌜ Inside (now sdf) k ⌝ }
-    requires { ⌜ (k .low .z ≤ z) × (z < k .high .z) ⌝ }
-    ensures { λ r. ⌜ r ≡ tallyOf (fieldOf (now (sdf .entry)) k) (boxOf k) (flagsOf k) (layerCells (boxOf k) z) ⌝ }
+// The layer z of cells, from the distances of its lower and its upper points.
+pub fn count_layer(lower: &[f32], upper: &[f32], k: Block, z: u32) -> Tally
+    requires { ⌜ InLayers (now lower) (now upper) k z ⌝ }
+    ensures { λ r. ⌜ r ≡ tallyOf (twoLayers (now (lower .entry)) (now (upper .entry)) k z) (boxOf k) (flagsOf k) (layerCells (boxOf k) z) ⌝ }
 {
     let from = k.low.y;
     let end = k.high.y;
     let mut vertices = 0usize;
     let mut indices = 0usize;
     for y in from..end {
-        let one = count_row(sdf, k, y, z);
+        let one = count_row(lower, upper, k, y, z);
         vertices += one.vertices;
         indices += one.indices;
     }
     Tally { vertices, indices }
+}
+
+// The layer z of a whole grid, whose parts are lent.
+fn count_part(sdf: &[f32], k: Block, z: u32) -> Tally
+    requires { ⌜ Inside (now sdf) k ⌝ }
+    requires { ⌜ (k .low .z ≤ z) × (z < k .high .z) ⌝ }
+    ensures { λ r. ⌜ r ≡ tallyOf (fieldOf (now (sdf .entry)) k) (boxOf k) (flagsOf k) (layerCells (boxOf k) z) ⌝ }
+{
+    let plane = (k.dims.x as usize) * (k.dims.y as usize);
+    let start = plane * (z as usize);
+    let end = start + plane;
+    count_layer(&sdf[start..end], &sdf[end..], k, z)
 }
 
 pub fn count_box(sdf: &[f32], k: Block) -> Tally
@@ -177,7 +188,7 @@ pub fn count_box(sdf: &[f32], k: Block) -> Tally
     let mut vertices = 0usize;
     let mut indices = 0usize;
     for z in from..end {
-        let one = count_layer(sdf, k, z);
+        let one = count_part(sdf, k, z);
         vertices += one.vertices;
         indices += one.indices;
     }

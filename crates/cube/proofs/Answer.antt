@@ -7,7 +7,7 @@ use Prim.Native.Nat.{ℕ}
 use native.Mathlib.Omega.{arith}
 use lib.Ieee.{Float}
 use Rattle.rules.specs.Cell.{CubeEdge, corner, crosses, fraction, pointBetween, crossingPoint}
-use Rattle.cube.specs.Reading.{fractionOf, pickFraction, crossingOf}
+use Rattle.cube.specs.AsRules.{fractionOf, pickFraction, crossingOf}
 use Rattle.cube.specs.declared.crossing.Crossing.{Crossing}
 use Rattle.cube.specs.declared.crossing.Crossing.the-variants.{No, At}
 

@@ -7,8 +7,8 @@ use mathlib.Core.Path.{_≡_, sym, ap, _∙_}
 use lib.Dec.{T, eqb, ltb, eqb→eq, ltb→lt}
 use lib.Ieee.Fits.{and-l, and-r}
 use Rattle.rules.specs.Cell.{CubeEdge}
-use Rattle.rules.proofs.Tests.{less-or-not}
-use Rattle.cube.specs.Reading.{edgeAt}
+use Rattle.lists.proofs.Tests.{less-or-not}
+use Rattle.cube.specs.AsRules.{edgeAt}
 
 -- whether the n edges from `low` on have the corner r at that end
 abbrev alike : (CubeEdge → ℕ) → ℕ → ℕ → ℕ → Bool

@@ -16,7 +16,7 @@ use Rattle.rounding.proofs.Sign.{weak-finite}
 use Rattle.rounding.proofs.Order.{weak-le}
 use Rattle.rounding.proofs.Quotient.{share-above, share-below}
 use Rattle.rules.specs.Cell.{CubeEdge, corner, negative, crosses, fraction, cubeEdges, zero32, one32}
-use Rattle.rules.proofs.Lists.{All, none, more, all-in}
+use Rattle.lists.proofs.Lists.{All, none, more, all-in}
 use Rattle.cube.proofs.Corners.{Cell}
 
 -- ---- "Negative means d < 0, so 0 and -0.0 are not negative."

@@ -4,9 +4,9 @@ use mathlib.Core.Path.{_≡_, refl}
 use Prim.Native.Nat.{ℕ}
 use mathlib.Core.List.{List, [], _∷_, map}
 use lib.Ieee.{Float, binary32, ofBits, toBits, add, sub, mul, div, lt, ofInt}
-use Rattle.rules.specs.Lists.{keep, many}
+use Rattle.lists.specs.Lists.{keep, many}
 use Rattle.rules.specs.Cell.{Vector, fraction, pointBetween, crossingPoint, crossingPoints, summed, crossings, centroid, normal}
-use Rattle.rules.proofs.Lists.{All, none, more}
+use Rattle.lists.proofs.Lists.{All, none, more}
 
 -- the bits of eight corner values, and those of x, y, z of the centroid and of the normal
 pub record Sample : Type 0 where

@@ -8,9 +8,9 @@ use native.Mathlib.Nat.{add-zero, le-of-suc-le-suc, not-suc-le-zero}
 use native.Mathlib.Numerals.{add-one}
 use lib.ListN.{length, take, getD}
 use lib.Seq.{take-suc}
-use Rattle.rules.specs.Lists.{one, keep, many}
+use Rattle.lists.specs.Lists.{one, keep, many}
 use Rattle.rules.specs.Cell.{Vector, plus, summed}
-use Rattle.rules.proofs.Lists.{many-append}
+use Rattle.lists.proofs.Lists.{many-append}
 
 module _ {A : Type 0} (f : A → Bool) (d : A) where
   many-next : (l : List A) (n : ℕ) → n < length l → many f (take (suc n) l) ≡ many f (take n l) + one (f (getD l n d))

@@ -43,7 +43,8 @@ pub record UnderCaps (g : Field) (c : GridPoint) : Type 0 where
   -- "every number written is finite"
   pub finite : Each Finite (vertexPosition g c) × Each Finite (vertexNormal g c)
 
-pub under-caps : (g : Field) (b : Box) (c : GridPoint) → ((p : GridPoint) → T (inBox b p) → T (fits binary32 (value g p))) → T (not (badDimensions (g .dims))) → T (not (badBox (g .dims) b))
+pub under-caps : (g : Field) (b : Box) (c : GridPoint) → ((p : GridPoint) → T (inBox b p) → T (fits binary32 (value g p))) → T (not (badDimensions (g .dims))) → T
+    (not (badBox (g .dims) b))
     → T (not (badDistance g b)) → T (isCell b c) → T (surfaceCell g c) → UnderCaps g c
 under-caps g b c f h k l t s =
     let q = capped-corners g b c f l t in

@@ -4,7 +4,7 @@ use mathlib.Core.Option.{Option, none, some}
 use Prim.Native.Nat.{ℕ}
 use lib.Ieee.{Float}
 use Rattle.rules.specs.Cell.{Vector}
-use Rattle.cube.specs.Reading.{vector, fractionOf}
+use Rattle.cube.specs.AsRules.{vector, fractionOf}
 use Rattle.cube.specs.declared.point.Point.{Point}
 use Rattle.cube.specs.declared.crossing.Crossing.{Crossing}
 use Rattle.cube.specs.declared.crossing.Crossing.the-variants.{No, At}
@@ -92,7 +92,8 @@ position-in-once κs a z z' e e' l l' = same-vector l l'
 pub negative-once : OneResult 0 negative-kinds.ps negative-kinds.r negative.Learnt
 negative-once κs a z z' e e' l l' = l ∙ sym l'
 
-pub estimate-surface-edge-intersection-once : OneResult 0 estimate-surface-edge-intersection-kinds.ps estimate-surface-edge-intersection-kinds.r estimate-surface-edge-intersection.Learnt
+pub estimate-surface-edge-intersection-once : OneResult 0 estimate-surface-edge-intersection-kinds.ps estimate-surface-edge-intersection-kinds.r
+    estimate-surface-edge-intersection.Learnt
 estimate-surface-edge-intersection-once κs a z z' e e' l l' = fraction-injective z z' (l ∙ sym l')
 
 pub sum-of-edge-intersections-once : OneResult 1 sum-of-edge-intersections-kinds.ps sum-of-edge-intersections-kinds.r sum-of-edge-intersections.Learnt

@@ -13,8 +13,27 @@ use Rattle.rounding.proofs.Sign.{plain-finite}
 use Rattle.rounding.proofs.Bounds.{holds-whole}
 use Rattle.rounding.proofs.Operations.{add-up, div-up, up-to-share}
 use Rattle.rounding.proofs.Mixing.{mix-up}
-use Rattle.rules.specs.Cell.{Vector, CubeEdge, zero32, one32, bit, zeroVector, plus, corner, surface, crosses, crossings, cubeEdges, fraction, pointBetween, crossingPoint, crossingPoints, summed, centroid}
-use Rattle.rules.proofs.Lists.{All, none, more, all-then, all-map, all-keep, many-most}
+use Rattle.rules.specs.Cell.{
+  Vector,
+  CubeEdge,
+  zero32,
+  one32,
+  bit,
+  zeroVector,
+  plus,
+  corner,
+  surface,
+  crosses,
+  crossings,
+  cubeEdges,
+  fraction,
+  pointBetween,
+  crossingPoint,
+  crossingPoints,
+  summed,
+  centroid,
+}
+use Rattle.lists.proofs.Lists.{All, none, more, all-then, all-map, all-keep, many-most}
 use Rattle.rules.proofs.Crossings.{crossings-points, three-to-twelve}
 use Rattle.cube.proofs.Corners.{Each, Finite, Cell}
 use Rattle.cube.proofs.Fraction.{Ends, cube-ends, share-of-edge, fraction-held, share-in-unit}

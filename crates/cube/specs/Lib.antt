@@ -1,2 +1,2 @@
 -- What the contracts of cube cite beside the rules. Assumes nothing.
-pub mod Reading
+pub mod AsRules

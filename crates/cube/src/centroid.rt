@@ -2,7 +2,7 @@
 ghost use mathlib.Core.Path.{_≡_};
 ghost use Prim.Native.Nat.{_<_};
 ghost use Rattle.rules.specs.Cell.{pointBetween, summed, zeroVector, crossingPoints, crossings, centroid};
-ghost use Rattle.cube.specs.Reading.{vector};
+ghost use Rattle.cube.specs.AsRules.{vector};
 use crate::crossing::Crossing;
 use crate::crossing::estimate_surface_edge_intersection;
 use crate::point::Point;

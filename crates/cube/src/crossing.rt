@@ -1,7 +1,7 @@
 // Whether the surface crosses an edge, from the values at its two ends, and where.
 ghost use mathlib.Core.Path.{_≡_};
 ghost use Rattle.rules.specs.Cell.{negative};
-ghost use Rattle.cube.specs.Reading.{fractionOf, crossingOf};
+ghost use Rattle.cube.specs.AsRules.{fractionOf, crossingOf};
 
 // An edge answers no crossing, or a crossing with its fraction of the way from the first end to the second.
 pub enum Crossing {

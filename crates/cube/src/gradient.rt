@@ -1,7 +1,7 @@
 // The normal: the gradient of the distances at a point of the cell, not of unit length.
 ghost use mathlib.Core.Path.{_≡_};
 ghost use Rattle.rules.specs.Cell.{blend, normal};
-ghost use Rattle.cube.specs.Reading.{vector};
+ghost use Rattle.cube.specs.AsRules.{vector};
 use crate::point::Point;
 
 // Where the surface stands on the two other axes: n and s on the first, and on the second. The four differences are blended

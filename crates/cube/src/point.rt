@@ -1,7 +1,7 @@
 // A point or a vector in space: three floats held as one value.
 ghost use mathlib.Core.Path.{_≡_};
 ghost use Rattle.rules.specs.Cell.{plus, minus, scaled, divided, squaredDistance, position};
-ghost use Rattle.cube.specs.Reading.{vector, gridPoint};
+ghost use Rattle.cube.specs.AsRules.{vector, gridPoint};
 use std::num::nearest_u32_to_f32;
 
 pub struct Point {

@@ -3,7 +3,7 @@
 ghost use mathlib.Core.Path.{_≡_};
 ghost use Prim.Native.Nat.{_<_};
 ghost use Rattle.rules.specs.Cell.{bit, cornerVector};
-ghost use Rattle.cube.specs.Reading.{vector, edgeAt};
+ghost use Rattle.cube.specs.AsRules.{vector, edgeAt};
 use crate::point::Point;
 
 // A coordinate in the unit cube, 0 or 1, as a float.

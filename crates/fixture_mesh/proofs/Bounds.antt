@@ -18,14 +18,14 @@ use lib.Ieee.Positive.{num, den}
 use Rattle.rules.specs.Grid.{GridPoint, pointAt}
 use Rattle.rules.specs.Cell.{Vector, minus}
 use Rattle.rules.specs.Call.{cap, beyond, badDimensions}
-use Rattle.rules.proofs.Tests.{nor-left, nor-right}
+use Rattle.lists.proofs.Tests.{nor-left, nor-right}
 use Rattle.rules.proofs.Indexes.{small, right-length}
 use Rattle.rounding.specs.Values.{Within, Holds}
 use Rattle.rounding.proofs.Sign.{neg-within}
 use Rattle.rounding.proofs.Bounds.{wider, holds-times}
 use Rattle.rounding.proofs.Operations.{sub-within}
 use Rattle.rounding.proofs.Whole.{integer-held}
-use Rattle.cube.specs.Reading.{vector}
+use Rattle.cube.specs.AsRules.{vector}
 use Rattle.cube.specs.declared.point.Point.{Point}
 use Rattle.fixtures.specs.Record.{reach, past, farPoint}
 use Rattle.fixtures.specs.Solid.{greater, lesser, boxValue, joins, valueAt}

@@ -12,7 +12,7 @@ use lib.Count.{trailingZeros}
 use lib.ListN.{length, getD, replicate}
 use lib.Ieee.{Float, nan, inf, fin, binary32, add, sub, mul, div, lt, neg, ofInt, round, size, units, odd, sum, span, climb, ofBits, ofFields}
 use lib.Ieee.Fits.{and-l, and-r}
-use Rattle.rules.specs.Lists.{run, upTo, keep, many, some, joined, place, placed}
+use Rattle.lists.specs.Lists.{run, upTo, keep, many, some, joined, place, placed}
 use Rattle.rules.specs.Grid.{GridPoint}
 use Rattle.rules.specs.Cell.{fraction, pointBetween, crossingPoint, crossingPoints, summed, crossings, centroid, position, normal}
 use Rattle.rules.specs.Vertices.{rowCells, layerCells, cells, layerVertices, vertices, firstVertex, cellEntry, mapEntry}
@@ -171,7 +171,10 @@ cases =
 
 -- what a computed test opens: every definition of the fixtures and of the rules, and the arithmetic below them
 opened : Unit {0}
-unfolding cutAnswer cutGrid cutAll fileAnswer fileAt solidAt members greater lesser boxValue joins headAt badGroup record-of.badBox past farPoint unknownKind badCount restZero wordAt bytesOf answer roomAnswer badDimensions badBox badLength beyond badLayer badDistance run upTo keep many some joined place placed fraction pointBetween crossingPoint crossingPoints summed crossings centroid position normal rowCells layerCells cells layerVertices vertices firstVertex cellEntry mapEntry owned changes cellEdges layerEdges edges shorter faceCells layerIndices indices layerPoints points changingEdges add sub mul div lt neg ofInt round size units odd sum span climb trailingZeros ofBits ofFields
+unfolding cutAnswer cutGrid cutAll fileAnswer fileAt solidAt members greater lesser boxValue joins headAt badGroup record-of.badBox past farPoint unknownKind badCount restZero
+    wordAt bytesOf answer roomAnswer badDimensions badBox badLength beyond badLayer badDistance run upTo keep many some joined place placed fraction pointBetween crossingPoint
+    crossingPoints summed crossings centroid position normal rowCells layerCells cells layerVertices vertices firstVertex cellEntry mapEntry owned changes cellEdges layerEdges
+    edges shorter faceCells layerIndices indices layerPoints points changingEdges add sub mul div lt neg ofInt round size units odd sum span climb trailingZeros ofBits ofFields
 opened = tt
 
 sameInteger : ℤ → ℤ → Bool

@@ -13,7 +13,7 @@ use lib.ListN.{length}
 use lib.Ieee.{Float}
 use Rattle.rules.specs.Grid.{GridPoint, Box, index, inBox}
 use Rattle.rules.specs.Call.{badDimension, badDimensions, badBox}
-use Rattle.rules.proofs.Tests.{nor-left, nor-right}
+use Rattle.lists.proofs.Tests.{nor-left, nor-right}
 use Rattle.rules.proofs.Indexes.{BoxFits, box-fits, box-within, index-below, volume}
 pub use Rattle.rules.proofs.Indexes.{small}
 use Rattle.grid.specs.declared.Block.{Block}

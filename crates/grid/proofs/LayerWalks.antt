@@ -10,11 +10,11 @@ use mir.Val.{Fits}
 use lib.Dec.{T}
 use lib.ListN.{length}
 use lib.Ieee.{Float}
-use Rattle.rules.specs.Lists.{upTo, joined}
+use Rattle.lists.specs.Lists.{upTo, joined}
 use Rattle.rules.specs.Grid.{GridPoint, Box, isCell}
 use Rattle.rules.specs.Vertices.{rowCells, layerCells}
-use Rattle.rules.proofs.Runs.{upTo-split}
-use Rattle.rules.proofs.Lists.{joined-append}
+use Rattle.lists.proofs.Runs.{upTo-split}
+use Rattle.lists.proofs.Lists.{joined-append}
 use Rattle.rules.proofs.Indexes.{is-cell, cell-in-box}
 use Rattle.grid.specs.declared.Block.{Block}
 use Rattle.grid.specs.Block.{point, boxOf}

@@ -65,13 +65,15 @@ module _ (lower upper : List Float) (k : Block) (z : ℕ) (c : GridPoint) (ez : 
   dims = point (k .dims)
 
   -- a corner of the lower layer, and one of the upper, dx and dy from the lowest
-  low-at : (i n : ℕ) → cornerOf c i .x < k .dims .x → cornerOf c i .y < k .dims .y → cornerOf c i .z ≡ z → inLayer (point (k .dims)) (cornerOf c i) ≡ n → value (twoLayers lower upper k z) (cornerOf c i) ≡ getD lower n nan
+  low-at : (i n : ℕ) → cornerOf c i .x < k .dims .x → cornerOf c i .y < k .dims .y → cornerOf c i .z ≡ z → inLayer (point (k .dims)) (cornerOf c i) ≡ n → value
+      (twoLayers lower upper k z) (cornerOf c i) ≡ getD lower n nan
   low-at i n x y e f = value-lower lower upper k z (cornerOf c i) e (in-plane dims (cornerOf c i) x y) ∙ ap (λ (m : ℕ). getD lower m nan) f
 
   high-at : (i n : ℕ) → cornerOf c i .z ≡ z + 1 → inLayer (point (k .dims)) (cornerOf c i) ≡ n → value (twoLayers lower upper k z) (cornerOf c i) ≡ getD upper n nan
   high-at i n e f = value-upper lower upper k z (cornerOf c i) e ∙ ap (λ (m : ℕ). getD upper m nan) f
 
-  pub values-between : (at row : ℕ) → at ≡ inLayer (point (k .dims)) c → row ≡ k .dims .x → values (twoLayers lower upper k z) c ≡ eightOf (sideBetween lower upper at row) (sideBetween lower upper (at + 1) row)
+  pub values-between : (at row : ℕ) → at ≡ inLayer (point (k .dims)) c → row ≡ k .dims .x → values (twoLayers lower upper k z) c ≡ eightOf (sideBetween lower upper at row)
+      (sideBetween lower upper (at + 1) row)
   values-between at row e f =
       let up : k .dims .x * (c .y + 1) ≡ k .dims .x * c .y + k .dims .x = mul-add (k .dims .x) (c .y) 1 ∙ ap (λ (n : ℕ). k .dims .x * c .y + n) (mul-one (k .dims .x)) in
       let no : k .dims .x * (c .y + 0) ≡ k .dims .x * c .y = ap (λ (n : ℕ). k .dims .x * n) (omega arith) in

@@ -1,6 +1,7 @@
 -- Laws of the grid that belong to no one function: what the conditions leave, the tests against the cap, where rows and cells stand, what
--- holds in a turn of a loop, and which corner values are read. Assumes nothing.
+-- holds in a turn of a loop, which corner values are read, and which parts of a grid are its layers. Assumes nothing.
 pub mod Tests
+pub mod Faults
 pub mod Lengths
 pub mod Bounds
 pub mod Beyond
@@ -9,7 +10,7 @@ pub mod Owned
 pub mod Rows
 pub mod Walks
 pub mod Order
-pub mod Eight
 pub mod Layers
 pub mod LayerWalks
 pub mod Slab
+pub mod Parts

@@ -6,11 +6,11 @@ use native.Mathlib.Omega.{arith}
 use mathlib.Core.List.{[], _∷_, _++_, map-append}
 use mathlib.Core.Path.{_≡_, refl, sym, ap, _∙_}
 use lib.ListN.{length, length-append, length-map}
-use Rattle.rules.specs.Lists.{run, upTo, joined}
+use Rattle.lists.specs.Lists.{run, upTo, joined}
 use Rattle.rules.specs.Grid.{GridPoint, Box}
 use Rattle.rules.specs.Vertices.{rowCells, layerCells, cells}
-use Rattle.rules.proofs.Lists.{joined-length}
-use Rattle.rules.proofs.Runs.{upTo-last, upTo-none, joined-last}
+use Rattle.lists.proofs.Lists.{joined-length}
+use Rattle.lists.proofs.Runs.{upTo-last, upTo-none, joined-last}
 use Rattle.grid.specs.Order.{rowTo, layerTo, boxTo}
 
 abbrev at : ℕ → ℕ → ℕ → GridPoint
@@ -78,7 +78,8 @@ rowCells-length b z y = ap length (sym (row-ends b z y)) ∙ row-length b z y (b
 
 pub layer-length : (b : Box) (z y : ℕ) → length (layerTo b z y) ≡ (b .high .x - b .low .x) * (y - b .low .y)
 unfolding layerTo
-layer-length b z y = joined-length (rowCells b z) (b .high .x - b .low .x) (rowCells-length b z) (upTo (b .low .y) y) ∙ ap (λ (n : ℕ). (b .high .x - b .low .x) * n) (length-upTo (b .low .y) y)
+layer-length b z y = joined-length (rowCells b z) (b .high .x - b .low .x) (rowCells-length b z) (upTo (b .low .y) y) ∙ ap (λ (n : ℕ). (b .high .x - b .low .x) * n)
+    (length-upTo (b .low .y) y)
 
 pub layerCells-length : (b : Box) (z : ℕ) → length (layerCells b z) ≡ (b .high .x - b .low .x) * (b .high .y - b .low .y)
 layerCells-length b z = ap length (sym (layer-ends b z)) ∙ layer-length b z (b .high .y)

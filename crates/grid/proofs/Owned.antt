@@ -10,6 +10,7 @@ passed : (a b : Bool) → T a → a && b ≡ b
 passed true b t = refl
 passed false b t = absurd t
 
-pub owned-cell : (b : Box) (m : Flags) (a : Axis) (p : GridPoint) → T (isCell b p) → owned b m (edge a p) ≡ (aboveLow (axisB a) b p && (aboveLow (axisC a) b p && insideMax a b m p))
+pub owned-cell : (b : Box) (m : Flags) (a : Axis) (p : GridPoint) → T (isCell b p) → owned b m (edge a p) ≡
+    (aboveLow (axisB a) b p && (aboveLow (axisC a) b p && insideMax a b m p))
 unfolding owned
 owned-cell b m a p t = passed (isCell b p) (aboveLow (axisB a) b p && (aboveLow (axisC a) b p && insideMax a b m p)) t

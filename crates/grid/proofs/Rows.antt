@@ -1,21 +1,20 @@
 -- Where the rows of a box begin and end in the list of distances. Assumes nothing.
-use Prim.Native.Nat.{ℕ, _+_, _-_, _*_, _<_, _≤_}
-use native.Mathlib.Nat.{le-trans, le-of-eq, mul-one, mul-add, mul-le-mul, mul-le-mul-left}
+use Prim.Native.Nat.{ℕ, _+_, _-_, _*_, _≤_}
+use native.Mathlib.Nat.{le-trans, le-of-eq, mul-one, mul-le-mul, mul-le-mul-left}
 use native.Mathlib.Omega.{arith}
 use mathlib.Core.List.{List}
 use mathlib.Core.Path.{sym}
-use lib.Dec.{T, lit<}
+use lib.Dec.{T}
 use lib.ListN.{length}
 use lib.Ieee.{Float}
-use Rattle.rules.specs.Grid.{GridPoint, index, inBox, isCell}
-use Rattle.rules.specs.Cell.{cornerOf}
-use Rattle.rules.proofs.Indexes.{in-box, corner-in-box, corner-index}
+use Rattle.rules.specs.Grid.{index, inBox}
+use Rattle.rules.proofs.Indexes.{in-box}
 use Rattle.grid.specs.declared.Block.{Block}
 use Rattle.grid.specs.Block.{point, boxOf}
 use Rattle.grid.specs.Inside.{PointInside, Inside}
-use Rattle.grid.specs.Order.{rowTo, layerTo, boxTo}
-use Rattle.grid.proofs.Bounds.{few, small, fits, point-inside, below-length}
-use Rattle.grid.proofs.Order.{row-length, layer-length, box-length}
+use Rattle.grid.specs.Order.{layerTo, boxTo}
+use Rattle.grid.proofs.Bounds.{few, fits, point-inside, below-length}
+use Rattle.grid.proofs.Order.{layer-length, box-length}
 
 module _ {grid : List Float} {k : Block} (i : Inside grid k) {y z : ℕ} (ys : (k .low .y ≤ y) × (y ≤ k .high .y)) (zs : (k .low .z ≤ z) × (z ≤ k .high .z)) where
   -- a point of the row
@@ -32,32 +31,9 @@ module _ {grid : List Float} {k : Block} (i : Inside grid k) {y z : ℕ} (ys : (
       let h = below-length grid k i (record { x = k .high .x; y = y; z = z }) (on-row (omega arith)) in
       omega arith
 
--- the side at the row's start, with the next row and the next layer, lies in the list
-pub side-start : {grid : List Float} {k : Block} (i : Inside grid k) {y z : ℕ} → (k .low .y ≤ y) × (y < k .high .y) → (k .low .z ≤ z) × (z < k .high .z)
-    → index (point (k .dims)) (record { x = k .low .x; y = y; z = z }) + k .dims .x + k .dims .x * k .dims .y < length grid
-side-start {grid} {k} i {y} {z} ys zs =
-    let f = fits grid k i in
-    let far : GridPoint = record { x = k .low .x; y = y + 1; z = z + 1 } in
-    let inside : T (inBox (boxOf k) far) = in-box (boxOf k) far (omega arith) in
-    omega (arith, below-length grid k i far inside, mul-add (k .dims .x) y 1, mul-one (k .dims .x), mul-add (k .dims .x * k .dims .y) z 1, mul-one (k .dims .x * k .dims .y))
-
--- ---- a cell's corners lie in the list
-
-module _ (grid : List Float) (k : Block) (i : Inside grid k) (c : GridPoint) (t : T (isCell (boxOf k) c)) where
-  pub high-side : index (point (k .dims)) c + 1 + k .dims .x + k .dims .x * k .dims .y < length grid
-  high-side =
-      let d = point (k .dims) in
-      omega (arith, corner-index d c 7, below-length grid k i (cornerOf c 7) (corner-in-box (boxOf k) c 7 t (lit< tt)))
-
 -- ---- the lists of cells are short
 
 module _ (grid : List Float) (k : Block) (i : Inside grid k) where
-  pub row-short : (z y x : ℕ) → x ≤ k .high .x → length (rowTo (boxOf k) z y x) ≤ 1073741824
-  row-short z y x h =
-      let f = fits grid k i in
-      let s = small (point (k .dims)) (i .dims) in
-      omega (arith, row-length (boxOf k) z y x)
-
   pub layer-short : (z y : ℕ) → y ≤ k .high .y → length (layerTo (boxOf k) z y) ≤ 1073741824
   layer-short z y h =
       let f = fits grid k i in
@@ -65,7 +41,8 @@ module _ (grid : List Float) (k : Block) (i : Inside grid k) where
       let a : k .high .x - k .low .x ≤ k .dims .x = omega arith in
       let b : y - k .low .y ≤ k .dims .y = omega arith in
       let deep : 1 ≤ k .dims .z = omega arith in
-      le-trans (le-of-eq (layer-length (boxOf k) z y)) (le-trans (mul-le-mul a b) (le-trans (le-of-eq (sym (mul-one (k .dims .x * k .dims .y)))) (le-trans (mul-le-mul-left (k .dims .x * k .dims .y) deep) s)))
+      le-trans (le-of-eq (layer-length (boxOf k) z y)) (le-trans (mul-le-mul a b)
+      (le-trans (le-of-eq (sym (mul-one (k .dims .x * k .dims .y)))) (le-trans (mul-le-mul-left (k .dims .x * k .dims .y) deep) s)))
 
   pub box-short : (z : ℕ) → z ≤ k .high .z → length (boxTo (boxOf k) z) ≤ 1073741824
   box-short z h =

@@ -9,13 +9,13 @@ use mathlib.Core.List.{List, [], _∷_, _++_, map}
 use mathlib.Core.Path.{_≡_, refl, sym, ap, _∙_}
 use lib.ListN.{getD}
 use lib.Ieee.{Float, nan}
-use Rattle.rules.specs.Lists.{run, upTo, some}
+use Rattle.lists.specs.Lists.{run, upTo, some}
 use Rattle.rules.specs.Grid.{GridPoint, index, value}
 use Rattle.rules.specs.Faces.{layerPoints}
 use Rattle.rules.specs.Call.{beyond, badLayer, badDistance}
-use Rattle.rules.proofs.Lists.{all-each}
-use Rattle.rules.proofs.Some.{some-append, some-joined, some-map, some-same}
-use Rattle.rules.proofs.Runs.{upTo-last, upTo-none}
+use Rattle.lists.proofs.Lists.{all-each}
+use Rattle.lists.proofs.Some.{some-append, some-joined, some-map, some-same}
+use Rattle.lists.proofs.Runs.{upTo-last, upTo-none}
 use Rattle.grid.specs.declared.Block.{Block}
 use Rattle.grid.specs.Block.{point, boxOf, fieldOf}
 use Rattle.grid.specs.Inside.{badRun}
@@ -44,7 +44,8 @@ pub none-yet : (f : ℕ → Bool) (from : ℕ) → false ≡ some f (upTo from f
 unfolding some
 none-yet f from = rw (upTo-none from from (le-refl from))
 
-pub one-more : (f : ℕ → Bool) {from at : ℕ} {bad more now' : Bool} → from ≤ at → bad ≡ some f (upTo from at) → more ≡ f at → now' ≡ (bad || more) → now' ≡ some f (upTo from (at + 1))
+pub one-more : (f : ℕ → Bool) {from at : ℕ} {bad more now' : Bool} → from ≤ at → bad ≡ some f (upTo from at) → more ≡ f at → now' ≡ (bad || more) → now' ≡ some f
+    (upTo from (at + 1))
 one-more f {from} {at} h e d n = rw (n, e, d, add-one, upTo-last from at h) (sym (some-last f (upTo from at) at))
 
 -- ---- a row, a layer and the box
@@ -55,19 +56,22 @@ row-index d low y z j = omega arith
 abbrev pub badRow : List Float → Block → ℕ → ℕ → Bool
 badRow l k z y = badRun l (index (point (k .dims)) (record { x = k .low .x; y = y; z = z })) (k .high .x + 1 - k .low .x)
 
-row-is : (l : List Float) (k : Block) (z y : ℕ) → badRow l k z y ≡ some (λ (p : GridPoint). beyond (value (fieldOf l k) p)) (map (λ (x : ℕ). record { x = x; y = y; z = z }) (upTo (k .low .x) (k .high .x + 1)))
+row-is : (l : List Float) (k : Block) (z y : ℕ) → badRow l k z y ≡ some (λ (p : GridPoint). beyond (value (fieldOf l k) p))
+    (map (λ (x : ℕ). record { x = x; y = y; z = z }) (upTo (k .low .x) (k .high .x + 1)))
 unfolding upTo
 row-is l k z y =
     let here = point (k .dims) in
     some-same (all-each (λ (j : ℕ). ap (λ (i : ℕ). beyond (getD l i nan)) (row-index here (k .low .x) y z j)) (run (k .high .x + 1 - k .low .x)))
     ∙ sym (some-map (λ (x : ℕ). beyond (getD l (index here (record { x = x; y = y; z = z })) nan)) (λ (j : ℕ). k .low .x + j) (run (k .high .x + 1 - k .low .x)))
-    ∙ sym (some-map (λ (p : GridPoint). beyond (value (fieldOf l k) p)) (λ (x : ℕ). record { x = x; y = y; z = z }) (map (λ (j : ℕ). k .low .x + j) (run (k .high .x + 1 - k .low .x))))
+    ∙ sym (some-map (λ (p : GridPoint). beyond (value (fieldOf l k) p)) (λ (x : ℕ). record { x = x; y = y; z = z })
+    (map (λ (j : ℕ). k .low .x + j) (run (k .high .x + 1 - k .low .x))))
 
 pub layer-is : (l : List Float) (k : Block) (z : ℕ) → some (badRow l k z) (upTo (k .low .y) (k .high .y + 1)) ≡ badLayer (fieldOf l k) (boxOf k) z
 unfolding badLayer layerPoints
 layer-is l k z =
     some-same (all-each (row-is l k z) (upTo (k .low .y) (k .high .y + 1)))
-    ∙ sym (some-joined (λ (p : GridPoint). beyond (value (fieldOf l k) p)) (λ (y : ℕ). map (λ (x : ℕ). record { x = x; y = y; z = z }) (upTo (k .low .x) (k .high .x + 1))) (upTo (k .low .y) (k .high .y + 1)))
+    ∙ sym (some-joined (λ (p : GridPoint). beyond (value (fieldOf l k) p)) (λ (y : ℕ). map (λ (x : ℕ). record { x = x; y = y; z = z }) (upTo (k .low .x) (k .high .x + 1)))
+    (upTo (k .low .y) (k .high .y + 1)))
 
 pub box-is : (l : List Float) (k : Block) → some (badLayer (fieldOf l k) (boxOf k)) (upTo (k .low .z) (k .high .z + 1)) ≡ badDistance (fieldOf l k) (boxOf k)
 unfolding badDistance

@@ -1,17 +1,20 @@
--- The vertices of a layer depend on two layers of distances alone: two grids of one shape that agree on the points of the box in the layers z and
--- z + 1 have the same. From the locality of the rules, in the slab of the box between the two. Assumes nothing.
-use Prim.Native.Nat.{ℕ, _+_, _*_, _≤_, _<_}
+-- The vertices of a layer, and its edges that give faces, depend on two layers of distances alone: two grids of one shape that agree on the points of
+-- the box in the layers z and z + 1 have the same. From the locality of the rules, in the slab of the box between the two. Assumes nothing.
+use Prim.Native.Nat.{ℕ, _+_}
 use native.Mathlib.Omega.{arith}
+use mathlib.Core.Bool.{Bool, _&&_}
 use mathlib.Core.List.{List, map}
-use mathlib.Core.Path.{_≡_, refl, sym, ap, ap₂, _∙_}
+use mathlib.Core.Path.{_≡_, sym, ap, ap₂, _∙_}
 use lib.Dec.{T}
-use lib.Ieee.{Float}
-use Rattle.rules.specs.Lists.{keep, place}
-use Rattle.rules.specs.Grid.{GridPoint, Box, Field, samePoint, isCell, inBox, value}
+use lib.Ieee.{Float, unlike}
+use Rattle.lists.specs.Lists.{joined, place}
+use Rattle.rules.specs.Grid.{GridPoint, Axis, axisX, axisY, axisZ, Box, Field, samePoint, isCell, inBox, value, stepUp}
+use Rattle.rules.specs.Cell.{negative}
 use Rattle.rules.specs.Vertices.{rowCells, layerCells, surfaceCell, layerVertices, vertexPosition, vertexNormal, vertexCrossings, vertexNumber}
-use Rattle.rules.proofs.Lists.{All, all-then, all-keep, map-same, keep-same}
-use Rattle.rules.proofs.Indexes.{cell-within, is-cell}
-use Rattle.rules.proofs.Inside.{layer-cells}
+use Rattle.rules.specs.Faces.{Flags, edge, owned, changes, gives, cellEdges, layerEdges}
+use Rattle.lists.proofs.Lists.{All, none, more, all-then, all-keep, map-same, joined-same, keep-same}
+use Rattle.rules.proofs.Indexes.{cell-within, cell-in-box, is-cell}
+use Rattle.rules.proofs.Inside.{layer-cells, up-in-box}
 use Rattle.rules.proofs.Locality.{surface-same, position-same, normal-same, crossed-same}
 
 -- the part of a box between the layers z and z + 1
@@ -66,3 +69,21 @@ module _ (d : GridPoint) (f f' : ℕ → Float) (b : Box) (z : ℕ) (agree : (p 
       ap (λ (y : ℕ). first + place (samePoint c) (layerVertices g b y)) e
       ∙ ap (λ (l : List GridPoint). first + place (samePoint c) l) layer-alike
       ∙ ap (λ (y : ℕ). first + place (samePoint c) (layerVertices g' b y)) (sym e)
+
+  -- ---- edges
+
+  module _ (m : Flags) where
+    changes-alike : (a : Axis) (c : GridPoint) → T (isCell (slab b z) c) → changes (grid d f) (edge a c) ≡ changes (grid d f') (edge a c)
+    unfolding changes
+    changes-alike a c t = ap₂ (λ (x y : Float). unlike (negative x) (negative y)) (agree c (cell-in-box (slab b z) c t)) (agree (stepUp a c) (up-in-box (slab b z) a c t))
+
+    gives-alike : (a : Axis) (c : GridPoint) → T (isCell (slab b z) c) → gives (grid d f) b m (edge a c) ≡ gives (grid d f') b m (edge a c)
+    gives-alike a c t = ap (λ (s : Bool). owned b m (edge a c) && s) (changes-alike a c t)
+
+    cell-edges-alike : (c : GridPoint) → T (isCell (slab b z) c) → cellEdges (grid d f) b m c ≡ cellEdges (grid d f') b m c
+    unfolding cellEdges
+    cell-edges-alike c t = keep-same (more (gives-alike axisX c t) (more (gives-alike axisY c t) (more (gives-alike axisZ c t) none)))
+
+    pub edges-alike : layerEdges (grid d f) b m z ≡ layerEdges (grid d f') b m z
+    unfolding layerEdges
+    edges-alike = joined-same (all-then cell-edges-alike vertices-in) ∙ ap (joined (cellEdges g' b m)) layer-alike

@@ -1,28 +1,25 @@
--- What holds in a turn of a loop over a box that lies in the grid: of the counter on any axis, at a cell of a row, at a row of a layer and at a layer
+-- What holds in a turn of a loop over a box that lies in the grid: of the counter on any axis, at a row of a layer and at a layer
 -- of the box. A loop's proof names these facts, and has no arithmetic of its own. Assumes nothing.
-use Prim.Native.Nat.{ℕ, _+_, _-_, _*_, _≤_, _<_}
-use native.Mathlib.Nat.{le-antisymm, le-of-lt}
+use Prim.Native.Nat.{ℕ, _+_, _-_, _≤_, _<_}
+use native.Mathlib.Nat.{le-antisymm}
 use native.Mathlib.Omega.{arith}
 use mathlib.Core.Bool.{Bool, false, _||_}
-use mathlib.Core.List.{List, [], _∷_, _++_}
+use mathlib.Core.List.{List, _++_}
 use mathlib.Core.Path.{_≡_, ap, _∙_}
 use mir.Syntax.{w32, w64}
 use mir.Val.{Fits}
-use lib.Dec.{T}
 use lib.ListN.{length}
 use lib.Ieee.{Float}
-use Rattle.rules.specs.Lists.{some, upTo}
-use Rattle.rules.specs.Grid.{GridPoint, index, isCell}
+use Rattle.lists.specs.Lists.{some, upTo}
 use Rattle.rules.specs.Vertices.{rowCells, layerCells, cells}
-use Rattle.rules.proofs.Indexes.{is-cell, cell-in-box}
 use Rattle.grid.specs.declared.Block.{Block}
 use Rattle.grid.specs.Block.{point, boxOf}
-use Rattle.grid.specs.Inside.{PointInside, Inside}
-use Rattle.grid.specs.Order.{rowTo, layerTo, boxTo}
-use Rattle.grid.proofs.Bounds.{fits, small, plane-few, index-few, point-inside}
+use Rattle.grid.specs.Inside.{Inside}
+use Rattle.grid.specs.Order.{layerTo, boxTo}
+use Rattle.grid.proofs.Bounds.{fits, small}
 use Rattle.grid.proofs.Runs.{none-yet, one-more}
-use Rattle.grid.proofs.Order.{row-grows, row-ends, layer-grows, layer-ends, box-grows, box-ends}
-use Rattle.grid.proofs.Rows.{row-start, side-start, high-side, row-short, layer-short, box-short}
+use Rattle.grid.proofs.Order.{layer-grows, layer-ends, box-grows, box-ends}
+use Rattle.grid.proofs.Rows.{layer-short, box-short}
 
 -- ---- a counter n that goes from `from` up to `end`
 
@@ -88,7 +85,8 @@ pub record Scanned (f : ℕ → Bool) (from end n : ℕ) (found : Bool) : Type 0
 pub scan-begun : {f : ℕ → Bool} {from end : ℕ} → Span from end → Scanned f from end from false
 scan-begun {f} {from} s = record { count = begun s; same = none-yet f from }
 
-pub scan-more : {f : ℕ → Bool} {from end n : ℕ} {found more now' : Bool} → Scanned f from end n found → Turn from end n → more ≡ f n → now' ≡ (found || more) → Scanned f from end (n + 1) now'
+pub scan-more : {f : ℕ → Bool} {from end n : ℕ} {found more now' : Bool} → Scanned f from end n found → Turn from end n → more ≡ f n → now' ≡ (found || more) → Scanned f from end
+    (n + 1) now'
 scan-more {f} s t e d = record { count = t .next; same = one-more f (t .here .0) (s .same) e d }
 
 pub scan-ended : {f : ℕ → Bool} {from end n : ℕ} {found : Bool} → Scanned f from end n found → end ≤ n → found ≡ some f (upTo from end)
@@ -123,62 +121,3 @@ at-row {grid} {k} {z} {y} i c h =
 
 pub layer-done : (k : Block) (z : ℕ) {y : ℕ} → Counting (k .low .y) (k .high .y) y → k .high .y ≤ y → layerTo (boxOf k) z y ≡ layerCells (boxOf k) z
 layer-done k z c h = ap (layerTo (boxOf k) z) (ended c h) ∙ layer-ends (boxOf k) z
-
--- ---- a row (y, z), cell by cell
-
-pub record Row (grid : List Float) (k : Block) (y z : ℕ) : Type 0 where
-  pub inside : Inside grid k
-  pub along-y : (k .low .y ≤ y) × (y < k .high .y)
-  pub along-z : (k .low .z ≤ z) × (z < k .high .z)
-
--- before each turn, and after the last: `at` is the place of x in the list of distances
-pub record OnRow (k : Block) (y z at x : ℕ) : Type 0 where
-  pub count : Counting (k .low .x) (k .high .x) x
-  pub place : at ≡ index (point (k .dims)) (record { x = x; y = y; z = z })
-
--- in a turn
-pub record AtCell (grid : List Float) (k : Block) (y z at x : ℕ) : Type 0 where
-  pub turn : Turn (k .low .x) (k .high .x) x
-  pub next : OnRow k y z (at + 1) (x + 1)
-  pub grows : rowTo (boxOf k) z y (x + 1) ≡ rowTo (boxOf k) z y x ++ (record { x = x; y = y; z = z } ∷ [])
-  pub short : length (rowTo (boxOf k) z y (x + 1)) ≤ 1073741824
-  pub cell : T (isCell (boxOf k) (record { x = x; y = y; z = z }))
-  pub place : at ≡ index (point (k .dims)) (record { x = x; y = y; z = z })
-  pub at-fits : Fits w64 (at + 1)
-  pub high-side : at + 1 + k .dims .x + k .dims .x * k .dims .y < length grid
-
-module _ {grid : List Float} {k : Block} {y z : ℕ} (r : Row grid k y z) where
-  pub row-first : PointInside (point (k .dims)) (record { x = k .low .x; y = y; z = z })
-  row-first = row-start (r .inside) (r .along-y .0, le-of-lt (r .along-y .1)) (r .along-z .0, le-of-lt (r .along-z .1))
-
-  pub layer-fits : Fits w64 (k .dims .x * k .dims .y)
-  layer-fits = let few = plane-few (point (k .dims)) (record { x = k .low .x; y = y; z = z }) row-first in omega arith
-
-  -- the side with which a row begins lies in the grid, also where the row has no cell
-  pub first-side : {at : ℕ} → at ≡ index (point (k .dims)) (record { x = k .low .x; y = y; z = z }) → at + k .dims .x + k .dims .x * k .dims .y < length grid
-  first-side e = let s = side-start (r .inside) (r .along-y) (r .along-z) in omega arith
-
-  pub row-begun : {at : ℕ} → at ≡ index (point (k .dims)) (record { x = k .low .x; y = y; z = z }) → OnRow k y z at (k .low .x)
-  row-begun e = record { count = begun (cell-spans (r .inside) .x); place = e }
-
-  pub at-cell : {at x : ℕ} → OnRow k y z at x → x < k .high .x → AtCell grid k y z at x
-  at-cell {at} {x} o h =
-      let p : GridPoint = record { x = x; y = y; z = z } in
-      let c : T (isCell (boxOf k) p) = is-cell (boxOf k) p (record { x = (o .count .low, h); y = r .along-y; z = r .along-z }) in
-      let far = high-side grid k (r .inside) p c in
-      let near = index-few (point (k .dims)) p (point-inside grid k (r .inside) p (cell-in-box (boxOf k) p c)) in
-      let place = o .place in
-      let t = turn (cell-spans (r .inside) .x) (o .count) h in
-      record {
-        turn = t;
-        next = record { count = t .next; place = omega arith };
-        grows = row-grows (boxOf k) z y x (o .count .low);
-        short = row-short grid k (r .inside) z y (x + 1) (t .next .high);
-        cell = c;
-        place = place;
-        at-fits = omega arith;
-        high-side = omega arith;
-      }
-
-pub row-done : {k : Block} {y z at x : ℕ} → OnRow k y z at x → k .high .x ≤ x → rowTo (boxOf k) z y x ≡ rowCells (boxOf k) z y
-row-done {k} {y} {z} o h = ap (rowTo (boxOf k) z y) (ended (o .count) h) ∙ row-ends (boxOf k) z y

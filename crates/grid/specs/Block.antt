@@ -7,7 +7,7 @@ use Rattle.rules.specs.Grid.{GridPoint, Box, Field}
 use Rattle.rules.specs.Faces.{Flags}
 use Rattle.rules.specs.Call.{Call}
 use Rattle.grid.specs.declared.Extent.{Extent}
-use Rattle.grid.specs.declared.MaxPlane.{MaxPlane}
+use Rattle.grid.specs.declared.EachAxis.{EachAxis}
 use Rattle.grid.specs.declared.Block.{Block}
 
 abbrev pub point : Extent → GridPoint
@@ -16,7 +16,7 @@ point e = record { x = e .x; y = e .y; z = e .z }
 abbrev pub boxOf : Block → Box
 boxOf k = record { low = point (k .low); high = point (k .high) }
 
-abbrev pub flags : MaxPlane → Flags
+abbrev pub flags : EachAxis → Flags
 flags m = record { x = m .x; y = m .y; z = m .z }
 
 abbrev pub flagsOf : Block → Flags

@@ -5,11 +5,7 @@ use lib.ListN.{getD}
 use lib.Ieee.{Float, nan}
 use Rattle.grid.specs.declared.corners.Side.{Side}
 
-abbrev pub sideAt : List Float → ℕ → ℕ → ℕ → Side
-sideAt l at row layer =
-    record { a = getD l at nan; b = getD l (at + row) nan; c = getD l (at + layer) nan; d = getD l (at + row + layer) nan }
-
--- of two layers that are lent apart
+-- a side between two layers that are lent apart
 abbrev pub sideBetween : List Float → List Float → ℕ → ℕ → Side
 sideBetween lower upper at row =
     record { a = getD lower at nan; b = getD lower (at + row) nan; c = getD upper at nan; d = getD upper (at + row) nan }

@@ -6,7 +6,7 @@ use mathlib.Core.List.{List}
 use lib.Dec.{T}
 use lib.ListN.{length, getD}
 use lib.Ieee.{Float, nan}
-use Rattle.rules.specs.Lists.{some, run}
+use Rattle.lists.specs.Lists.{some, run}
 use Rattle.rules.specs.Grid.{GridPoint}
 use Rattle.rules.specs.Call.{badDimensions, badBox, badLength, beyond}
 use Rattle.grid.specs.declared.Block.{Block}

@@ -2,7 +2,7 @@
 -- Definitions only. Assumes nothing.
 use Prim.Native.Nat.{ℕ}
 use mathlib.Core.List.{List, map}
-use Rattle.rules.specs.Lists.{upTo, joined}
+use Rattle.lists.specs.Lists.{upTo, joined}
 use Rattle.rules.specs.Grid.{GridPoint, Box}
 use Rattle.rules.specs.Vertices.{rowCells, layerCells}
 

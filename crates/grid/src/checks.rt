@@ -2,6 +2,7 @@
 ghost use mathlib.Core.Path.{_≡_};
 ghost use Rattle.rules.specs.Call.{badDimension, badDimensions, badSide, badBox, badLength};
 ghost use Rattle.grid.specs.Block.{point, boxOf};
+ghost use Rattle.grid.specs.Faults.{firstFault};
 use crate::Block;
 use crate::Extent;
 
@@ -71,4 +72,20 @@ pub fn bad_length(d: Extent, length: usize) -> bool
         return true;
     }
     length / plane != d.z as usize
+}
+
+// Conditions 1 to 3 in their order: the number of the first that holds, or 0. Every call that reads a grid begins here.
+pub fn first_fault(k: Block, length: usize) -> u32
+    ensures { λ r. ⌜ r ≡ firstFault (point (k .dims)) (boxOf k) length ⌝ }
+{
+    if bad_dimensions(k.dims) {
+        return 1;
+    }
+    if bad_box(k) {
+        return 2;
+    }
+    if bad_length(k.dims, length) {
+        return 3;
+    }
+    0
 }

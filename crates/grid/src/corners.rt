@@ -2,7 +2,7 @@
 ghost use mathlib.Core.Path.{_≡_};
 ghost use Prim.Native.Nat.{_+_, _<_};
 ghost use lib.ListN.{length};
-ghost use Rattle.grid.specs.Corners.{sideAt, sideBetween, eightOf};
+ghost use Rattle.grid.specs.Corners.{sideBetween, eightOf};
 
 // The values at the corners of a cell's side, those with one x: at (y, z) = (0, 0), (1, 0), (0, 1), (1, 1).
 pub struct Side {
@@ -12,27 +12,7 @@ pub struct Side {
     pub d: f32,
 }
 
-// The side whose lowest corner stands at `at`; `row` and `layer` are the steps to the next row and the next layer.
-pub fn side_at(sdf: &[f32], at: usize, row: usize, layer: usize) -> Side
-    requires { ⌜ at + row + layer < length (now sdf) ⌝ }
-    ensures { λ r. ⌜ r ≡ sideAt (now (sdf .entry)) at row layer ⌝ }
-{
-    Side {
-        a: sdf[at],
-        b: sdf[at + row],
-        c: sdf[at + layer],
-        d: sdf[at + row + layer],
-    }
-}
-
-// The eight values, corner 0 first, from a cell's lower and upper side in x.
-pub fn corners(low: Side, high: Side) -> [f32; 8]
-    ensures { λ r. ⌜ r ≡ eightOf low high ⌝ }
-{
-    [low.a, high.a, low.b, high.b, low.c, high.c, low.d, high.d]
-}
-
-// The same of two layers of distances that are lent apart, `at` being the place in each.
+// The side whose lowest corner stands at `at`, of two layers of distances that are lent apart; `row` is the step to the next row.
 pub fn side_between(lower: &[f32], upper: &[f32], at: usize, row: usize) -> Side
     requires { ⌜ (at + row < length (now lower)) × (at + row < length (now upper)) ⌝ }
     ensures { λ r. ⌜ r ≡ sideBetween (now (lower .entry)) (now (upper .entry)) at row ⌝ }
@@ -43,4 +23,11 @@ pub fn side_between(lower: &[f32], upper: &[f32], at: usize, row: usize) -> Side
         c: upper[at],
         d: upper[at + row],
     }
+}
+
+// The eight values, corner 0 first, from a cell's lower and upper side in x.
+pub fn corners(low: Side, high: Side) -> [f32; 8]
+    ensures { λ r. ⌜ r ≡ eightOf low high ⌝ }
+{
+    [low.a, high.a, low.b, high.b, low.c, high.c, low.d, high.d]
 }

@@ -6,14 +6,8 @@ ghost use Rattle.rules.specs.Grid.{isCell, axisX, axisY, axisZ};
 ghost use Rattle.rules.specs.Faces.{owned, edge};
 ghost use Rattle.grid.specs.Block.{point, boxOf, flagsOf};
 use crate::Block;
+use crate::EachAxis;
 use crate::Extent;
-
-// The x, y and z edge from a cell's lowest corner: owned or not.
-pub struct Own {
-    pub x: bool,
-    pub y: bool,
-    pub z: bool,
-}
 
 // Above min on the two other axes and, unless max plane, not at max - 1 along the edge.
 pub fn owns(above_b: bool, above_c: bool, plane: bool, inner: bool) -> bool
@@ -31,7 +25,7 @@ pub fn owns(above_b: bool, above_c: bool, plane: bool, inner: bool) -> bool
     inner
 }
 
-pub fn owned_at(k: Block, p: Extent) -> Own
+pub fn owned_at(k: Block, p: Extent) -> EachAxis
     requires { ⌜ T (isCell (boxOf k) (point p)) ⌝ }
     ensures { λ r. ⌜ r .x ≡ owned (boxOf k) (flagsOf k) (edge axisX (point p)) ⌝ }
     ensures { λ r. ⌜ r .y ≡ owned (boxOf k) (flagsOf k) (edge axisY (point p)) ⌝ }
@@ -43,7 +37,7 @@ pub fn owned_at(k: Block, p: Extent) -> Own
     let inner_x = p.x != k.high.x - 1;
     let inner_y = p.y != k.high.y - 1;
     let inner_z = p.z != k.high.z - 1;
-    Own {
+    EachAxis {
         x: owns(above_y, above_z, k.max_plane.x, inner_x),
         y: owns(above_z, above_x, k.max_plane.y, inner_y),
         z: owns(above_x, above_y, k.max_plane.z, inner_z),

@@ -8,12 +8,12 @@ use borrow.Author.Tests.{lt-ltb, le-ltb}
 use lib.Dec.{T, ltb, nltb→le}
 use lib.ListN.{length}
 use lib.Ieee.{Float}
-use Rattle.rules.specs.Lists.{keep, joined}
+use Rattle.lists.specs.Lists.{keep, joined}
 use Rattle.rules.specs.Grid.{GridPoint, Box, Field}
 use Rattle.rules.specs.Vertices.{surfaceCell, vertices, cells}
 use Rattle.rules.specs.Faces.{Edge, Flags, cellEdges, edges, indices}
-use Rattle.rules.specs.Call.{Call, Buffers, Room, room, Answer, answers, answer, roomAnswer, badDimensions, badBox, badLength, badMap, badDistance, badVertexRoom, badIndexRoom, vertexCount, indexCount}
-use Rattle.rules.proofs.Tests.{failed, nor-left, nor-right}
+use Rattle.rules.specs.Call.{Call, Buffers, Room, room, Answer, answers, answer, roomAnswer, badMap, badDistance, badVertexRoom, badIndexRoom, vertexCount, indexCount}
+use Rattle.lists.proofs.Tests.{nor-left, nor-right}
 use Rattle.rules.proofs.Accepted.{accepted-answer, done-accepted}
 use Rattle.rules.proofs.Counting.{vertices-are}
 use Rattle.rules.proofs.Edges.{edges-are, edge-count, index-count}
@@ -21,7 +21,9 @@ use Rattle.grid.specs.declared.Block.{Block}
 use Rattle.count.specs.declared.Tally.{Tally}
 use Rattle.grid.specs.Block.{point, boxOf, flagsOf, fieldOf, callOf}
 use Rattle.grid.specs.Inside.{Inside}
+use Rattle.grid.specs.Faults.{firstFault}
 use Rattle.count.specs.Tally.{tallyOf}
+use Rattle.grid.proofs.Faults.{Faultless, first-answers}
 use Rattle.grid.proofs.Order.{box-ends}
 use Rattle.grid.proofs.Rows.{box-short}
 use Rattle.count.proofs.Tallies.{vertices-few}
@@ -29,29 +31,23 @@ use Rattle.count.proofs.Tallies.{vertices-few}
 -- ---- conditions 1 to 5
 
 module _ (c : Call) (r : Room) where
-  pub says-1 : badDimensions (c .grid .dims) ≡ true → answers 1 0 0 ≡ answer c r
+  -- 1, 2 or 3
+  pub says-fault : (firstFault (c .grid .dims) (c .box) (c .size) ≡ 0 → ⊥) → answers (firstFault (c .grid .dims) (c .box) (c .size)) 0 0 ≡ answer c r
   unfolding answer
-  says-1 a = rw a
+  says-fault n = first-answers (c .grid .dims) (c .box) (c .size) (λ (m : ℕ). answers m 0 0) _ n
 
-  pub says-2 : badDimensions (c .grid .dims) ≡ false → badBox (c .grid .dims) (c .box) ≡ true → answers 2 0 0 ≡ answer c r
-  unfolding answer
-  says-2 a b = rw (a, b)
+  module _ (f : Faultless (c .grid .dims) (c .box) (c .size)) where
+    pub says-4 : ltb (r .map) (c .size) ≡ true → answers 4 0 0 ≡ answer c r
+    unfolding answer
+    says-4 e = rw (f .dims, f .box, f .size, e)
 
-  pub says-3 : badDimensions (c .grid .dims) ≡ false → badBox (c .grid .dims) (c .box) ≡ false → badLength (c .grid .dims) (c .size) ≡ true → answers 3 0 0 ≡ answer c r
-  unfolding answer
-  says-3 a b d = rw (a, b, d)
+    pub says-5 : ltb (r .map) (c .size) ≡ false → badDistance (c .grid) (c .box) ≡ true → answers 5 0 0 ≡ answer c r
+    unfolding answer
+    says-5 e h = rw (f .dims, f .box, f .size, e, h)
 
-  pub says-4 : badDimensions (c .grid .dims) ≡ false → badBox (c .grid .dims) (c .box) ≡ false → badLength (c .grid .dims) (c .size) ≡ false → ltb (r .map) (c .size) ≡ true → answers 4 0 0 ≡ answer c r
-  unfolding answer
-  says-4 a b d e = rw (a, b, d, e)
-
-  pub says-5 : badDimensions (c .grid .dims) ≡ false → badBox (c .grid .dims) (c .box) ≡ false → badLength (c .grid .dims) (c .size) ≡ false → ltb (r .map) (c .size) ≡ false → badDistance (c .grid) (c .box) ≡ true → answers 5 0 0 ≡ answer c r
-  unfolding answer
-  says-5 a b d e f = rw (a, b, d, e, f)
-
-  pub says-room : badDimensions (c .grid .dims) ≡ false → badBox (c .grid .dims) (c .box) ≡ false → badLength (c .grid .dims) (c .size) ≡ false → ltb (r .map) (c .size) ≡ false → badDistance (c .grid) (c .box) ≡ false → roomAnswer r (vertexCount c) (indexCount c) ≡ answer c r
-  unfolding answer
-  says-room a b d e f = rw (a, b, d, e, f)
+    pub says-room : ltb (r .map) (c .size) ≡ false → badDistance (c .grid) (c .box) ≡ false → roomAnswer r (vertexCount c) (indexCount c) ≡ answer c r
+    unfolding answer
+    says-room e h = rw (f .dims, f .box, f .size, e, h)
 
 -- ---- conditions 6 and 7
 
@@ -108,12 +104,6 @@ few-vertices grid k i t e =
     let few = vertices-few (fieldOf grid k) (boxOf k) (flagsOf k) (cells (boxOf k)) in
     let short : length (cells (boxOf k)) ≤ 1073741824 = rw (← box-ends (boxOf k)) (box-short grid k i (k .high .z) (omega arith)) in
     omega arith
-
--- ---- what failed tests say
-
--- what passed the first three tests
-pub passed : (grid : List Float) (k : Block) → badDimensions (point (k .dims)) ≡ false → badBox (point (k .dims)) (boxOf k) ≡ false → badLength (point (k .dims)) (length grid) ≡ false → Inside grid k
-passed grid k a b c = record { dims = failed refl a; box = failed refl b; size = failed refl c }
 
 -- ---- what an answer of 0 says
 

@@ -1,2 +1,2 @@
 -- How the answer's structs render document 01's.
-pub mod Reading
+pub mod AsRules

@@ -3,7 +3,7 @@ ghost use mathlib.Core.Path.{_≡_};
 ghost use Prim.Native.Nat.{_^_, _<_};
 ghost use Rattle.rules.specs.Call.{answer, roomAnswer};
 ghost use Rattle.grid.specs.Block.{callOf};
-ghost use Rattle.judge.specs.Reading.{answerOf, roomOf};
+ghost use Rattle.judge.specs.AsRules.{answerOf, roomOf};
 use grid::Block;
 
 // Document 01's answer number with V and I.
@@ -76,14 +76,9 @@ fn counted(number: u32, vertices: usize, indices: usize) -> Answer
 pub fn answer_for(sdf: &[f32], k: Block, room: Lengths) -> Answer
     ensures { λ r. ⌜ answerOf r ≡ answer (callOf (now (sdf .entry)) k) (roomOf room) ⌝ }
 {
-    if grid::checks::bad_dimensions(k.dims) {
-        return refused(1);
-    }
-    if grid::checks::bad_box(k) {
-        return refused(2);
-    }
-    if grid::checks::bad_length(k.dims, sdf.len()) {
-        return refused(3);
+    let fault = grid::checks::first_fault(k, sdf.len());
+    if fault != 0 {
+        return refused(fault);
     }
     if room.map < sdf.len() {
         return refused(4);

@@ -8,7 +8,7 @@ use mathlib.Core.List.{List}
 use lib.ListN.{length, take, drop}
 use lib.Ieee.{Float}
 use lib.Seq.{take-at, take-take}
-use Rattle.rules.specs.Lists.{over}
+use Rattle.lists.specs.Lists.{over}
 use Rattle.mesh_file.specs.Record.{each}
 use Rattle.mesh_file.specs.Mesh.{Mesh, mesh, vertexCount, triangleCount, fileOf, fileLength}
 use Rattle.mesh_file.specs.Reading.{Progress, reading, whole, refused, readOf, readAnswer, checked, shortRoom, readingIn}
@@ -21,7 +21,8 @@ use Rattle.mesh_file.proofs.RoundTrip.{Writable, file-length, written-reads, wr
 use Rattle.mesh_file.proofs.Prefixes.{shorter-refused}
 use Rattle.mesh_file.proofs.OneFile.{accepted-is-written}
 use Rattle.mesh_file.proofs.Rewritten.{accepted-writable}
-use Rattle.mesh_file.proofs.Settled.{answered-zero, zero-writable, bytes-written, bytes-counted, room-writes, room-reads, room-fills, room-enough, read-done}
+use Rattle.mesh_file.proofs.Answering.{answered-zero}
+use Rattle.mesh_file.proofs.Settled.{zero-writable, bytes-written, bytes-counted, room-writes, room-reads, room-fills, room-enough, read-done}
 use Rattle.kept_mesh.specs.Filed.{Writes, Reads, Checks, meshRead, Room, ReadBack, RefusedCut}
 
 -- ---- what a write that answers 0 leaves

@@ -13,13 +13,13 @@ use lib.Ieee.Fits.{add-fits}
 use lib.Ieee.Scale.{finite}
 use lib.ListN.{length, getD, take}
 use lib.Seq.{getD-take}
-use Rattle.rules.specs.Lists.{some}
+use Rattle.lists.specs.Lists.{some}
 use Rattle.rules.specs.Grid.{GridPoint}
 use Rattle.rules.specs.Cell.{Vector, position, normal}
 use Rattle.rules.specs.Vertices.{vertices, vertexPosition, vertexNormal}
 use Rattle.rules.specs.Faces.{indices}
 use Rattle.rules.specs.Call.{flatVectors}
-use Rattle.rules.proofs.Lists.{none, more, all-at, all-each, all-map, all-joined}
+use Rattle.lists.proofs.Lists.{none, more, all-at, all-each, all-map, all-joined}
 use Rattle.rules.proofs.Edges.{index-count}
 use Rattle.rules.proofs.Numbers.{index-below}
 use Rattle.rules.proofs.Seen.{length-vectors}
@@ -27,10 +27,11 @@ use Rattle.mesh_file.specs.Mesh as file
 use Rattle.mesh_file.specs.Reading.{whole, readOf, meshIn}
 use Rattle.mesh_file.specs.Writing.{noVertex, notFinite, writeAnswer}
 use Rattle.mesh_file.specs.Writing as writer
-use Rattle.mesh_record.proofs.Either.{or-none}
+use Rattle.lists.proofs.Either.{or-none}
 use Rattle.mesh_file.proofs.Answering.{lengths-good}
-use Rattle.mesh_file.proofs.Searching.{none-some}
-use Rattle.mesh_file.proofs.RoundTrip.{AllFit, Writable}
+use Rattle.lists.proofs.Searching.{none-some}
+use Rattle.lists.specs.Floats.{Binary32}
+use Rattle.mesh_file.proofs.RoundTrip.{Writable}
 use Rattle.mesh_file.proofs.Settled.{room-writes, bytes-counted, read-after-write, same-after-write}
 use Rattle.promises.specs.Served.{Served, Done}
 use Rattle.promises.proofs.Done.{done-counts, done-few}
@@ -43,7 +44,7 @@ use Rattle.kept_mesh.specs.Parts.{meshOf}
 
 -- a sum is a value of binary32
 vectors-fit : (f : GridPoint → Vector) (vs : List GridPoint) → ((c : GridPoint) → T (fits binary32 (f c .x)) × T (fits binary32 (f c .y)) × T (fits binary32 (f c .z)))
-    → AllFit (flatVectors (map f vs))
+    → Binary32 (flatVectors (map f vs))
 vectors-fit f vs h i l =
     all-at (all-joined {P = λ (x : Float). T (fits binary32 x)} (all-map f (all-each (λ c. more (h c .0) (more (h c .1) (more (h c .2) none))) vs))) i l nan
 
@@ -91,13 +92,15 @@ module _ (u : Served) (done : Done u) where
       (subst (λ (l : List ℕ). getD l i 0 < length vs) (sym (indices-back u done))
       (index-below (u .call .grid) (u .call .box) (u .call .flags) i (omega (arith, ap length (indices-back u done)))))
 
-  positions-fit : AllFit (meshOf u .positions)
+  positions-fit : Binary32 (meshOf u .positions)
   unfolding position
-  positions-fit = subst AllFit (sym (positions-back u done)) (vectors-fit (vertexPosition (u .call .grid)) vs (λ c. (add-fits binary32 _ _, add-fits binary32 _ _, add-fits binary32 _ _)))
+  positions-fit = subst Binary32 (sym (positions-back u done))
+      (vectors-fit (vertexPosition (u .call .grid)) vs (λ c. (add-fits binary32 _ _, add-fits binary32 _ _, add-fits binary32 _ _)))
 
-  normals-fit : AllFit (meshOf u .normals)
+  normals-fit : Binary32 (meshOf u .normals)
   unfolding normal
-  normals-fit = subst AllFit (sym (normals-back u done)) (vectors-fit (vertexNormal (u .call .grid)) vs (λ c. (add-fits binary32 _ _, add-fits binary32 _ _, add-fits binary32 _ _)))
+  normals-fit = subst Binary32 (sym (normals-back u done))
+      (vectors-fit (vertexNormal (u .call .grid)) vs (λ c. (add-fits binary32 _ _, add-fits binary32 _ _, add-fits binary32 _ _)))
 
 -- ---- the law
 
@@ -126,7 +129,8 @@ module _ (u : Served) (done : Done u) (fewer : u .says .indices / 3 < 2 ^ 32) wh
         lists =
             lengths-good (length (meshOf u .positions)) (length (meshOf u .normals)) (length (meshOf u .indices))
             (omega (arith, positions-length u done, normals-length u done, in-threes u done, triangles-kept u done, done-few u done));
-        indices = none-some (noVertex (file.vertexCount (meshOf u))) 0 (meshOf u .indices) (λ i l. lt-leb (file.vertexCount (meshOf u)) (getD (meshOf u .indices) i 0) (index-kept u done i l));
+        indices = none-some (noVertex (file.vertexCount (meshOf u))) 0 (meshOf u .indices)
+            (λ i l. lt-leb (file.vertexCount (meshOf u)) (getD (meshOf u .indices) i 0) (index-kept u done i l));
         floats = or-none (some notFinite (meshOf u .positions)) (some notFinite (meshOf u .normals)) (finite-kept .0) (finite-kept .1);
         positions-fit = positions-fit u done;
         normals-fit = normals-fit u done;

@@ -52,16 +52,20 @@ Checked d r = r ≡ checked (readOf (drop (d .at) (now (d .src))))
 
 -- they do say so: each is the function's own generated clause
 module _ {M : Type 1} (𝓤 : URA M) (H : Heap 𝓤) (A : Atoms 𝓤) (mem : Memory → SProp 𝓤) (run : Routine → Fun 𝓤) where
-  pub new-says : (κs : Lfts 1) (a : Args new.signature κs) (o : Outcome new.ended κs a) → ent 𝓤 (Ensured 𝓤 new.ended (new.clauses 𝓤 H A mem run) κs a tt o) (fact 𝓤 (Began (a .0) (o .result)))
+  pub new-says : (κs : Lfts 1) (a : Args new.signature κs) (o : Outcome new.ended κs a) → ent 𝓤 (Ensured 𝓤 new.ended (new.clauses 𝓤 H A mem run) κs a tt o)
+      (fact 𝓤 (Began (a .0) (o .result)))
   new-says κs a o = id⊢ 𝓤 _
 
-  pub moved-says : (κs : Lfts 1) (a : Args moved.signature κs) (o : Outcome moved.ended κs a) → ent 𝓤 (Ensured 𝓤 moved.ended (moved.clauses 𝓤 H A mem run) κs a tt o) (fact 𝓤 (Moved (a .0) (a .1 .0) (o .result)))
+  pub moved-says : (κs : Lfts 1) (a : Args moved.signature κs) (o : Outcome moved.ended κs a) → ent 𝓤 (Ensured 𝓤 moved.ended (moved.clauses 𝓤 H A mem run) κs a tt o)
+      (fact 𝓤 (Moved (a .0) (a .1 .0) (o .result)))
   moved-says κs a o = id⊢ 𝓤 _
 
-  pub next-says : (κs : Lfts 1) (a : Args next.signature κs) (o : Outcome next.ended κs a) → ent 𝓤 (Ensured 𝓤 next.ended (next.clauses 𝓤 H A mem run) κs a tt o) (fact 𝓤 (Stepped (a .0) (a .1 .0) (o .result)))
+  pub next-says : (κs : Lfts 1) (a : Args next.signature κs) (o : Outcome next.ended κs a) → ent 𝓤 (Ensured 𝓤 next.ended (next.clauses 𝓤 H A mem run) κs a tt o)
+      (fact 𝓤 (Stepped (a .0) (a .1 .0) (o .result)))
   next-says κs a o = id⊢ 𝓤 _
 
-  pub check-says : (κs : Lfts 1) (a : Args check.signature κs) (o : Outcome check.ended κs a) → ent 𝓤 (Ensured 𝓤 check.ended (check.clauses 𝓤 H A mem run) κs a tt o) (fact 𝓤 (Checked (a .0) (o .result)))
+  pub check-says : (κs : Lfts 1) (a : Args check.signature κs) (o : Outcome check.ended κs a) → ent 𝓤 (Ensured 𝓤 check.ended (check.clauses 𝓤 H A mem run) κs a tt o)
+      (fact 𝓤 (Checked (a .0) (o .result)))
   check-says κs a o = id⊢ 𝓤 _
 
 -- ---- a run of steps

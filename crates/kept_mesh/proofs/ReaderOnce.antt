@@ -29,7 +29,8 @@ module _ {M : Type 1} (𝓤 : URA M) (T : Ended) (clauses : Clauses 𝓤 T) wher
 
   -- from those of two outcomes follows that the outcomes are equal
   abbrev pub OneOutcome : Type 1
-  OneOutcome = (κs : Lfts (T .signature .lifetimes)) (a : Args (T .signature) κs) (g : clauses κs a .ghost) (o o' : Outcome T κs a) → ent 𝓤 (sep 𝓤 (Ensured κs a g o) (Ensured κs a g o')) (fact 𝓤 (o ≡ o'))
+  OneOutcome = (κs : Lfts (T .signature .lifetimes)) (a : Args (T .signature) κs) (g : clauses κs a .ghost) (o o' : Outcome T κs a) → ent 𝓤
+      (sep 𝓤 (Ensured κs a g o) (Ensured κs a g o')) (fact 𝓤 (o ≡ o'))
 
 -- two facts, and what follows from them
 pub both : {M : Type 1} (𝓤 : URA M) (φ ψ χ : Type 0) → (φ → ψ → χ) → ent 𝓤 (sep 𝓤 (fact 𝓤 φ) (fact 𝓤 ψ)) (fact 𝓤 χ)
@@ -41,7 +42,8 @@ module _ {M : Type 1} (𝓤 : URA M) (H : Heap 𝓤) (A : Atoms 𝓤) (mem : Mem
   new-once κs a g o o' = both 𝓤 _ _ _ (λ l l'. let s = l .0 ∙ sym (l' .0) in let p = l .1 ∙ sym (l' .1) in λ i. record { result = record { src = s i; at = p i }; last = o .last })
 
   pub moved-once : OneOutcome 𝓤 moved.ended (moved.clauses 𝓤 H A mem run)
-  moved-once κs a g o o' = both 𝓤 _ _ _ (λ l l'. let s = l .0 ∙ sym (l' .0) in let p = l .1 ∙ sym (l' .1) in λ i. record { result = record { src = s i; at = p i }; last = o .last })
+  moved-once κs a g o o' = both 𝓤 _ _ _ (λ l l'. let s = l .0 ∙ sym (l' .0) in let p = l .1 ∙ sym (l' .1) in λ i. record
+      { result = record { src = s i; at = p i }; last = o .last })
 
   -- the step of the record at the place
   pub next-once : OneOutcome 𝓤 next.ended (next.clauses 𝓤 H A mem run)

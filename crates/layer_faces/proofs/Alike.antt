@@ -1,29 +1,27 @@
 -- The indices of a layer are the rules' own, where what was kept of the layer below is what the rules say of it; of the layer itself they depend on
 -- the two layers of distances alone. Assumes nothing.
-use Prim.Native.Nat.{ℕ, suc, _+_, _-_, _≤_}
+use Prim.Native.Nat.{ℕ, suc, _-_, _≤_}
 use native.Mathlib.Omega.{arith}
-use mathlib.Core.Bool.{Bool, true, false, _&&_, cond}
+use mathlib.Core.Bool.{Bool, false, cond}
 use mathlib.Core.List.{List, map}
 use mathlib.Core.Logic.{_⊎_, inl, inr}
-use mathlib.Core.Path.{_≡_, refl, sym, ap, ap₂, subst, _∙_}
+use mathlib.Core.Path.{_≡_, sym, ap, ap₂, subst, _∙_}
 use borrow.Author.Tests.{eq-eqb, ne-eqb}
 use lib.Dec.{T, eqb}
-use lib.Ieee.{Float, lt, unlike}
-use lib.ListN.{length, getD}
-use Rattle.rules.specs.Lists.{keep, joined}
-use Rattle.rules.specs.Grid.{GridPoint, Axis, axisX, axisY, axisZ, Box, Field, isCell, inBox, value, stepUp}
-use Rattle.rules.specs.Cell.{Vector, negative, squaredDistance}
+use lib.Ieee.{Float, lt}
+use lib.ListN.{length}
+use Rattle.lists.specs.Lists.{joined}
+use Rattle.rules.specs.Grid.{GridPoint, Box, Field, isCell, inBox, value}
+use Rattle.rules.specs.Cell.{negative, squaredDistance}
 use Rattle.rules.specs.Vertices.{surfaceCell, layerVertices, vertexNumber, numberIn, vertexPosition}
-use Rattle.rules.specs.Faces.{Flags, Edge, edge, owned, changes, gives, edgesAt, cellEdges, layerEdges, cell1, cell2, cell3, cell4, six, shorter, faceCells, layerIndices}
+use Rattle.rules.specs.Faces.{Flags, Edge, gives, cell1, cell2, cell3, cell4, six, shorter, faceCells, layerIndices}
 use Rattle.rules.specs.Call.{flatVectors}
-use Rattle.rules.proofs.Lists.{none, more, all-then, joined-same, keep-same}
+use Rattle.lists.proofs.Lists.{all-then, joined-same}
 use Rattle.rules.proofs.Edges.{layerEdges-all, map-six}
 use Rattle.rules.proofs.FourCells.{Four, gives-cell}
 use Rattle.rules.proofs.Numbers.{four-each}
 use Rattle.rules.proofs.Indexes.{cell-in-box, cell-within}
-use Rattle.rules.proofs.Inside.{up-in-box}
-use Rattle.grid.specs.Layers.{inLayer}
-use Rattle.grid.proofs.Slab.{slab, grid, layer-alike, vertices-in, position-alike, number-alike, in-slab}
+use Rattle.grid.proofs.Slab.{slab, grid, edges-alike, position-alike, number-alike, in-slab}
 use Rattle.layer_faces.specs.Below.{positionAt, Kept, keptNumber, numberOver, positionOver, shorterOver, faceOver, indicesOver}
 use Rattle.layer_faces.proofs.Lookups.{position-of}
 
@@ -39,23 +37,6 @@ module _ (d : GridPoint) (f f' : ℕ → Float) (b : Box) (m : Flags) (first z :
 
   abbrev g' : Field
   g' = grid d f'
-
-  -- ---- the edges
-
-  changes-alike : (a : Axis) (c : GridPoint) → T (isCell (slab b z) c) → changes (grid d f) (edge a c) ≡ changes (grid d f') (edge a c)
-  unfolding changes
-  changes-alike a c t = ap₂ (λ (x y : Float). unlike (negative x) (negative y)) (agree c (cell-in-box (slab b z) c t)) (agree (stepUp a c) (up-in-box (slab b z) a c t))
-
-  gives-alike : (a : Axis) (c : GridPoint) → T (isCell (slab b z) c) → gives (grid d f) b m (edge a c) ≡ gives (grid d f') b m (edge a c)
-  gives-alike a c t = ap (λ (s : Bool). owned b m (edge a c) && s) (changes-alike a c t)
-
-  cell-edges-alike : (c : GridPoint) → T (isCell (slab b z) c) → cellEdges (grid d f) b m c ≡ cellEdges (grid d f') b m c
-  unfolding cellEdges
-  cell-edges-alike c t = keep-same (more (gives-alike axisX c t) (more (gives-alike axisY c t) (more (gives-alike axisZ c t) none)))
-
-  pub edges-alike : layerEdges (grid d f) b m z ≡ layerEdges (grid d f') b m z
-  unfolding layerEdges
-  edges-alike = joined-same (all-then cell-edges-alike (vertices-in d f f' b z agree)) ∙ ap (joined (cellEdges g' b m)) (layer-alike d f f' b z agree)
 
   -- ---- the faces
 
@@ -108,4 +89,4 @@ module _ (d : GridPoint) (f f' : ℕ → Float) (b : Box) (m : Flags) (first z :
     -- the layer's indices, as document 01 has them
     pub indices-are : indicesOver (grid d f) b m first z below ≡ layerIndices (grid d f') b m first z
     unfolding indicesOver layerIndices
-    indices-are = ap (joined (faceOver g b first z below)) edges-alike ∙ joined-same (all-then face-is (layerEdges-all g' b m z))
+    indices-are = ap (joined (faceOver g b first z below)) (edges-alike d f f' b z agree m) ∙ joined-same (all-then face-is (layerEdges-all g' b m z))

@@ -8,7 +8,7 @@ use mathlib.Core.Path.{_≡_, refl, sym, ap, ap₂, _∙_}
 use lib.Dec.{T}
 use lib.Ieee.{Float, unlike}
 use lib.ListN.{length, getD}
-use Rattle.rules.specs.Lists.{one, keep, joined}
+use Rattle.lists.specs.Lists.{one, keep, joined}
 use Rattle.rules.specs.Grid.{GridPoint, Axis, axisX, axisY, axisZ, Box, Field, stepDown, isCell, value}
 use Rattle.rules.specs.Vertices.{surfaceCell}
 use Rattle.rules.specs.Faces.{Flags, Edge, edge, gives, cellEdges, cell1, cell2, cell3, cell4}
@@ -62,10 +62,12 @@ module _ (g : Field) (b : Box) (m : Flags) (z : ℕ) (first : Firsts) (cs mp : L
     s = four-on g b m (edge a c) t
 
   -- a cell of the layer, so many entries back, and one of the layer below
-  at-here : (q : GridPoint) → T (isCell b q) → T (surfaceCell g q) → q .z ≡ c .z → (back : ℕ) → inLayer (g .dims) c - back ≡ inLayer (g .dims) q → Names g b (first .here) z rest (here g c first mp ps under kept back) q
+  at-here : (q : GridPoint) → T (isCell b q) → T (surfaceCell g q) → q .z ≡ c .z → (back : ℕ) → inLayer (g .dims) c - back ≡ inLayer (g .dims) q → Names g b (first .here) z rest
+      (here g c first mp ps under kept back) q
   at-here q t on e back k = names-here g b (first .here) z rest cs mp ps h q t (e ∙ ez) on (inLayer (g .dims) c) (step back (first .here)) refl k
 
-  at-below : (q : GridPoint) → q .z < c .z → (back : ℕ) → inLayer (g .dims) c - back ≡ inLayer (g .dims) q → Names g b (first .here) z rest (below g c first mp ps under kept back) q
+  at-below : (q : GridPoint) → q .z < c .z → (back : ℕ) → inLayer (g .dims) c - back ≡ inLayer (g .dims) q → Names g b (first .here) z rest
+      (below g c first mp ps under kept back) q
   at-below q e back k = names-below g b (first .here) z rest q (λ (w : q .z ≡ z). omega arith) (inLayer (g .dims) c) (step back (first .below)) refl k
 
   faceX : T (gives g b m (edge axisX c)) → quadX g c first mp ps under kept ≡ faceOver g b (first .here) z rest (edge axisX c)

@@ -10,14 +10,14 @@ use lib.Dec.{T}
 use lib.Ieee.{Float, nan, lt}
 use lib.Ieee.Fits.{and-i}
 use lib.ListN.{length, getD, length-map, List·getD-map}
-use Rattle.rules.specs.Lists.{many, place}
+use Rattle.lists.specs.Lists.{many, place}
 use Rattle.rules.specs.Grid.{GridPoint, Box, Field, samePoint, isCell, value}
 use Rattle.rules.specs.Cell.{Vector, negative, squaredDistance}
 use Rattle.rules.specs.Vertices.{surfaceCell, layerVertices, vertexNumber, vertexPosition}
 use Rattle.rules.specs.Faces.{Edge, cell1, cell2, cell3, cell4, six}
 use Rattle.rules.specs.Call.{flatVectors}
-use Rattle.rules.proofs.Tests.{one-of}
-use Rattle.rules.proofs.Lists.{place-below, place-passes}
+use Rattle.lists.proofs.Tests.{one-of}
+use Rattle.lists.proofs.Lists.{place-below, place-passes}
 use Rattle.rules.proofs.Counting.{samePoint-sound, isLayerCell, cell-layer, layerVertices-once}
 use Rattle.rules.proofs.Seen.{ThreeAt, length-vectors, flatVectors-at}
 use Rattle.grid.specs.Layers.{inLayer}
@@ -69,7 +69,8 @@ position-of g b first c t s = position-in (flatVectors (map (vertexPosition g) v
     is = sym (samePoint-sound c (getD vs n c) (place-passes (samePoint c) vs c has))
 
     there : ThreeAt (λ (q : Vector). q .x) (λ (q : Vector). q .y) (λ (q : Vector). q .z) (flatVectors (map (vertexPosition g) vs)) n nan (vertexPosition g c)
-    there = flatVectors-at (map (vertexPosition g) vs) n (vertexPosition g c) (rw (length-map vs (vertexPosition g)) within) (List·getD-map (vertexPosition g) vs n c ∙ ap (vertexPosition g) is)
+    there = flatVectors-at (map (vertexPosition g) vs) n (vertexPosition g c) (rw (length-map vs (vertexPosition g)) within)
+        (List·getD-map (vertexPosition g) vs n c ∙ ap (vertexPosition g) is)
 
 -- ---- a looked-up vertex is that of a cell
 
@@ -78,7 +79,8 @@ pub record Names (g : Field) (b : Box) (first z : ℕ) (below : Kept) (v : Seen)
   pub position : v .position ≡ positionOver g z below c
 
 -- a cell of the layer
-pub names-here : (g : Field) (b : Box) (first z : ℕ) (below : Kept) (cs mp : List ℕ) (ps : List Float) → Standing g b first z cs mp ps → (c : GridPoint) → T (isCell b c) → c .z ≡ z → T (surfaceCell g c)
+pub names-here : (g : Field) (b : Box) (first z : ℕ) (below : Kept) (cs mp : List ℕ) (ps : List Float) → Standing g b first z cs mp ps → (c : GridPoint) → T (isCell b c) → c .z ≡
+    z → T (surfaceCell g c)
     → (cell : ℕ) (s : Step) → s .first ≡ first → cell - s .back ≡ inLayer (g .dims) c → Names g b first z below (looked mp ps cell s) c
 names-here g b first z below cs mp ps h c t e on cell s ef ea =
     record {
@@ -86,7 +88,8 @@ names-here g b first z below cs mp ps h c t e on cell s ef ea =
       position =
           ap (positionAt ps (s .first)) number
           ∙ ap (λ (f : ℕ). positionAt ps f (vertexNumber g b first c)) ef
-          ∙ ap (λ (l : List Float). positionAt l first (vertexNumber g b first c)) (h .positions ∙ ap (λ (y : ℕ). flatVectors (map (vertexPosition g) (layerVertices g b y))) (sym e))
+          ∙ ap (λ (l : List Float). positionAt l first (vertexNumber g b first c))
+          (h .positions ∙ ap (λ (y : ℕ). flatVectors (map (vertexPosition g) (layerVertices g b y))) (sym e))
           ∙ position-of g b first c t on
           ∙ sym (ap (λ (y : Bool). cond y (vertexPosition g c) (positionAt (below .positions) (below .first) (keptNumber (g .dims) below c))) (eq-eqb (c .z) z e));
     }
@@ -95,7 +98,8 @@ names-here g b first z below cs mp ps h c t e on cell s ef ea =
     number = ap (λ (j : ℕ). getD mp j 0) ea ∙ h .numbers c t e on
 
 -- a cell of the layer below
-pub names-below : (g : Field) (b : Box) (first z : ℕ) (below : Kept) (c : GridPoint) → (c .z ≡ z → ⊥) → (cell : ℕ) (s : Step) → s .first ≡ below .first → cell - s .back ≡ inLayer (g .dims) c
+pub names-below : (g : Field) (b : Box) (first z : ℕ) (below : Kept) (c : GridPoint) → (c .z ≡ z → ⊥) → (cell : ℕ) (s : Step) → s .first ≡ below .first → cell - s .back ≡ inLayer
+    (g .dims) c
     → Names g b first z below (looked (below .map) (below .positions) cell s) c
 names-below g b first z below c e cell s ef ea =
     record {

@@ -8,7 +8,7 @@ use lib.Dec.{T}
 use lib.Ieee.{Float, lt}
 use lib.ListN.{length, length-append}
 use lib.Seq.{sets}
-use Rattle.rules.specs.Lists.{one}
+use Rattle.lists.specs.Lists.{one}
 use Rattle.rules.specs.Grid.{GridPoint, axisX, axisY, axisZ, Box, Field, value}
 use Rattle.rules.specs.Cell.{negative, squaredDistance}
 use Rattle.rules.specs.Faces.{Flags, edge, gives, cellEdges, six}
@@ -77,7 +77,8 @@ pub three-puts : (l : List ℕ) (at : ℕ) {l1 l2 l3 : List ℕ} {a1 a2 a3 : ℕ
     → l1 ≡ sets l at (cond tx qx []) → a1 ≡ at + 6 * one tx → l2 ≡ sets l1 a1 (cond ty qy []) → a2 ≡ a1 + 6 * one ty → l3 ≡ sets l2 a2 (cond tz qz []) → a3 ≡ a2 + 6 * one tz
     → (l3 ≡ sets l at ((cond tx qx [] ++ cond ty qy []) ++ cond tz qz [])) × (a3 ≡ at + 6 * (one tx + one ty + one tz))
 three-puts l at {l1} {l2} {l3} {a1} {a2} tx ty tz qx qy qz ex ey e1 f1 e2 f2 e3 f3 = (
-  e3 ∙ ap (λ (s : List ℕ). sets s a2 (cond tz qz [])) two ∙ sets-on l at a2 (cond tx qx [] ++ cond ty qy []) (cond tz qz []) (omega (arith, length-append (cond tx qx []) (cond ty qy []), length-cond tx qx ex, length-cond ty qy ey)),
+  e3 ∙ ap (λ (s : List ℕ). sets s a2 (cond tz qz [])) two ∙ sets-on l at a2 (cond tx qx [] ++ cond ty qy []) (cond tz qz [])
+      (omega (arith, length-append (cond tx qx []) (cond ty qy []), length-cond tx qx ex, length-cond ty qy ey)),
   omega arith,
 )
   where
@@ -89,17 +90,23 @@ three-puts l at {l1} {l2} {l3} {a1} {a2} tx ty tz qx qy qz ex ey e1 f1 e2 f2 e3 
 module _ (g : Field) (b : Box) (m : Flags) (c : GridPoint) (first : Firsts) (map : List ℕ) (positions : List Float) (under : List ℕ) (kept : List Float) (l : List ℕ) (at : ℕ)
     {n tx ty tz : Bool} (ex : tx ≡ gives g b m (edge axisX c)) (ey : ty ≡ gives g b m (edge axisY c)) (ez : tz ≡ gives g b m (edge axisZ c)) (sign : n ≡ negative (value g c)) where
   pub cell-puts : {l1 l2 l3 : List ℕ} {a1 a2 a3 : ℕ}
-      → l1 ≡ sets l at (cond tx (quadOf n (here g c first map positions under kept 0) (here g c first map positions under kept (g .dims .x)) (below g c first map positions under kept 0) (below g c first map positions under kept (g .dims .x))) []) → a1 ≡ at + 6 * one tx
-      → l2 ≡ sets l1 a1 (cond ty (quadOf n (here g c first map positions under kept 0) (below g c first map positions under kept 0) (here g c first map positions under kept 1) (below g c first map positions under kept 1)) []) → a2 ≡ a1 + 6 * one ty
-      → l3 ≡ sets l2 a2 (cond tz (quadOf n (here g c first map positions under kept 0) (here g c first map positions under kept 1) (here g c first map positions under kept (g .dims .x)) (here g c first map positions under kept (g .dims .x + 1))) []) → a3 ≡ a2 + 6 * one tz
+      → l1 ≡ sets l at (cond tx (quadOf n (here g c first map positions under kept 0) (here g c first map positions under kept (g .dims .x))
+      (below g c first map positions under kept 0) (below g c first map positions under kept (g .dims .x))) []) → a1 ≡ at + 6 * one tx
+      → l2 ≡ sets l1 a1 (cond ty (quadOf n (here g c first map positions under kept 0) (below g c first map positions under kept 0) (here g c first map positions under kept 1)
+      (below g c first map positions under kept 1)) []) → a2 ≡ a1 + 6 * one ty
+      → l3 ≡ sets l2 a2 (cond tz (quadOf n (here g c first map positions under kept 0) (here g c first map positions under kept 1)
+      (here g c first map positions under kept (g .dims .x)) (here g c first map positions under kept (g .dims .x + 1))) []) → a3 ≡ a2 + 6 * one tz
       → (l3 ≡ sets l at (cellQuads g c first map positions under kept b m)) × (a3 ≡ at + 6 * length (cellEdges g b m c))
   unfolding cellQuads quadX quadY quadZ
   cell-puts e1 f1 e2 f2 e3 f3 =
       let p = three-puts l at tx ty tz _ _ _ (length-quad n _ _ _ _) (length-quad n _ _ _ _) e1 f1 e2 f2 e3 f3 in (
         p .0 ∙ (λ i.
             sets l at
-            ((cond (ex i) (quadOf (sign i) (here g c first map positions under kept 0) (here g c first map positions under kept (g .dims .x)) (below g c first map positions under kept 0) (below g c first map positions under kept (g .dims .x))) []
-            ++ cond (ey i) (quadOf (sign i) (here g c first map positions under kept 0) (below g c first map positions under kept 0) (here g c first map positions under kept 1) (below g c first map positions under kept 1)) [])
-            ++ cond (ez i) (quadOf (sign i) (here g c first map positions under kept 0) (here g c first map positions under kept 1) (here g c first map positions under kept (g .dims .x)) (here g c first map positions under kept (g .dims .x + 1))) [])),
+            ((cond (ex i) (quadOf (sign i) (here g c first map positions under kept 0) (here g c first map positions under kept (g .dims .x))
+            (below g c first map positions under kept 0) (below g c first map positions under kept (g .dims .x))) []
+            ++ cond (ey i) (quadOf (sign i) (here g c first map positions under kept 0) (below g c first map positions under kept 0) (here g c first map positions under kept 1)
+            (below g c first map positions under kept 1)) [])
+            ++ cond (ez i) (quadOf (sign i) (here g c first map positions under kept 0) (here g c first map positions under kept 1)
+            (here g c first map positions under kept (g .dims .x)) (here g c first map positions under kept (g .dims .x + 1))) [])),
         p .1 ∙ omega (arith, cellEdges-length g b m c, ap one ex, ap one ey, ap one ez),
       )

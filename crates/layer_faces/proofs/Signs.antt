@@ -25,7 +25,8 @@ use Rattle.layer_faces.specs.Quads.{step, Reaches, QuadReady}
 use Rattle.layer_faces.proofs.Steps.{front-of, across-of}
 
 -- whether an edge gives a face, by what the code has read
-pub gives-is : (g : Field) (b : Box) (m : Flags) (a : Axis) (c : GridPoint) {own n n' : Bool} → own ≡ owned b m (edge a c) → n ≡ negative (value g c) → n' ≡ negative (value g (stepUp a c)) → (own && unlike n n') ≡ gives g b m (edge a c)
+pub gives-is : (g : Field) (b : Box) (m : Flags) (a : Axis) (c : GridPoint) {own n n' : Bool} → own ≡ owned b m (edge a c) → n ≡ negative (value g c) → n' ≡ negative
+    (value g (stepUp a c)) → (own && unlike n n') ≡ gives g b m (edge a c)
 unfolding changes
 gives-is g b m a c e f h = λ i. e i && unlike (f i) (h i)
 
@@ -75,9 +76,11 @@ module _ {lower upper : List Float} {k : Block} {z : ℕ} (i : InLayers lower up
 
   -- ---- the look-ups
 
-  module _ (first : Firsts) (map under : List ℕ) (here : inLayer (point (k .dims)) (point (k .high)) < length map) (below : k .low .z < c .z → inLayer (point (k .dims)) (point (k .high)) < length under) (indices at : ℕ) where
+  module _ (first : Firsts) (map under : List ℕ) (here : inLayer (point (k .dims)) (point (k .high)) < length map)
+      (below : k .low .z < c .z → inLayer (point (k .dims)) (point (k .high)) < length under) (indices at : ℕ) where
     pub ready-x : T (gives (twoLayers lower upper k z) (boxOf k) (flagsOf k) (edge axisX c)) → at + 6 ≤ indices
-        → QuadReady map map under under (inLayer (point (k .dims)) c) (step 0 (first .here)) (step (k .dims .x) (first .here)) (step 0 (first .below)) (step (k .dims .x) (first .below)) indices at
+        → QuadReady map map under under (inLayer (point (k .dims)) c) (step 0 (first .here)) (step (k .dims .x) (first .here)) (step 0 (first .below))
+        (step (k .dims .x) (first .below)) indices at
     ready-x s r =
         let o = owned-says (boxOf k) (flagsOf k) (edge axisX c) (gives-owned (twoLayers lower upper k z) (boxOf k) (flagsOf k) (edge axisX c) s) in
         let deep = below (o .aboveC) in
@@ -109,7 +112,8 @@ module _ {lower upper : List Float} {k : Block} {z : ℕ} (i : InLayers lower up
         }
 
     pub ready-z : T (gives (twoLayers lower upper k z) (boxOf k) (flagsOf k) (edge axisZ c)) → at + 6 ≤ indices
-        → QuadReady map map map map (inLayer (point (k .dims)) c) (step 0 (first .here)) (step 1 (first .here)) (step (k .dims .x) (first .here)) (step (k .dims .x + 1) (first .here)) indices at
+        → QuadReady map map map map (inLayer (point (k .dims)) c) (step 0 (first .here)) (step 1 (first .here)) (step (k .dims .x) (first .here))
+        (step (k .dims .x + 1) (first .here)) indices at
     ready-z s r =
         let o = owned-says (boxOf k) (flagsOf k) (edge axisZ c) (gives-owned (twoLayers lower upper k z) (boxOf k) (flagsOf k) (edge axisZ c) s) in
         let right = o .aboveB in

@@ -11,13 +11,13 @@ use lib.Dec.{T}
 use lib.Ieee.{Float}
 use lib.ListN.{length, getD, take, drop, length-append, take-append-drop}
 use lib.Seq.{sets, length-sets, take-suc, take-all}
-use Rattle.rules.specs.Lists.{keep, joined}
+use Rattle.lists.specs.Lists.{keep, joined}
 use Rattle.rules.specs.Grid.{GridPoint, Box, Field, isCell, value}
 use Rattle.rules.specs.Cell.{negative}
 use Rattle.rules.specs.Vertices.{layerCells, surfaceCell, layerVertices}
 use Rattle.rules.specs.Faces.{Flags, Edge, cellEdges, layerEdges, cell1, cell2, cell3, cell4, six}
 use Rattle.rules.specs.Call.{flatPoints}
-use Rattle.rules.proofs.Lists.{All, all-at, all-then, all-keep, joined-append, joined-snoc, joined-length, joined-joined}
+use Rattle.lists.proofs.Lists.{All, all-at, all-then, all-keep, joined-append, joined-snoc, joined-length, joined-joined}
 use Rattle.rules.proofs.Indexes.{same-point}
 use Rattle.rules.proofs.Counting.{isLayerCell, layer-z, layerCells-all}
 use Rattle.rules.proofs.Inside.{layer-cells}
@@ -96,7 +96,12 @@ module _ (g : Field) (b : Box) (m : Flags) (first z : ℕ) (below : Kept) where
   unfolding layerEdges
   edges-within i =
       let vs = layerVertices g b z in
-      omega (arith, ap (λ (l : List GridPoint). length (joined (cellEdges g b m) l)) (sym (take-append-drop i vs)) ∙ ap length (joined-append (cellEdges g b m) (take i vs) (drop i vs)), length-append (edgesTo i) (joined (cellEdges g b m) (drop i vs)))
+      omega (
+        arith,
+        ap (λ (l : List GridPoint). length (joined (cellEdges g b m) l)) (sym (take-append-drop i vs)) ∙ ap length
+            (joined-append (cellEdges g b m) (take i vs) (drop i vs)),
+        length-append (edgesTo i) (joined (cellEdges g b m) (drop i vs)),
+      )
 
   pub record Faced (l : List ℕ) (at i used : ℕ) (l' : List ℕ) : Type 0 where
     pub same : l' ≡ sets l at (facesTo i)
@@ -120,8 +125,18 @@ module _ (g : Field) (b : Box) (m : Flags) (first z : ℕ) (below : Kept) where
           on = omega (arith, h, p .on, ap length next, length-append (edgesTo i) (cellEdges g b m c));
         }
 
-    pub faced-room : (c : GridPoint) → i < length (layerVertices g b z) → c ≡ getD (layerVertices g b z) i c → at + 6 * length (layerEdges g b m z) ≤ length l → used + 6 * length (cellEdges g b m c) ≤ length l'
-    faced-room c k e r = omega (arith, p .on, r, edges-within (i + 1), ap length (edges-next i c k e), length-append (edgesTo i) (cellEdges g b m c), ap length (p .same) ∙ length-sets l at (facesTo i))
+    pub faced-room : (c : GridPoint) → i < length (layerVertices g b z) → c ≡ getD (layerVertices g b z) i c → at + 6 * length (layerEdges g b m z) ≤ length l → used + 6 * length
+        (cellEdges g b m c) ≤ length l'
+    faced-room c k e r = omega (
+      arith,
+      p .on,
+      r,
+      edges-within (i + 1),
+      ap length (edges-next i c k e),
+      length-append (edgesTo i) (cellEdges g b m c),
+      ap length (p .same) ∙
+          length-sets l at (facesTo i),
+    )
 
     pub faced-length : length l' ≡ length l
     faced-length = ap length (p .same) ∙ length-sets l at (facesTo i)

@@ -7,7 +7,7 @@ use mathlib.Core.Path.{_≡_}
 use lib.Dec.{T, ltb, eqb}
 use lib.Ieee.{Float, nan, lt}
 use lib.ListN.{length, getD}
-use Rattle.rules.specs.Lists.{joined}
+use Rattle.lists.specs.Lists.{joined}
 use Rattle.rules.specs.Grid.{GridPoint, Box, Field, isCell, value}
 use Rattle.rules.specs.Cell.{Vector, negative, squaredDistance}
 use Rattle.rules.specs.Vertices.{surfaceCell, layerVertices, vertexNumber, vertexPosition}
@@ -50,7 +50,8 @@ positionOver g z below c = cond (eqb (c .z) z) (vertexPosition g c) (positionAt 
 -- "If the squared distance v1-v4 is strictly less than v2-v3"
 unfoldable pub shorterOver : Field → ℕ → Kept → Edge → Bool
 shorterOver g z below e =
-    lt (squaredDistance (positionOver g z below (cell1 e)) (positionOver g z below (cell4 e))) (squaredDistance (positionOver g z below (cell2 e)) (positionOver g z below (cell3 e)))
+    lt (squaredDistance (positionOver g z below (cell1 e)) (positionOver g z below (cell4 e)))
+    (squaredDistance (positionOver g z below (cell2 e)) (positionOver g z below (cell3 e)))
 
 unfoldable pub faceOver : Field → Box → ℕ → ℕ → Kept → Edge → List ℕ
 faceOver g b first z below e =

@@ -9,7 +9,7 @@ use Rattle.rules.specs.Grid.{GridPoint, axisX, axisY, axisZ, Box, Field, value}
 use Rattle.rules.specs.Cell.{Vector, negative, squaredDistance}
 use Rattle.rules.specs.Faces.{Flags, edge, gives, six}
 use Rattle.grid.specs.Layers.{inLayer}
-use Rattle.cube.specs.Reading.{vector}
+use Rattle.cube.specs.AsRules.{vector}
 use Rattle.layer_faces.specs.declared.Step.{Step}
 use Rattle.layer_faces.specs.declared.Vertex.{Vertex}
 use Rattle.layer_faces.specs.declared.Firsts.{Firsts}

@@ -17,11 +17,11 @@ ghost use lib.Dec.{T};
 ghost use lib.Ieee.{lt, unlike};
 ghost use lib.ListN.{length};
 ghost use lib.Seq.{sets};
-ghost use Rattle.rules.specs.Lists.{one};
+ghost use Rattle.lists.specs.Lists.{one};
 ghost use Rattle.rules.specs.Grid.{isCell};
 ghost use Rattle.rules.specs.Cell.{squaredDistance};
 ghost use Rattle.rules.specs.Faces.{cellEdges, layerEdges, six};
-ghost use Rattle.cube.specs.Reading.{vector};
+ghost use Rattle.cube.specs.AsRules.{vector};
 ghost use Rattle.grid.specs.Block.{point, boxOf, flagsOf};
 ghost use Rattle.grid.specs.Layers.{inLayer, twoLayers, InLayers};
 ghost use Rattle.layer_faces.specs.Below.{nowhere, positionAt, indicesOver, Standing};
@@ -156,7 +156,9 @@ fn maybe_make_quad(
     at: usize,
 ) -> usize
     requires { ⌜ (T (own && unlike n1 n2) → QuadReady (now map1) (now map2) (now map3) (now map4) cell s1 s2 s3 s4 (length (now indices)) at) ⌝ }
-    ensures { λ r. ⌜ now (indices .exit) ≡ sets (now (indices .entry)) at (cond (own && unlike n1 n2) (quadOf n1 (looked (now (map1 .entry)) (now (positions1 .entry)) cell s1) (looked (now (map2 .entry)) (now (positions2 .entry)) cell s2) (looked (now (map3 .entry)) (now (positions3 .entry)) cell s3) (looked (now (map4 .entry)) (now (positions4 .entry)) cell s4)) []) ⌝ }
+    ensures { λ r. ⌜ now (indices .exit) ≡ sets (now (indices .entry)) at
+        (cond (own && unlike n1 n2) (quadOf n1 (looked (now (map1 .entry)) (now (positions1 .entry)) cell s1) (looked (now (map2 .entry)) (now (positions2 .entry)) cell s2)
+        (looked (now (map3 .entry)) (now (positions3 .entry)) cell s3) (looked (now (map4 .entry)) (now (positions4 .entry)) cell s4)) []) ⌝ }
     ensures { λ r. ⌜ r ≡ at + 6 * one (own && unlike n1 n2) ⌝ }
 {
     if !own {
@@ -192,7 +194,9 @@ fn make_all_quads(
     requires { ⌜ inLayer (point (k .dims)) (point (k .high)) < length (now map) ⌝ }
     requires { ⌜ (k .low .z < c .z → inLayer (point (k .dims)) (point (k .high)) < length (now «map_below»)) ⌝ }
     requires { ⌜ at + 6 * length (cellEdges (twoLayers (now lower) (now upper) k (c .z)) (boxOf k) (flagsOf k) (point c)) ≤ length (now indices) ⌝ }
-    ensures { λ r. ⌜ now (indices .exit) ≡ sets (now (indices .entry)) at (cellQuads (twoLayers (now (lower .entry)) (now (upper .entry)) k (c .z)) (point c) first (now (map .entry)) (now (positions .entry)) (now («map_below» .entry)) (now («positions_below» .entry)) (boxOf k) (flagsOf k)) ⌝ }
+    ensures { λ r. ⌜ now (indices .exit) ≡ sets (now (indices .entry)) at
+        (cellQuads (twoLayers (now (lower .entry)) (now (upper .entry)) k (c .z)) (point c) first (now (map .entry)) (now (positions .entry)) (now («map_below» .entry))
+        (now («positions_below» .entry)) (boxOf k) (flagsOf k)) ⌝ }
     ensures { λ r. ⌜ r ≡ at + 6 * length (cellEdges (twoLayers (now (lower .entry)) (now (upper .entry)) k (c .z)) (boxOf k) (flagsOf k) (point c)) ⌝ }
 {
     let row = k.dims.x as usize;
@@ -311,7 +315,9 @@ pub fn face_layer(
     requires { ⌜ Standing (twoLayers (now lower) (now upper) k z) (boxOf k) (first .here) z (now cells) (now map) (now positions) ⌝ }
     requires { ⌜ (k .low .z < z → inLayer (point (k .dims)) (point (k .high)) < length (now «map_below»)) ⌝ }
     requires { ⌜ at + 6 * length (layerEdges (twoLayers (now lower) (now upper) k z) (boxOf k) (flagsOf k) z) ≤ length (now indices) ⌝ }
-    ensures { λ r. ⌜ now (indices .exit) ≡ sets (now (indices .entry)) at (indicesOver (twoLayers (now (lower .entry)) (now (upper .entry)) k z) (boxOf k) (flagsOf k) (first .here) z (record { map = now («map_below» .entry); positions = now («positions_below» .entry); first = first .below })) ⌝ }
+    ensures { λ r. ⌜ now (indices .exit) ≡ sets (now (indices .entry)) at
+        (indicesOver (twoLayers (now (lower .entry)) (now (upper .entry)) k z) (boxOf k) (flagsOf k) (first .here) z
+        (record { map = now («map_below» .entry); positions = now («positions_below» .entry); first = first .below })) ⌝ }
     ensures { λ r. ⌜ r ≡ 6 * length (layerEdges (twoLayers (now (lower .entry)) (now (upper .entry)) k z) (boxOf k) (flagsOf k) z) ⌝ }
 {
     let n = cells.len() / 3;

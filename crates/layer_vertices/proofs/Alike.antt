@@ -6,11 +6,11 @@ use mathlib.Core.Path.{_≡_, refl, ap₂}
 use lib.Dec.{T}
 use lib.Ieee.{Float}
 use lib.Seq.{sets}
-use Rattle.rules.specs.Lists.{placed}
+use Rattle.lists.specs.Lists.{placed}
 use Rattle.rules.specs.Grid.{GridPoint, Box, Field, index, isCell, inBox, value}
 use Rattle.rules.specs.Vertices.{nullVertex, edgeEntry}
 use Rattle.rules.specs.Call.{flatVectors, flatPoints}
-use Rattle.rules.proofs.Tests.{is-test}
+use Rattle.lists.proofs.Tests.{is-test}
 use Rattle.grid.proofs.Slab.{slab, grid, layer-alike, surface-alike, number-alike, positions-alike, normals-alike, crossings-alike}
 use Rattle.layer_vertices.specs.declared.Next.{Next}
 use Rattle.layer_vertices.specs.Marked.{Lists, marked, cellNumber, layerPoint, layerEntry}

@@ -9,10 +9,10 @@ use mathlib.Core.Bool.{false}
 use lib.Ieee.{Float, nan}
 use lib.ListN.{length, set, replicate, length-set}
 use lib.Seq.{sets, length-sets}
-use Rattle.rules.specs.Lists.{upTo}
+use Rattle.lists.specs.Lists.{upTo}
 use Rattle.rules.specs.Grid.{GridPoint, Box}
 use Rattle.rules.specs.Vertices.{rowCells, nullVertex}
-use Rattle.rules.proofs.Runs.{upTo-none, upTo-first}
+use Rattle.lists.proofs.Runs.{upTo-none, upTo-first}
 use Rattle.rules.proofs.Indexes.{BoxFits, box-fits}
 use Rattle.grid.specs.declared.Block.{Block}
 use Rattle.grid.specs.Block.{point, boxOf}

@@ -11,11 +11,11 @@ use lib.Ieee.Bits.{is-true}
 use lib.Ieee.Fits.{and-i, and-l, and-r}
 use lib.ListN.{length, getD, set, length-set}
 use lib.Seq.{ext-getD, getD-set-same, getD-set-other}
-use Rattle.rules.specs.Lists.{one, keep, many, place, placed}
-use Rattle.rules.specs.Grid.{GridPoint, Box, samePoint, below, isCell}
+use Rattle.lists.specs.Lists.{one, keep, many, place, placed, below}
+use Rattle.rules.specs.Grid.{GridPoint, Box, samePoint, isCell}
 use Rattle.rules.specs.Vertices.{layerCells, nullVertex}
-use Rattle.rules.proofs.Tests.{is-test, one-of, below-high, below-in}
-use Rattle.rules.proofs.Lists.{All, none, more, all-then, all-both, all-each, length-placed, getD-placed}
+use Rattle.lists.proofs.Tests.{is-test, one-of, below-high, below-in}
+use Rattle.lists.proofs.Lists.{All, none, more, all-then, all-both, all-each, length-placed, getD-placed}
 use Rattle.rules.proofs.Counting.{samePoint-sound, samePoint-itself, isLayerCell, layer-z, cell-layer, layerCells-once, layerCells-all}
 use Rattle.rules.proofs.Indexes.{same-point}
 use Rattle.grid.specs.Layers.{inLayer}

@@ -11,13 +11,13 @@ use lib.ListN.{length, length-map, length-append, set, length-set}
 use lib.Seq.{sets, length-sets}
 use lib.Ieee.{Float}
 use lib.Ieee.Bits.{is-true}
-use Rattle.rules.specs.Lists.{one, upTo, keep, joined}
+use Rattle.lists.specs.Lists.{one, upTo, keep, joined}
 use Rattle.rules.specs.Grid.{GridPoint, Box, Field, index, isCell}
 use Rattle.rules.specs.Cell.{Vector, values, surface, crossings, centroid, position, normal}
 use Rattle.rules.specs.Vertices.{rowCells, layerCells, surfaceCell, layerVertices, vertexPosition, vertexNormal, vertexCrossings, nullVertex}
 use Rattle.rules.specs.Call.{flatVectors, flatPoints}
-use Rattle.rules.proofs.Tests.{one-of}
-use Rattle.rules.proofs.Lists.{All, keep-append, keep-none, joined-append}
+use Rattle.lists.proofs.Tests.{one-of}
+use Rattle.lists.proofs.Lists.{All, keep-append, keep-none, joined-append}
 use Rattle.rules.proofs.Indexes.{BoxFits}
 use Rattle.rules.proofs.Seen.{length-points, length-vectors}
 use Rattle.grid.specs.Order.{rowTo, layerTo}
@@ -74,7 +74,8 @@ passed-append g b next cs ds s =
     vs : List GridPoint
     vs = keep (hasVertex g b) ds
 
-    vectors : (f : GridPoint → Vector) (l : List Float) → sets (sets l (3 * next .place) (flatVectors (map f us))) (3 * (next .place + length us)) (flatVectors (map f vs)) ≡ sets l (3 * next .place) (flatVectors (map f (us ++ vs)))
+    vectors : (f : GridPoint → Vector) (l : List Float) → sets (sets l (3 * next .place) (flatVectors (map f us))) (3 * (next .place + length us)) (flatVectors (map f vs)) ≡ sets
+        l (3 * next .place) (flatVectors (map f (us ++ vs)))
     vectors f l =
         sets-on l (3 * next .place) (3 * (next .place + length us)) (flatVectors (map f us)) (flatVectors (map f vs)) (omega (arith, length-vectors f us))
         ∙ ap (sets l (3 * next .place)) (vectors-append f us vs)

@@ -8,12 +8,12 @@ use mathlib.Core.Path.{_≡_, refl, sym, ap, ap₂, _∙_}
 use lib.Dec.{T}
 use lib.Ieee.Bits.{is-true}
 use lib.ListN.{length, getD}
-use Rattle.rules.specs.Lists.{upTo, keep, joined, place, placed}
+use Rattle.lists.specs.Lists.{upTo, keep, joined, place, placed}
 use Rattle.rules.specs.Grid.{GridPoint, Box, Field, samePoint, isCell, inBox}
 use Rattle.rules.specs.Vertices.{rowCells, layerCells, surfaceCell, layerVertices, nullVertex, edgeEntry}
-use Rattle.rules.proofs.Tests.{is-test, is-false, same-test}
-use Rattle.rules.proofs.Lists.{All, none, more, all-map, keep-append, keep-same, keep-none, keep-joined, joined-same}
-use Rattle.rules.proofs.Runs.{upTo-each}
+use Rattle.lists.proofs.Tests.{is-test, is-false, same-test}
+use Rattle.lists.proofs.Lists.{All, none, more, all-map, keep-append, keep-same, keep-none, keep-joined, joined-same}
+use Rattle.lists.proofs.Runs.{upTo-each}
 use Rattle.rules.proofs.Indexes.{BoxFits, within, in-box, cell-within, is-cell, cell-in-box}
 use Rattle.grid.specs.Order.{rowTo, layerTo}
 use Rattle.grid.proofs.Order.{row-grows, layer-grows, layer-ends}

@@ -8,7 +8,7 @@ use lib.Dec.{T}
 use lib.ListN.{length, set, replicate}
 use lib.Seq.{sets}
 use lib.Ieee.{Float}
-use Rattle.rules.specs.Lists.{one, keep}
+use Rattle.lists.specs.Lists.{one, keep}
 use Rattle.rules.specs.Grid.{GridPoint, Box, Field, index, isCell}
 use Rattle.rules.specs.Cell.{surface, crossings, centroid, position, normal}
 use Rattle.rules.specs.Vertices.{surfaceCell, vertexPosition, vertexNormal, nullVertex}

@@ -7,7 +7,7 @@ use lib.Dec.{T}
 use lib.ListN.{length}
 use lib.Seq.{sets}
 use lib.Ieee.{Float}
-use Rattle.rules.specs.Lists.{placed}
+use Rattle.lists.specs.Lists.{placed}
 use Rattle.rules.specs.Grid.{GridPoint, Box, Field, index, isCell, inBox}
 use Rattle.rules.specs.Vertices.{surfaceCell, layerVertices, vertexPosition, vertexNormal, vertexCrossings, vertexNumber, nullVertex, edgeEntry}
 use Rattle.rules.specs.Call.{badDimensions, badBox, flatVectors, flatPoints}

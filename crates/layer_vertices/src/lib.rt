@@ -5,7 +5,7 @@ ghost use mathlib.Core.List.{_∷_, []};
 ghost use Prim.Native.Nat.{_+_, _*_, _<_, _≤_};
 ghost use lib.ListN.{length, set};
 ghost use lib.Seq.{sets};
-ghost use Rattle.rules.specs.Lists.{one, placed};
+ghost use Rattle.lists.specs.Lists.{one, placed};
 ghost use Rattle.rules.specs.Cell.{surface, crossings as crossed, centroid, position, normal};
 ghost use Rattle.rules.specs.Vertices.{rowCells, layerVertices};
 ghost use Rattle.rules.specs.Grid.{index};

@@ -10,7 +10,7 @@ use native.Mathlib.Omega.{arith}
 use borrow.Author.Tests.{lt-ltb, le-ltb, eq-eqb, ne-eqb}
 use lib.Dec.{ltb, eqb}
 use lib.ListN.{length, getD}
-use Rattle.rules.proofs.Tests.{less-or-not}
+use Rattle.lists.proofs.Tests.{less-or-not}
 use Rattle.marks.specs.Stored.{storedWord, eachBelow, placeIs}
 
 -- the second of two tests fails

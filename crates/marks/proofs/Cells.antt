@@ -6,9 +6,10 @@ use native.Mathlib.Nat.{add-zero, div-div-eq-div-mul}
 use native.Mathlib.Omega.{arith}
 use borrow.Author.Tests.{ne-eqb}
 use lib.Dec.{T, eqb}
-use Rattle.rules.specs.Grid.{GridPoint, Box, below, pointAt, isCell, inBox}
+use Rattle.lists.specs.Lists.{below}
+use Rattle.rules.specs.Grid.{GridPoint, Box, pointAt, isCell, inBox}
 use Rattle.rules.specs.Vertices.{edgeEntry}
-use Rattle.rules.proofs.Tests.{same-test}
+use Rattle.lists.proofs.Tests.{same-test}
 use Rattle.rules.proofs.Indexes.{within, in-box, cell-within, is-cell}
 use Rattle.marks.specs.Marks.{cellAt, boxAt, reaching, noCellEntry}
 use Rattle.marks.proofs.Begins.{fails-second}
@@ -23,7 +24,8 @@ module _ (dims : GridPoint) (b : Box) (j : ℕ) where
   zero-y e = rw e (fails-second (not (eqb (dims .x) 0)) false refl)
 
   module _ (x : dims .x ≡ 0 → ⊥) (y : dims .y ≡ 0 → ⊥) where
-    cell-is : cellAt dims b j ≡ (below (b .low .x) (b .high .x) (j % dims .x) && (below (b .low .y) (b .high .y) (j / dims .x % dims .y) && below (b .low .z) (b .high .z) (j / dims .x / dims .y)))
+    cell-is : cellAt dims b j ≡ (below (b .low .x) (b .high .x) (j % dims .x) &&
+        (below (b .low .y) (b .high .y) (j / dims .x % dims .y) && below (b .low .z) (b .high .z) (j / dims .x / dims .y)))
     unfolding cellAt
     cell-is = rw (ne-eqb (dims .x) 0 x, ne-eqb (dims .y) 0 y, div-div-eq-div-mul j (dims .x) (dims .y))
 

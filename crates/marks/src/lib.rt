@@ -6,7 +6,7 @@ pub mod stored;
 ghost use mathlib.Core.Path.{_≡_};
 ghost use Prim.Native.Nat.{_≤_};
 ghost use lib.ListN.{length};
-ghost use Rattle.rules.specs.Grid.{below};
+ghost use Rattle.lists.specs.Lists.{below};
 ghost use Rattle.grid.specs.Block.{point, boxOf};
 ghost use Rattle.marks.specs.Marks.{bitsOf, wordMarks, floatMarks, keptWords, keptFloats, cellAt, reaching, noCellEntry, keptMap};
 use grid::Block;

@@ -2,15 +2,36 @@
 use Prim.Native.Nat.{ℕ, _+_, _*_, _<_}
 use native.Mathlib.Omega.{arith}
 use mathlib.Core.Path.{_≡_, refl, ap, subst}
-use mathlib.Core.Bool.{Bool, true, false, _&&_}
+use mathlib.Core.Bool.{Bool, true, false, _&&_, cond}
 use mathlib.Core.List.{List}
 use lib.Dec.{T}
 use lib.ListN.{length}
 use lib.Ieee.{Float}
-use Rattle.rules.proofs.Tests.{is-test}
+use Rattle.lists.proofs.Tests.{is-test}
 use Rattle.mesh_file.specs.Record.{wordAt, laid}
 use Rattle.mesh_file.specs.Mesh.{Mesh, mesh}
-use Rattle.mesh_file.specs.Reading.{finiteBits, threeFinite, FiniteFloats, seen, Progress, reading, whole, refused, readOf, readAnswer, checked, shortRoom, readingIn, floatsOf, indicesOf, meshIn, filledIn}
+use Rattle.mesh_file.specs.Reading.{
+  finiteBits,
+  threeFinite,
+  FiniteFloats,
+  seen,
+  Progress,
+  reading,
+  whole,
+  refused,
+  readOf,
+  readAnswer,
+  checked,
+  shortLists,
+  shortRoom,
+  readingWith,
+  readingIn,
+  floatsOf,
+  indicesOf,
+  meshIn,
+  overMesh,
+  filledIn,
+}
 use Rattle.mesh_file.specs.declared.Read.{Read}
 use Rattle.mesh_record.proofs.Laying.{over-laid}
 use Rattle.mesh_record.proofs.Told.{both-left, both-right, vertex-told, closing-told}
@@ -21,7 +42,8 @@ module _ (f : List ℕ) (v t : ℕ) (e : readOf f ≡ whole v t) where
   whole-length = closing-told f (32 * (v + t)) (seen v t) (whole-records f v t e .1) .length
 
   six-finite : (k : ℕ) → k < v
-      → threeFinite (wordAt f (32 * k + 4)) (wordAt f (32 * k + 8)) (wordAt f (32 * k + 12)) && threeFinite (wordAt f (32 * k + 16)) (wordAt f (32 * k + 20)) (wordAt f (32 * k + 24)) ≡ true
+      → threeFinite (wordAt f (32 * k + 4)) (wordAt f (32 * k + 8)) (wordAt f (32 * k + 12)) && threeFinite (wordAt f (32 * k + 16)) (wordAt f (32 * k + 20))
+      (wordAt f (32 * k + 24)) ≡ true
   six-finite k l = vertex-told f (32 * k) (seen k 0) (whole-records f v t e .0 .vertices k l) .floats
 
 three : (a b c : Bool) → a && b && c ≡ true → T a × T b × T c
@@ -42,26 +64,43 @@ module _ (f : List ℕ) (v t : ℕ) (e : readOf f ≡ whole v t) where
 
   pub normals-finite : FiniteFloats f 16 v
   normals-finite k l =
-      placed f (32 * k) 16 20 24 (omega arith) (omega arith) (both-right (threeFinite (wordAt f (32 * k + 4)) (wordAt f (32 * k + 8)) (wordAt f (32 * k + 12))) _ (six-finite f v t e k l))
+      placed f (32 * k) 16 20 24 (omega arith) (omega arith)
+      (both-right (threeFinite (wordAt f (32 * k + 4)) (wordAt f (32 * k + 8)) (wordAt f (32 * k + 12))) _ (six-finite f v t e k l))
 
 -- ---- the answers
 
-abbrev pub Answered : List ℕ → Mesh → Read → Mesh → Type 0
-Answered f s r g = (r ≡ readingIn (readOf f) s) × (g ≡ filledIn f (readOf f) s)
-
-pub read-refused : (f : List ℕ) (s : Mesh) (r : Read) → r ≡ checked (readOf f) → (r .answer ≡ 0 → ⊥) → Answered f s r s
-read-refused f s r e n = go (readOf f) e
+-- a refusal of the check is the answer
+pub read-refused : (f : List ℕ) (p n i : ℕ) (r : Read) → r ≡ checked (readOf f) → (r .answer ≡ 0 → ⊥) → r ≡ readingWith (readOf f) p n i
+read-refused f p n i r e z = go (readOf f) e
   where
-    go : (p : Progress) → r ≡ checked p → (r ≡ readingIn p s) × (s ≡ filledIn f p s)
-    go (reading v t) q = (q, refl)
-    go (whole v t) q = absurd (n (ap (λ (y : Read). y .answer) q))
-    go (refused n) q = (q, refl)
+    go : (x : Progress) → r ≡ checked x → r ≡ readingWith x p n i
+    go (reading v t) q = q
+    go (whole v t) q = absurd (z (ap (λ (y : Read). y .answer) q))
+    go (refused n) q = q
 
-pub read-short : (f : List ℕ) (s : Mesh) (r : Read) (v t : ℕ) → readOf f ≡ whole v t → shortRoom v t s ≡ true → r ≡ readAnswer 29 0 0 → Answered f s r s
-read-short f s r v t e h q = (rw (q, e) (rw h refl), rw e (rw h refl))
+-- and so a refusal leaves the lists
+pub refused-fills-nothing : (f : List ℕ) (s : Mesh) (r : Read) → r ≡ readingIn (readOf f) s → (r .answer ≡ 0 → ⊥) → s ≡ filledIn f (readOf f) s
+refused-fills-nothing f s r e z = go (readOf f) e
+  where
+    short : (v t : ℕ) (b : Bool) → r ≡ cond b (readAnswer 29 0 0) (readAnswer 0 v t) → s ≡ cond b s (overMesh (meshIn f v t) s)
+    short v t true q = refl
+    short v t false q = absurd (z (ap (λ (y : Read). y .answer) q))
 
-pub read-filled : (f : List ℕ) (s : Mesh) (r : Read) (p n : List Float) (i : List ℕ) (v t : ℕ) → readOf f ≡ whole v t → shortRoom v t s ≡ false → r ≡ readAnswer 0 v t
-    → p ≡ laid (floatsOf f 4 v) 0 (s .positions) → n ≡ laid (floatsOf f 16 v) 0 (s .normals) → i ≡ laid (indicesOf f v t) 0 (s .indices) → Answered f s r (mesh p n i)
+    go : (x : Progress) → r ≡ readingIn x s → s ≡ filledIn f x s
+    go (reading v t) q = refl
+    go (whole v t) q = short v t (shortRoom v t s) q
+    go (refused n) q = refl
+
+module _ (f : List ℕ) (p n i : ℕ) (r : Read) (v t : ℕ) (e : readOf f ≡ whole v t) where
+  pub read-short : shortLists v t p n i ≡ true → r ≡ readAnswer 29 0 0 → r ≡ readingWith (readOf f) p n i
+  read-short h q = rw (q, e) (rw h refl)
+
+  pub read-whole : shortLists v t p n i ≡ false → r ≡ readAnswer 0 v t → r ≡ readingWith (readOf f) p n i
+  read-whole h q = rw (q, e) (rw h refl)
+
+-- what the three fills leave
+pub all-filled : (f : List ℕ) (v t : ℕ) (s : Mesh) (p n : List Float) (i : List ℕ) → p ≡ laid (floatsOf f 4 v) 0 (s .positions)
+    → n ≡ laid (floatsOf f 16 v) 0 (s .normals) → i ≡ laid (indicesOf f v t) 0 (s .indices) → mesh p n i ≡ overMesh (meshIn f v t) s
 unfolding meshIn
-read-filled f s r p n i v t e h q a b c =
-    (rw (q, e) (rw h refl), rw e (rw h (rw (over-laid (floatsOf f 4 v) (s .positions), over-laid (floatsOf f 16 v) (s .normals), over-laid (indicesOf f v t) (s .indices)) (rw (a, b, c) refl))))
+all-filled f v t s p n i a b c =
+    rw (over-laid (floatsOf f 4 v) (s .positions), over-laid (floatsOf f 16 v) (s .normals), over-laid (indicesOf f v t) (s .indices)) (rw (a, b, c) refl)

@@ -2,19 +2,20 @@
 use Prim.Native.Nat.{ℕ, suc, _+_, _*_, _/_, _%_, _^_, _≤_, _<_, zero-le}
 use native.Mathlib.Omega.{arith}
 use mathlib.Core.Path.{_≡_, refl, sym, ap, _∙_}
-use mathlib.Core.Bool.{true, false, not, _||_}
+use mathlib.Core.Bool.{Bool, true, false, not, _||_, cond}
 use mathlib.Core.List.{List, _++_, append-assoc}
-use borrow.Author.Tests.{lt-ltb, le-ltb, leb-false, lt-leb, eqb-true, eq-eqb, not-false}
-use lib.Dec.{leb, eqb, eqb·suc-zero}
+use borrow.Author.Tests.{lt-ltb, le-ltb, ltb-false, leb-false, lt-leb, eqb-true, eq-eqb, ne-eqb, not-false}
+use lib.Dec.{leb, ltb, eqb, eqb·suc-zero}
 use lib.ListN.{length, length-append}
-use Rattle.rules.specs.Lists.{over}
+use Rattle.lists.specs.Lists.{over}
 use Rattle.mesh_file.specs.Record.{each, laid}
 use Rattle.mesh_file.specs.Mesh.{Mesh, vertexCount, triangleCount, vertexRecord, triangleRecord, closingRecord, fileOf, fileLength}
 use Rattle.mesh_file.specs.Writing.{notThrees, badLengths, badLists, badIndices, badFloats, writeAnswer, wrote, writing, written}
 use Rattle.mesh_file.specs.declared.Wrote.{Wrote}
 use Rattle.mesh_record.proofs.Laying.{laid-after, over-laid, each-length}
 use Rattle.mesh_record.proofs.Recording.{record-length}
-use Rattle.mesh_record.proofs.Either.{or-left, or-right}
+use Rattle.lists.proofs.Either.{or-left, or-right}
+use Rattle.mesh_record.proofs.Told.{cond-zero}
 
 -- ---- the lengths
 
@@ -48,33 +49,71 @@ lengths-good p n i l =
 
 -- ---- the answers
 
-abbrev pub Answered : Mesh → List ℕ → Wrote → List ℕ → Type 0
-Answered m f r g = (r ≡ writing m (length f)) × (g ≡ written m f)
+refused : (m : Mesh) (room a : ℕ) (r : Wrote) → writeAnswer m room ≡ suc a → r ≡ wrote (suc a) 0 → r ≡ writing m room
+unfolding writing
+refused m room a r e q = rw (q, e) (rw (eqb·suc-zero a) refl)
 
-refused : (m : Mesh) (f : List ℕ) (a : ℕ) (r : Wrote) → writeAnswer m (length f) ≡ suc a → r ≡ wrote (suc a) 0 → Answered m f r f
-unfolding writing written
-refused m f a r e q = (rw (q, e) (rw (eqb·suc-zero a) refl), rw e (rw (eqb·suc-zero a) refl))
-
-module _ (m : Mesh) (f : List ℕ) (r : Wrote) where
-  pub refused-30 : badLists m ≡ true → r ≡ wrote 30 0 → Answered m f r f
+module _ (m : Mesh) (room : ℕ) (r : Wrote) where
+  pub refused-30 : badLists m ≡ true → r ≡ wrote 30 0 → r ≡ writing m room
   unfolding writeAnswer
-  refused-30 a = refused m f 29 r (rw a refl)
+  refused-30 a = refused m room 29 r (rw a refl)
 
-  pub refused-26 : badLists m ≡ false → badIndices m ≡ true → r ≡ wrote 26 0 → Answered m f r f
+  pub refused-26 : badLists m ≡ false → badIndices m ≡ true → r ≡ wrote 26 0 → r ≡ writing m room
   unfolding writeAnswer
-  refused-26 a b = refused m f 25 r (rw (a, b) refl)
+  refused-26 a b = refused m room 25 r (rw (a, b) refl)
 
-  pub refused-27 : badLists m ≡ false → badIndices m ≡ false → badFloats m ≡ true → r ≡ wrote 27 0 → Answered m f r f
+  pub refused-27 : badLists m ≡ false → badIndices m ≡ false → badFloats m ≡ true → r ≡ wrote 27 0 → r ≡ writing m room
   unfolding writeAnswer
-  refused-27 a b c = refused m f 26 r (rw (a, b, c) refl)
+  refused-27 a b c = refused m room 26 r (rw (a, b, c) refl)
 
-  pub refused-29 : badLists m ≡ false → badIndices m ≡ false → badFloats m ≡ false → length f < fileLength m → r ≡ wrote 29 0 → Answered m f r f
+  pub refused-29 : badLists m ≡ false → badIndices m ≡ false → badFloats m ≡ false → room < fileLength m → r ≡ wrote 29 0 → r ≡ writing m room
   unfolding writeAnswer
-  refused-29 a b c h = refused m f 28 r (rw (a, b, c) (rw (lt-ltb (length f) (fileLength m) h) refl))
+  refused-29 a b c h = refused m room 28 r (rw (a, b, c) (rw (lt-ltb room (fileLength m) h) refl))
 
-  pub done : badLists m ≡ false → badIndices m ≡ false → badFloats m ≡ false → fileLength m ≤ length f → r ≡ wrote 0 (fileLength m) → (g : List ℕ) → g ≡ over (fileOf m) f → Answered m f r g
-  unfolding writeAnswer writing written
-  done a b c h q g e = (rw q (rw (a, b, c) (rw (le-ltb (length f) (fileLength m) h) refl)), rw e (rw (a, b, c) (rw (le-ltb (length f) (fileLength m) h) refl)))
+  pub accepted-0 : badLists m ≡ false → badIndices m ≡ false → badFloats m ≡ false → fileLength m ≤ room → r ≡ wrote 0 (fileLength m) → r ≡ writing m room
+  unfolding writeAnswer writing
+  accepted-0 a b c h q = rw q (rw (a, b, c) (rw (le-ltb room (fileLength m) h) refl))
+
+-- the answer 0 says that nothing was refused
+pub answered-zero : (m : Mesh) (room : ℕ) → writing m room .answer ≡ 0 → writeAnswer m room ≡ 0
+unfolding writing
+answered-zero m room = go (eqb (writeAnswer m room) 0) refl
+  where
+    go : (b : Bool) → eqb (writeAnswer m room) 0 ≡ b → cond b (wrote 0 (fileLength m)) (wrote (writeAnswer m room) 0) .answer ≡ 0 → writeAnswer m room ≡ 0
+    go true q e = eqb-true (writeAnswer m room) 0 q
+    go false q e = e
+
+-- and another answer that something was
+pub answered-other : (m : Mesh) (room : ℕ) → (writing m room .answer ≡ 0 → ⊥) → writeAnswer m room ≡ 0 → ⊥
+unfolding writing
+answered-other m room n e = n (rw e refl)
+
+-- the condition of each refusal fails where none answers
+pub record Passed (m : Mesh) (room : ℕ) : Type 0 where
+  pub lists : badLists m ≡ false
+  pub indices : badIndices m ≡ false
+  pub floats : badFloats m ≡ false
+  pub roomy : fileLength m ≤ room
+
+pub passed : (m : Mesh) (room : ℕ) → writeAnswer m room ≡ 0 → Passed m room
+unfolding writeAnswer
+passed m room e =
+    let e₁ = cond-zero (badLists m) 29 _ e in
+    let e₂ = cond-zero (badIndices m) 25 _ (e₁ .1) in
+    let e₃ = cond-zero (badFloats m) 26 _ (e₂ .1) in
+    let e₄ = cond-zero (ltb room (fileLength m)) 28 _ (e₃ .1) in
+    record { lists = e₁ .0; indices = e₂ .0; floats = e₃ .0; roomy = ltb-false room (fileLength m) (e₄ .0) }
+
+-- ---- the lent file afterwards
+
+module _ (m : Mesh) (f : List ℕ) where
+  pub written-over : writeAnswer m (length f) ≡ 0 → written m f ≡ over (fileOf m) f
+  unfolding written
+  written-over e = rw e refl
+
+  pub refused-writes-nothing : (writeAnswer m (length f) ≡ 0 → ⊥) → written m f ≡ f
+  unfolding written
+  refused-writes-nothing n = rw (ne-eqb _ _ n) refl
 
 -- ---- the three parts
 

@@ -40,6 +40,7 @@ pub vertices-next : (p n : List Float) (k : ℕ) (old cur new : List ℕ) → cu
     → new ≡ laid (each (vertexRecord p n) (k + 1)) 0 old
 vertices-next p n k old cur new i e = e ∙ loop-laid (vertexRecord p n) 32 (λ k. record-length _ _ _ _ _ _ _) 0 k (32 * k) old cur zero-le (sym (zero-add (32 * k))) i
 
-pub triangles-next : (is : List ℕ) (k at : ℕ) (old cur new : List ℕ) → at ≤ length old → cur ≡ laid (each (triangleRecord is) k) at old → new ≡ laid (triangleRecord is k) (at + 32 * k) cur
+pub triangles-next : (is : List ℕ) (k at : ℕ) (old cur new : List ℕ) → at ≤ length old → cur ≡ laid (each (triangleRecord is) k) at old → new ≡ laid (triangleRecord is k)
+    (at + 32 * k) cur
     → new ≡ laid (each (triangleRecord is) (k + 1)) at old
 triangles-next is k at old cur new h i e = e ∙ loop-laid (triangleRecord is) 32 (λ k. record-length _ _ _ _ _ _ _) at k (at + 32 * k) old cur h refl i

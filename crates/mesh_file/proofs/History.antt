@@ -9,9 +9,29 @@ use mathlib.Core.List.{List}
 use borrow.Author.Tests.{eqb-true, eqb-false}
 use lib.Dec.{ltb, eqb}
 use lib.ListN.{length}
-use Rattle.rules.proofs.Tests.{less-or-not}
+use Rattle.lists.proofs.Tests.{less-or-not}
 use Rattle.mesh_file.specs.Record.{wordAt}
-use Rattle.mesh_file.specs.Reading.{wordsAt, cut, faultOf, Found, good, faulty, foundOf, foundAt, seen, Progress, reading, whole, refused, counted, further, after, readOf, readAnswer, checked}
+use Rattle.mesh_file.specs.Reading.{
+  wordsAt,
+  cut,
+  faultOf,
+  Found,
+  good,
+  faulty,
+  foundOf,
+  foundAt,
+  seen,
+  Progress,
+  reading,
+  whole,
+  refused,
+  counted,
+  further,
+  after,
+  readOf,
+  readAnswer,
+  checked,
+}
 use Rattle.mesh_record.specs.declared.Words.{Words}
 use Rattle.mesh_record.specs.declared.Seen.{Seen}
 use Rattle.mesh_file.specs.declared.Read.{Read}
@@ -100,7 +120,8 @@ module _ (f : List ℕ) (k v t : ℕ) (h : History f k v t) where
   one-vertex e =
       let z : t ≡ 0 = vertex-told f (32 * k) (seen v t) e .first in
       let p = h .place in
-      let here : foundAt f (32 * v) (seen v 0) .kind ≡ 1 = ap (λ (x : ℕ). foundAt f (32 * v) (seen v x) .kind) (sym z) ∙ (ap (λ (x : ℕ). foundAt f (32 * x) (seen v t) .kind) (place-of z) ∙ e) in
+      let here : foundAt f (32 * v) (seen v 0) .kind ≡ 1 = ap (λ (x : ℕ). foundAt f (32 * v) (seen v x) .kind) (sym z) ∙
+      (ap (λ (x : ℕ). foundAt f (32 * x) (seen v t) .kind) (place-of z) ∙ e) in
       record {
         place = omega arith;
         vertices = λ j l. ⊎-elim (λ (q : j < v). h .vertices j q) (λ (q : j ≡ v). ap (λ (x : ℕ). foundAt f (32 * x) (seen x 0) .kind) q ∙ here) (last-or-before j v l);

@@ -47,7 +47,8 @@ module _ (f : List ℕ) (bytes : Bytes f) (v t : ℕ) (e : readOf f ≡ whole v 
       let b₁ = word-below f bytes (32 * k + first + 4) (omega arith) in
       let b₂ = word-below f bytes (32 * k + first + 8) (omega arith) in
       let g : ℕ → List Float = λ i. floatsAt f (32 * i + first) in
-      let at₀ : getD (each g v) (3 * k) nan ≡ ofBits binary32 (wordAt f (32 * k + first)) = ap (λ (x : ℕ). getD (each g v) x nan) (sym (add-zero (3 * k))) ∙ each-at nan g 3 (λ i. refl) v k 0 l (omega arith) in
+      let at₀ : getD (each g v) (3 * k) nan ≡ ofBits binary32 (wordAt f (32 * k + first)) = ap (λ (x : ℕ). getD (each g v) x nan) (sym (add-zero (3 * k))) ∙ each-at nan g 3
+      (λ i. refl) v k 0 l (omega arith) in
       let at₁ : getD (each g v) (3 * k + 1) nan ≡ ofBits binary32 (wordAt f (32 * k + first + 4)) = each-at nan g 3 (λ i. refl) v k 1 l (omega arith) in
       let at₂ : getD (each g v) (3 * k + 2) nan ≡ ofBits binary32 (wordAt f (32 * k + first + 8)) = each-at nan g 3 (λ i. refl) v k 2 l (omega arith) in (
         ap (toBits binary32) at₀ ∙ bits-back (wordAt f (32 * k + first)) b₀ (ok k l .0),

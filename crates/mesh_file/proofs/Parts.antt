@@ -9,7 +9,7 @@ use mathlib.Core.Logic.{⊎-elim}
 use mathlib.Core.List.{List, [], _∷_, _++_, append-assoc, append-nil}
 use lib.ListN.{length, getD, take, drop, length-drop}
 use lib.Seq.{take-append-le, drop-append-le, drop-append-add, take-all, take-add, drop-drop, drop-cons, getD-take, getD-drop, take-length}
-use Rattle.rules.specs.Lists.{joined}
+use Rattle.lists.specs.Lists.{joined}
 use Rattle.mesh_file.specs.Record.{bytesOf, wordAt, sumOf, recordOf, each}
 use Rattle.mesh_file.specs.Reading.{Bytes}
 use Rattle.mesh_record.proofs.Laying.{each-length}
@@ -140,19 +140,23 @@ word-below f h at l = omega (arith, h at (omega arith), h (at + 1) (omega arith)
 pub bytes-of-word : (f : List ℕ) → Bytes f → (at : ℕ) → at + 4 ≤ length f → bytesOf (wordAt f at) ≡ part 4 at f
 unfolding bytesOf wordAt
 bytes-of-word f h at l =
-    let p = byte-digits (getD f at 0) (getD f (at + 1) 0) (getD f (at + 2) 0) (getD f (at + 3) 0) (h at (omega arith)) (h (at + 1) (omega arith)) (h (at + 2) (omega arith)) (h (at + 3) (omega arith)) _ refl in
+    let p = byte-digits (getD f at 0) (getD f (at + 1) 0) (getD f (at + 2) 0) (getD f (at + 3) 0) (h at (omega arith)) (h (at + 1) (omega arith)) (h (at + 2) (omega arith))
+    (h (at + 3) (omega arith)) _ refl in
     let l₀ : at < length f = omega arith in
     let l₁ : suc at < length f = omega arith in
     let l₂ : suc (suc at) < length f = omega arith in
     let l₃ : suc (suc (suc at)) < length f = omega arith in
-    rw (p .0, p .1, p .2, p .3, add-one, add-two, add-three) (sym (rw (drop-cons f at 0 l₀, drop-cons f (suc at) 0 l₁, drop-cons f (suc (suc at)) 0 l₂, drop-cons f (suc (suc (suc at))) 0 l₃) refl))
+    rw (p .0, p .1, p .2, p .3, add-one, add-two, add-three)
+    (sym (rw (drop-cons f at 0 l₀, drop-cons f (suc at) 0 l₁, drop-cons f (suc (suc at)) 0 l₂, drop-cons f (suc (suc (suc at))) 0 l₃) refl))
 
 word-off : (f : List ℕ) → Bytes f → (r p q : ℕ) → q ≡ p + 4 → p + 4 ≤ length f → part (4 + r) p f ≡ bytesOf (wordAt f p) ++ part r q f
 word-off f h r p q e l = take-add 4 r (drop p f) ∙ rw (drop-drop 4 p f, ← e) (ap (λ (x : List ℕ). x ++ part r q f) (sym (bytes-of-word f h p l)))
 
 -- 32 bytes whose last word is the sum of the others are the record of their words
-pub record-of-bytes : (f : List ℕ) → Bytes f → (at : ℕ) → at + 32 ≤ length f → (k a b c d e g : ℕ) → wordAt f at ≡ k → wordAt f (at + 4) ≡ a → wordAt f (at + 8) ≡ b → wordAt f (at + 12) ≡ c
-    → wordAt f (at + 16) ≡ d → wordAt f (at + 20) ≡ e → wordAt f (at + 24) ≡ g → wordAt f (at + 28) ≡ sumOf (k ∷ a ∷ b ∷ c ∷ d ∷ e ∷ g ∷ []) → part 32 at f ≡ recordOf (k ∷ a ∷ b ∷ c ∷ d ∷ e ∷ g ∷ [])
+pub record-of-bytes : (f : List ℕ) → Bytes f → (at : ℕ) → at + 32 ≤ length f → (k a b c d e g : ℕ) → wordAt f at ≡ k → wordAt f (at + 4) ≡ a → wordAt f (at + 8) ≡ b → wordAt f
+    (at + 12) ≡ c
+    → wordAt f (at + 16) ≡ d → wordAt f (at + 20) ≡ e → wordAt f (at + 24) ≡ g → wordAt f (at + 28) ≡ sumOf (k ∷ a ∷ b ∷ c ∷ d ∷ e ∷ g ∷ []) → part 32 at f ≡ recordOf
+    (k ∷ a ∷ b ∷ c ∷ d ∷ e ∷ g ∷ [])
 unfolding recordOf joined
 record-of-bytes f h at l k a b c d e g p₀ p₁ p₂ p₃ p₄ p₅ p₆ p₇ =
     let q₀ = word-off f h 28 at (at + 4) refl (omega arith) in
@@ -177,7 +181,8 @@ pub record Holds (f : List ℕ) (at k a b c d e g : ℕ) : Type 0 where
   pub w₆ : wordAt f (at + 24) ≡ g
   pub w₇ : wordAt f (at + 28) ≡ sumOf (k ∷ a ∷ b ∷ c ∷ d ∷ e ∷ g ∷ [])
 
-pub holds : (f : List ℕ) (at k a b c d e g : ℕ) → part 32 at f ≡ recordOf (k ∷ a ∷ b ∷ c ∷ d ∷ e ∷ g ∷ []) → k < 2 ^ 32 → a < 2 ^ 32 → b < 2 ^ 32 → c < 2 ^ 32 → d < 2 ^ 32 → e < 2 ^ 32 → g < 2 ^ 32
+pub holds : (f : List ℕ) (at k a b c d e g : ℕ) → part 32 at f ≡ recordOf (k ∷ a ∷ b ∷ c ∷ d ∷ e ∷ g ∷ []) → k < 2 ^ 32 → a < 2 ^ 32 → b < 2 ^ 32 → c < 2 ^ 32 → d < 2 ^ 32 → e <
+    2 ^ 32 → g < 2 ^ 32
     → Holds f at k a b c d e g
 holds f at k a b c d e g p hk ha hb hc hd he hg =
     let at-0 : wordAt f at ≡ wordAt (part 32 at f) 0 = ap (wordAt f) (sym (add-zero at)) ∙ word-in f at 0 (omega arith) in

@@ -6,7 +6,7 @@ use mathlib.Core.Path.{_≡_, ap, _∙_}
 use mathlib.Core.Logic.{⊎-elim}
 use mathlib.Core.List.{List}
 use lib.ListN.{length, take, length-take}
-use Rattle.rules.proofs.Tests.{less-or-not}
+use Rattle.lists.proofs.Tests.{less-or-not}
 use Rattle.mesh_file.specs.Mesh.{Mesh}
 use Rattle.mesh_file.specs.Reading.{foundAt, seen, reading, whole, refused, after, readOf, readAnswer, readingIn, filledIn}
 use Rattle.mesh_record.proofs.Told.{vertex-told, triangle-told}
@@ -16,11 +16,13 @@ use Rattle.mesh_file.proofs.Steps.{vertex-step, triangle-step, vertex-b
 
 module _ (f : List ℕ) (v t : ℕ) (e : readOf f ≡ whole v t) (n : ℕ) where
   vertex-again : (j : ℕ) → j < v → 32 * j + 32 ≤ n → foundAt (take n f) (32 * j) (seen j 0) .kind ≡ 1
-  vertex-again j l h = vertex-step (take n f) (32 * j) (seen j 0) (vertex-before f n (32 * j) (seen j 0) h (vertex-told f (32 * j) (seen j 0) (whole-records f v t e .0 .vertices j l)))
+  vertex-again j l h = vertex-step (take n f) (32 * j) (seen j 0)
+      (vertex-before f n (32 * j) (seen j 0) h (vertex-told f (32 * j) (seen j 0) (whole-records f v t e .0 .vertices j l)))
 
   triangle-again : (j : ℕ) → j < t → 32 * (v + j) + 32 ≤ n → foundAt (take n f) (32 * (v + j)) (seen v j) .kind ≡ 2
   triangle-again j l h =
-      triangle-step (take n f) (32 * (v + j)) (seen v j) (triangle-before f n (32 * (v + j)) (seen v j) h (triangle-told f (32 * (v + j)) (seen v j) (whole-records f v t e .0 .triangles j l)))
+      triangle-step (take n f) (32 * (v + j)) (seen v j)
+      (triangle-before f n (32 * (v + j)) (seen v j) h (triangle-told f (32 * (v + j)) (seen v j) (whole-records f v t e .0 .triangles j l)))
 
   -- k whole records stand before the cut
   in-vertices : (k : ℕ) → k ≤ v → 32 * k ≤ n → after (take n f) k ≡ reading k 0

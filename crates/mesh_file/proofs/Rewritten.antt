@@ -10,16 +10,16 @@ use lib.Dec.{T, ltb}
 use lib.ListN.{length, getD, take}
 use lib.Ieee.{Float, nan, binary32, fits}
 use lib.Ieee.Bits.{ofBits-fits, is-true}
-use Rattle.rules.specs.Lists.{some}
-use Rattle.rules.proofs.Lists.{by-threes}
+use Rattle.lists.specs.Lists.{some}
+use Rattle.lists.proofs.Lists.{by-threes}
 use Rattle.mesh_file.specs.Record.{wordAt, each}
 use Rattle.mesh_file.specs.Mesh.{vertexCount, finite, fileLength}
 use Rattle.mesh_file.specs.Reading.{Bytes, FiniteFloats, seen, whole, readOf, floatsAt, numbersAt, floatsOf, indicesOf, meshIn}
 use Rattle.mesh_file.specs.Writing.{noVertex, notFinite, writeAnswer, written}
 use Rattle.mesh_record.proofs.Laying.{each-length}
-use Rattle.mesh_record.proofs.Either.{or-none}
+use Rattle.lists.proofs.Either.{or-none}
 use Rattle.mesh_file.proofs.Answering.{lengths-good}
-use Rattle.mesh_file.proofs.Searching.{none-some}
+use Rattle.lists.proofs.Searching.{none-some}
 use Rattle.mesh_record.proofs.Told.{both-left, both-right, triangle-told, closing-told}
 use Rattle.mesh_file.proofs.History.{whole-records}
 use Rattle.mesh_file.proofs.Accepted.{positions-finite, normals-finite}
@@ -30,7 +30,8 @@ use Rattle.mesh_file.proofs.Settled.{room-writes, bytes-written}
 
 -- ---- a flat list, triple by triple
 
-module _ {A : Type 0} (z : A) (P : A → Type 0) (g : ℕ → List A) (e : (k : ℕ) → length (g k) ≡ 3) (n : ℕ) (each-good : (k : ℕ) → k < n → P (getD (g k) 0 z) × P (getD (g k) 1 z) × P (getD (g k) 2 z)) where
+module _ {A : Type 0} (z : A) (P : A → Type 0) (g : ℕ → List A) (e : (k : ℕ) → length (g k) ≡ 3) (n : ℕ)
+    (each-good : (k : ℕ) → k < n → P (getD (g k) 0 z) × P (getD (g k) 1 z) × P (getD (g k) 2 z)) where
   pub all-good : (i : ℕ) → i < length (each g n) → P (getD (each g n) i z)
   all-good i h = by-threes (λ (j : ℕ). P (getD (each g n) j z)) n at i (omega (arith, each-length g 3 e n))
     where
@@ -87,8 +88,11 @@ module _ (f : List ℕ) (bytes : Bytes f) (v t : ℕ) (e : readOf f ≡ whole v 
   counts-below =
       let at = 32 * (v + t) in
       let g = closing-told f at (seen v t) (whole-records f v t e .1) in
-      let n = g .length in
-      (subst (λ (x : ℕ). x < 2 ^ 32) (g .vertices) (word-below f bytes (at + 4) (omega arith)), subst (λ (x : ℕ). x < 2 ^ 32) (g .triangles) (word-below f bytes (at + 8) (omega arith)))
+      let n = g .length in (
+        subst (λ (x : ℕ). x < 2 ^ 32) (g .vertices) (word-below f bytes (at + 4) (omega arith)),
+        subst (λ (x : ℕ). x < 2 ^ 32) (g .triangles)
+            (word-below f bytes (at + 8) (omega arith)),
+      )
 
 module _ (f : List ℕ) (bytes : Bytes f) (v t : ℕ) (e : readOf f ≡ whole v t) where
   pub accepted-writable : Writable (meshIn f v t)
@@ -98,10 +102,14 @@ module _ (f : List ℕ) (bytes : Bytes f) (v t : ℕ) (e : readOf f ≡ whole v 
       let n = held f bytes v t e 16 (normals-finite f v t e) in
       let c = counts-below f bytes v t e in
       record {
-        lists = lengths-good (length (floatsOf f 4 v)) (length (floatsOf f 16 v)) (length (indicesOf f v t)) (omega (arith, c, floats-length f bytes v t e 4, floats-length f bytes v t e 16, indices-length f bytes v t e));
-        indices = none-some (noVertex (vertexCount (meshIn f v t))) 0 (indicesOf f v t) (λ i l. lt-leb (vertexCount (meshIn f v t)) (getD (indicesOf f v t) i 0) (subst (λ (x : ℕ). getD (indicesOf f v t) i 0 < x) (sym (read-vertices f bytes v t e)) (index-held f bytes v t e i l)));
+        lists = lengths-good (length (floatsOf f 4 v)) (length (floatsOf f 16 v)) (length (indicesOf f v t))
+            (omega (arith, c, floats-length f bytes v t e 4, floats-length f bytes v t e 16, indices-length f bytes v t e));
+        indices = none-some (noVertex (vertexCount (meshIn f v t))) 0 (indicesOf f v t)
+            (λ i l. lt-leb (vertexCount (meshIn f v t)) (getD (indicesOf f v t) i 0)
+            (subst (λ (x : ℕ). getD (indicesOf f v t) i 0 < x) (sym (read-vertices f bytes v t e)) (index-held f bytes v t e i l)));
         floats =
-            or-none (some notFinite (floatsOf f 4 v)) (some notFinite (floatsOf f 16 v)) (none-some notFinite nan (floatsOf f 4 v) (λ i l. ap not (is-true (finite (getD (floatsOf f 4 v) i nan)) (p i l .0))))
+            or-none (some notFinite (floatsOf f 4 v)) (some notFinite (floatsOf f 16 v))
+            (none-some notFinite nan (floatsOf f 4 v) (λ i l. ap not (is-true (finite (getD (floatsOf f 4 v) i nan)) (p i l .0))))
             (none-some notFinite nan (floatsOf f 16 v) (λ i l. ap not (is-true (finite (getD (floatsOf f 16 v) i nan)) (n i l .0))));
         positions-fit = λ i l. p i l .1;
         normals-fit = λ i l. n i l .1;

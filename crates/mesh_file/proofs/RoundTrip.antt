@@ -11,16 +11,17 @@ use lib.ListN.{length, getD, length-append}
 use lib.Seq.{take-all}
 use lib.Ieee.{Float, nan, binary32, ofBits}
 use lib.Ieee.Bits.{ofBits-toBits, toBits-lt, is-true}
-use Rattle.rules.specs.Lists.{some}
+use Rattle.lists.specs.Lists.{some}
 use Rattle.mesh_file.specs.Record.{wordAt, each}
-pub use Rattle.mesh_file.specs.Mesh.{AllFit}
+use Rattle.lists.specs.Floats.{Binary32}
 use Rattle.mesh_file.specs.Mesh.{Mesh, mesh, vertexCount, triangleCount, finite, AllFinite, bitsAt, vertexRecord, triangleRecord, closingRecord, fileOf, fileLength}
 use Rattle.mesh_file.specs.Reading.{finiteBits, threeFinite, foundAt, seen, whole, readOf, floatsAt, numbersAt, floatsOf, indicesOf, meshIn}
 use Rattle.mesh_file.specs.Writing.{badLists, noVertex, badIndices, notFinite, badFloats}
 use Rattle.mesh_record.proofs.Laying.{each-length}
 use Rattle.mesh_record.proofs.Recording.{record-length}
-use Rattle.mesh_record.proofs.Either.{or-left, or-right}
-use Rattle.mesh_file.proofs.Searching.{none-at, all-finite}
+use Rattle.lists.proofs.Either.{or-left, or-right}
+use Rattle.lists.proofs.Searching.{none-at}
+use Rattle.mesh_file.proofs.Searching.{all-finite}
 use Rattle.mesh_file.proofs.Answering.{Lengths, good-lengths}
 use Rattle.mesh_file.proofs.Steps.{vertex-step, triangle-step, closing-step, reads-whole}
 use Rattle.mesh_file.proofs.Parts.{part, part-left, part-right, each-part, each-of-parts, each-same, three-at, Holds, holds}
@@ -30,8 +31,8 @@ pub record Writable (m : Mesh) : Type 0 where
   pub lists : badLists m ≡ false
   pub indices : badIndices m ≡ false
   pub floats : badFloats m ≡ false
-  pub positions-fit : AllFit (m .positions)
-  pub normals-fit : AllFit (m .normals)
+  pub positions-fit : Binary32 (m .positions)
+  pub normals-fit : Binary32 (m .normals)
 
 -- ---- the parts of a written file
 
@@ -82,13 +83,13 @@ module _ (m : Mesh) where
 
 -- ---- its words
 
-bits-below : (xs : List Float) → AllFit xs → (i : ℕ) → i < length xs → bitsAt xs i < 2 ^ 32
+bits-below : (xs : List Float) → Binary32 xs → (i : ℕ) → i < length xs → bitsAt xs i < 2 ^ 32
 bits-below xs ok i l = toBits-lt binary32 (getD xs i nan) (ok i l)
 
-bits-read : (xs : List Float) → AllFit xs → (i : ℕ) → i < length xs → ofBits binary32 (bitsAt xs i) ≡ getD xs i nan
+bits-read : (xs : List Float) → Binary32 xs → (i : ℕ) → i < length xs → ofBits binary32 (bitsAt xs i) ≡ getD xs i nan
 bits-read xs ok i l = ofBits-toBits binary32 (getD xs i nan) (ok i l)
 
-bits-finite : (xs : List Float) → AllFit xs → AllFinite xs → (i : ℕ) → i < length xs → finiteBits (bitsAt xs i) ≡ true
+bits-finite : (xs : List Float) → Binary32 xs → AllFinite xs → (i : ℕ) → i < length xs → finiteBits (bitsAt xs i) ≡ true
 bits-finite xs ok fin i l = ap finite (bits-read xs ok i l) ∙ is-true (finite (getD xs i nan)) (fin i l)
 
 module _ (m : Mesh) (w : Writable m) where
@@ -105,7 +106,7 @@ module _ (m : Mesh) (w : Writable m) where
   index-below i l = leb-false (vertexCount m) (getD (m .indices) i 0) (none-at (noVertex (vertexCount m)) 0 (m .indices) (w .indices) i l)
 
   -- three floats of a vertex
-  module _ (xs : List Float) (ok : AllFit xs) (fin : AllFinite xs) (k : ℕ) (l : 3 * k + 3 ≤ length xs) where
+  module _ (xs : List Float) (ok : Binary32 xs) (fin : AllFinite xs) (k : ℕ) (l : 3 * k + 3 ≤ length xs) where
     in₀ : 3 * k < length xs
     in₀ = omega arith
 
@@ -119,26 +120,32 @@ module _ (m : Mesh) (w : Writable m) where
     three-finite = rw (bits-finite xs ok fin (3 * k) in₀, bits-finite xs ok fin (3 * k + 1) in₁, bits-finite xs ok fin (3 * k + 2) in₂) refl
 
   vertex-holds : (k : ℕ) → k < vertexCount m
-      → Holds (fileOf m) (32 * k) 1 (bitsAt (m .positions) (3 * k)) (bitsAt (m .positions) (3 * k + 1)) (bitsAt (m .positions) (3 * k + 2)) (bitsAt (m .normals) (3 * k)) (bitsAt (m .normals) (3 * k + 1)) (bitsAt (m .normals) (3 * k + 2))
+      → Holds (fileOf m) (32 * k) 1 (bitsAt (m .positions) (3 * k)) (bitsAt (m .positions) (3 * k + 1)) (bitsAt (m .positions) (3 * k + 2)) (bitsAt (m .normals) (3 * k))
+      (bitsAt (m .normals) (3 * k + 1)) (bitsAt (m .normals) (3 * k + 2))
   vertex-holds k l =
       let g = lengths in
       holds (fileOf m) (32 * k) 1 _ _ _ _ _ _ (vertex-part m k l) (omega arith)
-      (bits-below (m .positions) (w .positions-fit) (3 * k) (omega arith)) (bits-below (m .positions) (w .positions-fit) (3 * k + 1) (omega arith)) (bits-below (m .positions) (w .positions-fit) (3 * k + 2) (omega arith))
-      (bits-below (m .normals) (w .normals-fit) (3 * k) (omega (arith, g .same))) (bits-below (m .normals) (w .normals-fit) (3 * k + 1) (omega (arith, g .same))) (bits-below (m .normals) (w .normals-fit) (3 * k + 2) (omega (arith, g .same)))
+      (bits-below (m .positions) (w .positions-fit) (3 * k) (omega arith)) (bits-below (m .positions) (w .positions-fit) (3 * k + 1) (omega arith))
+      (bits-below (m .positions) (w .positions-fit) (3 * k + 2) (omega arith))
+      (bits-below (m .normals) (w .normals-fit) (3 * k) (omega (arith, g .same))) (bits-below (m .normals) (w .normals-fit) (3 * k + 1) (omega (arith, g .same)))
+      (bits-below (m .normals) (w .normals-fit) (3 * k + 2) (omega (arith, g .same)))
 
-  triangle-holds : (k : ℕ) → k < triangleCount m → Holds (fileOf m) (32 * (vertexCount m + k)) 2 (getD (m .indices) (3 * k) 0) (getD (m .indices) (3 * k + 1) 0) (getD (m .indices) (3 * k + 2) 0) 0 0 0
+  triangle-holds : (k : ℕ) → k < triangleCount m → Holds (fileOf m) (32 * (vertexCount m + k)) 2 (getD (m .indices) (3 * k) 0) (getD (m .indices) (3 * k + 1) 0)
+      (getD (m .indices) (3 * k + 2) 0) 0 0 0
   triangle-holds k l =
       let g = lengths in
       let few = g .few in
       let a = index-below (3 * k) (omega arith) in
       let b = index-below (3 * k + 1) (omega arith) in
       let c = index-below (3 * k + 2) (omega arith) in
-      holds (fileOf m) (32 * (vertexCount m + k)) 2 _ _ _ 0 0 0 (triangle-part m k l) (omega arith) (omega arith) (omega arith) (omega arith) (omega arith) (omega arith) (omega arith)
+      holds (fileOf m) (32 * (vertexCount m + k)) 2 _ _ _ 0 0 0 (triangle-part m k l) (omega arith) (omega arith) (omega arith) (omega arith) (omega arith) (omega arith)
+      (omega arith)
 
   closing-holds : Holds (fileOf m) (32 * (vertexCount m + triangleCount m)) 3 (vertexCount m) (triangleCount m) 0 0 0 0
   closing-holds =
       let g = lengths in
-      holds (fileOf m) (32 * (vertexCount m + triangleCount m)) 3 (vertexCount m) (triangleCount m) 0 0 0 0 (closing-part m) (omega arith) (g .few) (g .fewer) (omega arith) (omega arith) (omega arith) (omega arith)
+      holds (fileOf m) (32 * (vertexCount m + triangleCount m)) 3 (vertexCount m) (triangleCount m) 0 0 0 0 (closing-part m) (omega arith) (g .few) (g .fewer) (omega arith)
+      (omega arith) (omega arith) (omega arith)
 
   -- ---- its records
 
@@ -205,10 +212,12 @@ module _ (m : Mesh) (w : Writable m) where
   pub indices-length : length (m .indices) ≡ 3 * triangleCount m
   indices-length = let g = lengths in let h = g .sixes in omega arith
 
-  three-floats : (xs : List Float) → AllFit xs → (k : ℕ) → 3 * k + 3 ≤ length xs → (at : ℕ) → wordAt (fileOf m) at ≡ bitsAt xs (3 * k) → wordAt (fileOf m) (at + 4) ≡ bitsAt xs (3 * k + 1)
+  three-floats : (xs : List Float) → Binary32 xs → (k : ℕ) → 3 * k + 3 ≤ length xs → (at : ℕ) → wordAt (fileOf m) at ≡ bitsAt xs (3 * k) → wordAt (fileOf m) (at + 4) ≡ bitsAt xs
+      (3 * k + 1)
       → wordAt (fileOf m) (at + 8) ≡ bitsAt xs (3 * k + 2) → floatsAt (fileOf m) at ≡ part 3 (3 * k) xs
   three-floats xs ok k l at a b c =
-      rw (a, b, c) (rw (bits-read xs ok (3 * k) (omega arith), bits-read xs ok (3 * k + 1) (omega arith), bits-read xs ok (3 * k + 2) (omega arith)) (sym (three-at nan xs (3 * k) l)))
+      rw (a, b, c) (rw (bits-read xs ok (3 * k) (omega arith), bits-read xs ok (3 * k + 1) (omega arith), bits-read xs ok (3 * k + 2) (omega arith))
+      (sym (three-at nan xs (3 * k) l)))
 
   positions-back : floatsOf (fileOf m) 4 (vertexCount m) ≡ m .positions
   unfolding floatsOf

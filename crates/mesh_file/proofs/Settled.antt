@@ -5,16 +5,16 @@ use native.Mathlib.Omega.{arith}
 use mathlib.Core.Path.{_≡_, refl, sym, ap, _∙_}
 use mathlib.Core.Bool.{Bool, true, false, cond}
 use mathlib.Core.List.{List}
-use borrow.Author.Tests.{le-ltb, ne-eqb, eqb-true}
-use lib.Dec.{eqb}
+use borrow.Author.Tests.{le-ltb, ltb-false, ne-eqb}
+use lib.Dec.{ltb}
 use lib.ListN.{length, take, drop}
 use lib.Seq.{take-at, drop-at}
 use Rattle.mesh_file.specs.Mesh.{Mesh, vertexCount, triangleCount, Held, fileOf, fileLength}
-use Rattle.mesh_file.specs.Reading.{Progress, reading, whole, refused, readOf, readAnswer, checked, shortRoom, readingIn, meshIn, overMesh, filledIn}
-use Rattle.mesh_file.specs.Writing.{badLists, badIndices, badFloats, writeAnswer, wrote, writing, written}
+use Rattle.mesh_file.specs.Reading.{Progress, reading, whole, refused, readOf, readAnswer, checked, shortLists, shortRoom, readingIn, meshIn, overMesh, filledIn}
+use Rattle.mesh_file.specs.Writing.{writeAnswer, wrote, writing, written}
 use Rattle.mesh_file.specs.declared.Read.{Read}
-use Rattle.mesh_record.proofs.Either.{or-none}
-use Rattle.mesh_record.proofs.Told.{cond-zero}
+use Rattle.lists.proofs.Either.{or-none, or-left, or-right}
+use Rattle.mesh_file.proofs.Answering.{passed}
 use Rattle.mesh_file.proofs.History.{accepted}
 use Rattle.mesh_file.proofs.RoundTrip.{Writable, file-length, written-reads, written-same}
 
@@ -24,22 +24,10 @@ pub room-writes : (m : Mesh) → Writable m → (room : ℕ) → fileLength m �
 unfolding writeAnswer
 room-writes m w room h = rw (w .lists, w .indices, w .floats) (rw (le-ltb room (fileLength m) h) refl)
 
--- the answer 0 says that nothing was refused
-pub answered-zero : (m : Mesh) (room : ℕ) → writing m room .answer ≡ 0 → writeAnswer m room ≡ 0
-unfolding writing
-answered-zero m room = go (eqb (writeAnswer m room) 0) refl
-  where
-    go : (b : Bool) → eqb (writeAnswer m room) 0 ≡ b → cond b (wrote 0 (fileLength m)) (wrote (writeAnswer m room) 0) .answer ≡ 0 → writeAnswer m room ≡ 0
-    go true q e = eqb-true (writeAnswer m room) 0 q
-    go false q e = e
-
 pub zero-writable : (m : Mesh) → Held m → (room : ℕ) → writeAnswer m room ≡ 0 → Writable m
-unfolding writeAnswer
 zero-writable m held room e =
-    let e₁ = cond-zero (badLists m) 29 _ e in
-    let e₂ = cond-zero (badIndices m) 25 _ (e₁ .1) in
-    let e₃ = cond-zero (badFloats m) 26 _ (e₂ .1) in
-    record { lists = e₁ .0; indices = e₂ .0; floats = e₃ .0; positions-fit = held .0; normals-fit = held .1 }
+    let p = passed m room e in
+    record { lists = p .lists; indices = p .indices; floats = p .floats; positions-fit = held .0; normals-fit = held .1 }
 
 module _ (m : Mesh) (f : List ℕ) (e : writeAnswer m (length f) ≡ 0) where
   -- the written bytes are the definition's, and those past them are kept
@@ -56,10 +44,6 @@ module _ (m : Mesh) (f : List ℕ) (e : writeAnswer m (length f) ≡ 0) where
   bytes-counted = rw e refl
 
 module _ (m : Mesh) (f : List ℕ) (n : writeAnswer m (length f) ≡ 0 → ⊥) where
-  pub refused-writes-nothing : written m f ≡ f
-  unfolding written
-  refused-writes-nothing = rw (ne-eqb _ _ n) refl
-
   pub refused-counts-nothing : writing m (length f) ≡ wrote (writeAnswer m (length f)) 0
   unfolding writing
   refused-counts-nothing = rw (ne-eqb _ _ n) refl
@@ -89,6 +73,12 @@ module _ (f : List ℕ) (v t : ℕ) (s : Mesh) (e : readOf f ≡ whole v t) (roo
   pub room-fills : filledIn f (readOf f) s ≡ overMesh (meshIn f v t) s
   room-fills = rw e (rw room refl)
 
+-- a list that is not too short
+pub not-short : (v t p n i : ℕ) → shortLists v t p n i ≡ false → (3 * v ≤ p) × (3 * v ≤ n) × (3 * t ≤ i)
+not-short v t p n i h =
+    let h₂ = or-right (ltb p (3 * v)) _ h in
+    (ltb-false p (3 * v) (or-left (ltb p (3 * v)) _ h), ltb-false n (3 * v) (or-left (ltb n (3 * v)) _ h₂), ltb-false i (3 * t) (or-right (ltb n (3 * v)) _ h₂))
+
 -- lists as long as the counts ask
 pub room-enough : (v t : ℕ) (s : Mesh) → 3 * v ≤ length (s .positions) → 3 * v ≤ length (s .normals) → 3 * t ≤ length (s .indices) → shortRoom v t s ≡ false
 room-enough v t s a b c =
@@ -107,7 +97,8 @@ same-as-checked (whole v t) s e = rw (no-short v t s e) refl
 same-as-checked (refused n) s e = refl
 
 -- the answer 0 says that the file is whole and that there was room
-pub read-done : (f : List ℕ) (s : Mesh) (r : Read) → r ≡ readingIn (readOf f) s → r .answer ≡ 0 → (readOf f ≡ whole (r .vertices) (r .triangles)) × (shortRoom (r .vertices) (r .triangles) s ≡ false)
+pub read-done : (f : List ℕ) (s : Mesh) (r : Read) → r ≡ readingIn (readOf f) s → r .answer ≡ 0 → (readOf f ≡ whole (r .vertices) (r .triangles)) ×
+    (shortRoom (r .vertices) (r .triangles) s ≡ false)
 read-done f s r e z =
     let z′ : readingIn (readOf f) s .answer ≡ 0 = ap (λ (x : Read). x .answer) (sym e) ∙ z in
     let w = accepted f r (e ∙ same-as-checked (readOf f) s z′) z in

@@ -11,7 +11,25 @@ use lib.Dec.{ltb}
 use lib.ListN.{length, take, length-take}
 use lib.Seq.{getD-take}
 use Rattle.mesh_file.specs.Record.{wordAt}
-use Rattle.mesh_file.specs.Reading.{wordsAt, badSum, badKind, badZero, badCounts, badIndex, badFloat, badEnd, Found, foundAt, seen, reading, whole, refused, counted, after, readOf}
+use Rattle.mesh_file.specs.Reading.{
+  wordsAt,
+  badSum,
+  badKind,
+  badZero,
+  badCounts,
+  badIndex,
+  badFloat,
+  badEnd,
+  Found,
+  foundAt,
+  seen,
+  reading,
+  whole,
+  refused,
+  counted,
+  after,
+  readOf,
+}
 use Rattle.mesh_record.specs.declared.Seen.{Seen}
 use Rattle.mesh_record.proofs.OneStep.{found-cut}
 use Rattle.mesh_file.proofs.Progressing.{after-next, after-none, read-is}

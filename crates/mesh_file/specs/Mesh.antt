@@ -4,7 +4,8 @@ use Prim.Native.Nat.{ℕ, _+_, _*_, _/_, _<_}
 use mathlib.Core.List.{List, [], _∷_, _++_}
 use lib.Dec.{T}
 use lib.ListN.{length, getD}
-use lib.Ieee.{Float, nan, binary32, fits, toBits}
+use lib.Ieee.{Float, nan, binary32, toBits}
+use Rattle.lists.specs.Floats.{Binary32}
 use Rattle.mesh_file.specs.Record.{recordOf, each}
 unfoldable pub use Rattle.mesh_record.specs.Faults.{finite}
 
@@ -27,12 +28,9 @@ triangleCount m = length (m .indices) / 3
 abbrev pub AllFinite : List Float → Type 0
 AllFinite xs = (i : ℕ) → i < length xs → T (finite (getD xs i nan))
 
--- every float of a list is one that an f32 holds, and so of a mesh. It is true of every list of f32, and the contracts hand it on
-abbrev pub AllFit : List Float → Type 0
-AllFit xs = (i : ℕ) → i < length xs → T (fits binary32 (getD xs i nan))
-
+-- the floats of a mesh are binary32 values. It is true of every list of f32, and the contracts hand it on
 abbrev pub Held : Mesh → Type 0
-Held m = AllFit (m .positions) × AllFit (m .normals)
+Held m = Binary32 (m .positions) × Binary32 (m .normals)
 
 -- the word of the float at a place of a list
 abbrev pub bitsAt : List Float → ℕ → ℕ

@@ -6,7 +6,7 @@ use mathlib.Core.List.{List, [], _∷_}
 use lib.Dec.{T, ltb, eqb}
 use lib.ListN.{length, getD}
 use lib.Ieee.{Float, binary32, ofBits}
-use Rattle.rules.specs.Lists.{over}
+use Rattle.lists.specs.Lists.{over}
 unfoldable pub use Rattle.mesh_record.specs.Faults.{badSum, badKind, badZero, badCounts, badIndex, badFloat, badEnd, faultOf, foundAt}
 pub use Rattle.mesh_record.specs.Faults.{wordsAt, cut, allZero, finiteBits, threeFinite, Found, good, faulty, numbersOf, foundOf, seen}
 use Rattle.mesh_file.specs.Record.{wordAt, each}
@@ -56,14 +56,20 @@ checked (reading v t) = readAnswer 21 0 0
 checked (whole v t) = readAnswer 0 v t
 checked (refused n) = readAnswer n 0 0
 
--- "last of all, 29 lent room too short"
+-- "last of all, 29 lent room too short", by the lists' lengths
+abbrev pub shortLists : ℕ → ℕ → ℕ → ℕ → ℕ → Bool
+shortLists v t p n i = ltb p (3 * v) || (ltb n (3 * v) || ltb i (3 * t))
+
 abbrev pub shortRoom : ℕ → ℕ → Mesh → Bool
-shortRoom v t s = ltb (length (s .positions)) (3 * v) || (ltb (length (s .normals)) (3 * v) || ltb (length (s .indices)) (3 * t))
+shortRoom v t s = shortLists v t (length (s .positions)) (length (s .normals)) (length (s .indices))
+
+abbrev pub readingWith : Progress → ℕ → ℕ → ℕ → Read
+readingWith (reading v t) p n i = readAnswer 21 0 0
+readingWith (whole v t) p n i = cond (shortLists v t p n i) (readAnswer 29 0 0) (readAnswer 0 v t)
+readingWith (refused a) p n i = readAnswer a 0 0
 
 abbrev pub readingIn : Progress → Mesh → Read
-readingIn (reading v t) s = readAnswer 21 0 0
-readingIn (whole v t) s = cond (shortRoom v t s) (readAnswer 29 0 0) (readAnswer 0 v t)
-readingIn (refused n) s = readAnswer n 0 0
+readingIn x s = readingWith x (length (s .positions)) (length (s .normals)) (length (s .indices))
 
 -- three floats, and three numbers, from a place on
 abbrev pub floatsAt : List ℕ → ℕ → List Float
@@ -74,7 +80,8 @@ numbersAt f at = wordAt f at ∷ wordAt f (at + 4) ∷ wordAt f (at + 8) ∷ []
 
 -- the three floats at a place of each of the first v records are finite
 abbrev pub FiniteFloats : List ℕ → ℕ → ℕ → Type 0
-FiniteFloats f first v = (k : ℕ) → k < v → T (finiteBits (wordAt f (32 * k + first))) × T (finiteBits (wordAt f (32 * k + first + 4))) × T (finiteBits (wordAt f (32 * k + first + 8)))
+FiniteFloats f first v = (k : ℕ) → k < v → T (finiteBits (wordAt f (32 * k + first))) × T (finiteBits (wordAt f (32 * k + first + 4))) × T
+    (finiteBits (wordAt f (32 * k + first + 8)))
 
 -- the floats at a place of each of the first v records, and the indices of the t records after them
 unfoldable pub floatsOf : List ℕ → ℕ → ℕ → List Float

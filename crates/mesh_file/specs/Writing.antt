@@ -6,7 +6,7 @@ use mathlib.Core.List.{List}
 use lib.Dec.{leb, ltb, eqb}
 use lib.ListN.{length}
 use lib.Ieee.{Float}
-use Rattle.rules.specs.Lists.{some, over}
+use Rattle.lists.specs.Lists.{some, over}
 use Rattle.mesh_file.specs.Mesh.{Mesh, vertexCount, finite, fileOf, fileLength}
 use Rattle.mesh_file.specs.declared.Wrote.{Wrote}
 

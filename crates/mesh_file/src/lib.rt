@@ -1,25 +1,19 @@
 // Meshes as files that survive a power cut (document 02, request 2): 32-byte records, each with the sum of its words, and a closing
 // record. The writer and the reader check everything before they write anything.
-mod lists;
+mod fills;
 mod writer;
 
 ghost use mathlib.Core.Path.{_≡_};
 ghost use lib.ListN.{length, drop};
 ghost use Rattle.mesh_file.specs.Mesh.{mesh, Held};
-ghost use Rattle.mesh_file.specs.Reading.{Bytes, numbersOf, foundAt, readAnswer, checked, readOf, readingIn, filledIn};
+ghost use Rattle.mesh_file.specs.Reading.{Bytes, numbersOf, foundAt, readAnswer, checked, readOf, readingWith, readingIn, filledIn};
 ghost use Rattle.mesh_file.specs.Writing.{writing, written};
-use lists::fill_floats;
-use lists::fill_indices;
+use fills::fill_all;
 pub use mesh_record::Seen;
 pub use mesh_record::Step;
 use mesh_record::step_at;
-use mesh_record::write_record;
-use writer::bad_lengths;
-use writer::not_written;
-use writer::some_not_finite;
-use writer::some_without_vertex;
-use writer::write_triangles;
-use writer::write_vertices;
+use writer::write_all;
+use writer::write_answer;
 
 // The reader's answer number, and the mesh's counts.
 pub struct Read {
@@ -136,6 +130,27 @@ pub fn check_file(file: &[u8]) -> Read
     Reader::new(file).check()
 }
 
+// The answer to a file read into lists of these lengths: its own, or 29 where it is whole and one list is too short.
+fn read_answer(file: &[u8], positions: usize, normals: usize, indices: usize) -> Read
+    ensures { λ r. ⌜ r ≡ readingWith (readOf (now (file .entry))) positions normals indices ⌝ }
+{
+    let checked = check_file(file);
+    let answer = checked.answer;
+    if answer != 0 {
+        return checked;
+    }
+    if positions / 3 < checked.vertices {
+        return refusal(29);
+    }
+    if normals / 3 < checked.vertices {
+        return refusal(29);
+    }
+    if indices / 3 < checked.triangles {
+        return refusal(29);
+    }
+    checked
+}
+
 // ---- the writer
 
 // Writes the file of a mesh over the start of the lent one. Answers 30, 26, 27 and 29, in this order, write nothing.
@@ -144,28 +159,13 @@ pub fn write_mesh(positions: &[f32], normals: &[f32], indices: &[u32], file: &mu
     ensures { λ _. ⌜ now (file .exit) ≡ written (mesh (now (positions .entry)) (now (normals .entry)) (now (indices .entry))) (now (file .entry)) ⌝ }
     ensures { λ _. ⌜ Held (mesh (now (positions .entry)) (now (normals .entry)) (now (indices .entry))) ⌝ }
 {
-    if bad_lengths(positions.len(), normals.len(), indices.len()) {
-        return not_written(30);
+    let told = write_answer(positions, normals, indices, file.len());
+    let answer = told.answer;
+    if answer != 0 {
+        return told;
     }
-    let v = positions.len() / 3;
-    let t = indices.len() / 3;
-    if some_without_vertex(indices, v) {
-        return not_written(26);
-    }
-    if some_not_finite(positions) {
-        return not_written(27);
-    }
-    if some_not_finite(normals) {
-        return not_written(27);
-    }
-    let bytes = 32 * (v + t + 1);
-    if file.len() < bytes {
-        return not_written(29);
-    }
-    write_vertices(positions, normals, v, file);
-    write_triangles(indices, t, file, 32 * v);
-    write_record(file, 32 * v + 32 * t, 3, v as u32, t as u32, 0, 0, 0, 0);
-    Wrote { answer: 0, bytes }
+    write_all(positions, normals, indices, file);
+    told
 }
 
 // ---- the reader's answer
@@ -182,24 +182,18 @@ pub fn read_mesh(
         ≡ filledIn (now (file .entry)) (readOf (now (file .entry))) (mesh (now (positions .entry)) (now (normals .entry)) (now (indices .entry))) ⌝ }
     ensures { λ _. ⌜ Bytes (now (file .entry)) ⌝ }
 {
-    let checked = check_file(file);
-    let answer = checked.answer;
+    let told = read_answer(file, positions.len(), normals.len(), indices.len());
+    let answer = told.answer;
     if answer != 0 {
-        return checked;
+        return told;
     }
-    let v = checked.vertices;
-    let t = checked.triangles;
-    if positions.len() / 3 < v {
-        return refusal(29);
-    }
-    if normals.len() / 3 < v {
-        return refusal(29);
-    }
-    if indices.len() / 3 < t {
-        return refusal(29);
-    }
-    fill_floats(file, 4, v, positions);
-    fill_floats(file, 16, v, normals);
-    fill_indices(file, v, t, indices);
-    checked
+    fill_all(
+        file,
+        told.vertices,
+        told.triangles,
+        positions,
+        normals,
+        indices,
+    );
+    told
 }

@@ -4,10 +4,10 @@ ghost use Prim.Native.Nat.{_+_, _*_, _<_, _≤_};
 ghost use lib.Dec.{T};
 ghost use lib.ListN.{length, getD};
 ghost use lib.Ieee.{nan};
-ghost use Rattle.rules.specs.Lists.{some};
+ghost use Rattle.lists.specs.Lists.{some, over};
 ghost use Rattle.mesh_file.specs.Record.{each, laid};
-ghost use Rattle.mesh_file.specs.Mesh.{finite, AllFinite, bitsAt, vertexWords, vertexRecord, triangleRecord};
-ghost use Rattle.mesh_file.specs.Writing.{badLengths, noVertex, notFinite, wrote};
+ghost use Rattle.mesh_file.specs.Mesh.{mesh, finite, AllFinite, bitsAt, vertexWords, vertexRecord, triangleRecord, fileOf};
+ghost use Rattle.mesh_file.specs.Writing.{badLengths, noVertex, notFinite, wrote, writeAnswer, writing};
 use crate::Wrote;
 use mesh_record::finite_bits;
 use mesh_record::write_record;
@@ -48,7 +48,7 @@ fn write_vertex(positions: &[f32], normals: &[f32], i: usize, file: &mut [u8], a
     write_record(file, at, 1, a, b, c, d, e, f);
 }
 
-pub(crate) fn write_vertices(positions: &[f32], normals: &[f32], n: usize, file: &mut [u8])
+fn write_vertices(positions: &[f32], normals: &[f32], n: usize, file: &mut [u8])
     requires { ⌜ 3 * n ≤ length (now positions) ⌝ }
     requires { ⌜ 3 * n ≤ length (now normals) ⌝ }
     requires { ⌜ AllFinite (now positions) ⌝ }
@@ -62,7 +62,7 @@ pub(crate) fn write_vertices(positions: &[f32], normals: &[f32], n: usize, file:
 }
 
 // The records of n triangles, from a place of the file on.
-pub(crate) fn write_triangles(indices: &[u32], n: usize, file: &mut [u8], at: usize)
+fn write_triangles(indices: &[u32], n: usize, file: &mut [u8], at: usize)
     requires { ⌜ 3 * n ≤ length (now indices) ⌝ }
     requires { ⌜ at + 32 * n ≤ length (now file) ⌝ }
     ensures { λ _. ⌜ now (file .exit) ≡ laid (each (triangleRecord (now (indices .entry))) n) at (now (file .entry)) ⌝ }
@@ -83,9 +83,21 @@ pub(crate) fn write_triangles(indices: &[u32], n: usize, file: &mut [u8], at: us
     }
 }
 
+// All records of a mesh that the writer accepts, over the start of the lent file.
+pub(crate) fn write_all(positions: &[f32], normals: &[f32], indices: &[u32], file: &mut [u8])
+    requires { ⌜ writeAnswer (mesh (now positions) (now normals) (now indices)) (length (now file)) ≡ 0 ⌝ }
+    ensures { λ _. ⌜ now (file .exit) ≡ over (fileOf (mesh (now (positions .entry)) (now (normals .entry)) (now (indices .entry)))) (now (file .entry)) ⌝ }
+{
+    let v = positions.len() / 3;
+    let t = indices.len() / 3;
+    write_vertices(positions, normals, v, file);
+    write_triangles(indices, t, file, 32 * v);
+    write_record(file, 32 * v + 32 * t, 3, v as u32, t as u32, 0, 0, 0, 0);
+}
+
 // ---- the tests before
 
-pub(crate) fn bad_lengths(positions: usize, normals: usize, indices: usize) -> bool
+fn bad_lengths(positions: usize, normals: usize, indices: usize) -> bool
     ensures { λ r. ⌜ r ≡ badLengths positions normals indices ⌝ }
 {
     (positions % 3 != 0)
@@ -102,7 +114,7 @@ fn no_vertex(vertices: usize, index: u32) -> bool
     vertices <= index as usize
 }
 
-pub(crate) fn some_without_vertex(indices: &[u32], vertices: usize) -> bool
+fn some_without_vertex(indices: &[u32], vertices: usize) -> bool
     ensures { λ r. ⌜ r ≡ some (noVertex vertices) (now (indices .entry)) ⌝ }
 {
     let mut i = 0;
@@ -115,7 +127,7 @@ pub(crate) fn some_without_vertex(indices: &[u32], vertices: usize) -> bool
     false
 }
 
-pub(crate) fn some_not_finite(xs: &[f32]) -> bool
+fn some_not_finite(xs: &[f32]) -> bool
     ensures { λ r. ⌜ r ≡ some notFinite (now (xs .entry)) ⌝ }
 {
     let mut i = 0;
@@ -128,8 +140,38 @@ pub(crate) fn some_not_finite(xs: &[f32]) -> bool
     false
 }
 
-pub(crate) fn not_written(answer: u32) -> Wrote
+fn not_written(answer: u32) -> Wrote
     ensures { λ r. ⌜ r ≡ wrote answer 0 ⌝ }
 {
     Wrote { answer, bytes: 0 }
+}
+
+// The answer to a mesh written into so much room: 30, 26, 27 and 29 in this order, or 0 with the file's length.
+pub(crate) fn write_answer(
+    positions: &[f32],
+    normals: &[f32],
+    indices: &[u32],
+    room: usize,
+) -> Wrote
+    ensures { λ r. ⌜ r ≡ writing (mesh (now (positions .entry)) (now (normals .entry)) (now (indices .entry))) room ⌝ }
+{
+    if bad_lengths(positions.len(), normals.len(), indices.len()) {
+        return not_written(30);
+    }
+    let v = positions.len() / 3;
+    let t = indices.len() / 3;
+    if some_without_vertex(indices, v) {
+        return not_written(26);
+    }
+    if some_not_finite(positions) {
+        return not_written(27);
+    }
+    if some_not_finite(normals) {
+        return not_written(27);
+    }
+    let bytes = 32 * (v + t + 1);
+    if room < bytes {
+        return not_written(29);
+    }
+    Wrote { answer: 0, bytes }
 }

@@ -8,7 +8,7 @@ use mathlib.Core.Path.{_≡_, refl, sym, ap, _∙_}
 use mathlib.Core.List.{List, [], _∷_, _++_, append-assoc}
 use lib.ListN.{length, take, drop, set, length-append, length-take, take-append-drop}
 use lib.Seq.{sets, sets-eq, take-at, drop-append-add, drop-drop}
-use Rattle.rules.specs.Lists.{over}
+use Rattle.lists.specs.Lists.{over}
 use Rattle.mesh_record.specs.Record.{each, laid}
 
 module _ {A : Type 0} where
@@ -28,7 +28,8 @@ module _ {A : Type 0} where
   pub laid-laid : (a b : List A) (at : ℕ) (old : List A) → at ≤ length old → laid b (at + length a) (laid a at old) ≡ laid (a ++ b) at old
   laid-laid a b at old h =
       let n : length (take at old ++ a) ≡ at + length a = simp (length-append, length-take) (omega arith) in
-      let t : take (at + length a) (take at old ++ (a ++ drop (at + length a) old)) ≡ take at old ++ a = rw (← append-assoc) (take-at (take at old ++ a) (drop (at + length a) old) (at + length a) n) in
+      let t : take (at + length a) (take at old ++ (a ++ drop (at + length a) old)) ≡ take at old ++ a = rw (← append-assoc)
+      (take-at (take at old ++ a) (drop (at + length a) old) (at + length a) n) in
       let d : drop (at + length a + length b) (take at old ++ (a ++ drop (at + length a) old)) ≡ drop (at + length (a ++ b)) old =
       rw (← append-assoc, ← n, drop-append-add, drop-drop) (rw (n, length-append, add-assoc) refl) in
       rw (t, d) (simp append-assoc)

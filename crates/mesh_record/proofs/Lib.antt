@@ -1,5 +1,4 @@
 -- The laws that belong to no one function.
-pub mod Either
 pub mod OneWord
 pub mod Laying
 pub mod Recording

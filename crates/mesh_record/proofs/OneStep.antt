@@ -9,7 +9,7 @@ use mathlib.Core.List.{List}
 use borrow.Author.Tests.{lt-ltb, le-ltb, eq-eqb, ne-eqb}
 use lib.Dec.{ltb, eqb}
 use lib.ListN.{length}
-use Rattle.rules.proofs.Tests.{less-or-not}
+use Rattle.lists.proofs.Tests.{less-or-not}
 use Rattle.mesh_record.specs.Faults.{wordsAt, faultOf, Found, good, faulty, numbersOf, Known, foundOf, foundAt}
 use Rattle.mesh_record.specs.declared.Words.{Words}
 use Rattle.mesh_record.specs.declared.Seen.{Seen}

@@ -3,7 +3,7 @@ use Prim.Native.Nat.{ℕ, _+_, _≤_}
 use mathlib.Core.Path.{_≡_, refl, sym, ap, _∙_}
 use mathlib.Core.List.{List, [], _∷_, _++_, append-assoc, append-nil}
 use lib.ListN.{length}
-use Rattle.rules.specs.Lists.{joined}
+use Rattle.lists.specs.Lists.{joined}
 use Rattle.mesh_record.specs.Record.{bytesOf, sumOf, recordOf, laid}
 use Rattle.mesh_record.proofs.Laying.{laid-after}
 

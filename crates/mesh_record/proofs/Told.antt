@@ -9,11 +9,29 @@ use borrow.Author.Tests.{eq-eqb, eqb-true, ltb-false, le-ltb, not-false}
 use lib.Dec.{ltb, eqb}
 use lib.ListN.{length}
 use Rattle.mesh_record.specs.Record.{wordAt, sumOf}
-use Rattle.mesh_record.specs.Faults.{wordsAt, badSum, badKind, allZero, badZero, badCounts, badIndex, threeFinite, badFloat, badEnd, faultOf, Found, good, faulty, Known, foundOf, foundAt}
+use Rattle.mesh_record.specs.Faults.{
+  wordsAt,
+  badSum,
+  badKind,
+  allZero,
+  badZero,
+  badCounts,
+  badIndex,
+  threeFinite,
+  badFloat,
+  badEnd,
+  faultOf,
+  Found,
+  good,
+  faulty,
+  Known,
+  foundOf,
+  foundAt,
+}
 use Rattle.mesh_record.specs.declared.Words.{Words}
 use Rattle.mesh_record.specs.declared.Seen.{Seen}
 use Rattle.mesh_record.proofs.OneStep.{kind-whole}
-use Rattle.mesh_record.proofs.Either.{or-left, or-right}
+use Rattle.lists.proofs.Either.{or-left, or-right}
 
 -- ---- tests that passed and failed
 
@@ -177,7 +195,8 @@ closing-told f at s e =
       length = omega arith;
       kind = k;
       sum = sum-told f at (g .faultless .sum);
-      zeros = not-false _ (second-false (eqb (wordAt f at) 3) _ t (or-right (eqb (wordAt f at) 2 && not (allZero 0 (wordAt f (at + 16)) (wordAt f (at + 20)) (wordAt f (at + 24)))) _ (g .faultless .zero)));
+      zeros = not-false _ (second-false (eqb (wordAt f at) 3) _ t
+          (or-right (eqb (wordAt f at) 2 && not (allZero 0 (wordAt f (at + 16)) (wordAt f (at + 20)) (wordAt f (at + 24)))) _ (g .faultless .zero)));
       vertices = eqb-true _ _ (both-left _ _ c);
       triangles = eqb-true _ _ (both-right (eqb (wordAt f (at + 4)) (s .vertices)) _ c);
     }

@@ -3,7 +3,7 @@
 use Prim.Native.Nat.{ℕ, zero, suc, _+_, _*_, _/_, _%_, _^_}
 use mathlib.Core.List.{List, [], _∷_, _++_}
 use lib.ListN.{length, getD, take, drop}
-use Rattle.rules.specs.Lists.{joined}
+use Rattle.lists.specs.Lists.{joined}
 
 -- the four bytes of a word, the lowest first
 unfoldable pub bytesOf : ℕ → List ℕ

@@ -5,9 +5,26 @@ ghost use mathlib.Core.List.{[], _∷_};
 ghost use Prim.Native.Nat.{_+_, _%_, _^_, _<_, _≤_};
 ghost use lib.Dec.{eqb, ltb};
 ghost use lib.ListN.{length};
-ghost use Rattle.rules.specs.Lists.{joined};
+ghost use Rattle.lists.specs.Lists.{joined};
 ghost use Rattle.mesh_record.specs.Record.{bytesOf, wordAt, sumOf, recordOf, laid};
-ghost use Rattle.mesh_record.specs.Faults.{wordsAt, badSum, badKind, allZero, badZero, badCounts, badIndex, finiteBits, threeFinite, badFloat, badEnd, faultOf, numbersOf, Known, foundOf, foundAt};
+ghost use Rattle.mesh_record.specs.Faults.{
+  wordsAt,
+  badSum,
+  badKind,
+  allZero,
+  badZero,
+  badCounts,
+  badIndex,
+  finiteBits,
+  threeFinite,
+  badFloat,
+  badEnd,
+  faultOf,
+  numbersOf,
+  Known,
+  foundOf,
+  foundAt,
+};
 
 // The eight words of a record.
 pub struct Words {

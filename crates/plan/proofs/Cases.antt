@@ -10,7 +10,7 @@ use lib.Dec.{T, leb, ltb, eqb, leb→le, eqb→eq}
 use lib.Ieee.Fits.{and-l, and-r}
 use lib.ListN.{length, getD, replicate}
 use Rattle.rules.specs.Cutting.{Plan}
-use Rattle.rules.specs.Lists.{some}
+use Rattle.lists.specs.Lists.{some}
 use Rattle.plan.specs.declared.Block.{Block}
 use Rattle.plan.specs.declared.progress.Progress.{Progress}
 use Rattle.plan.specs.Plan.{piece, block, badPiece, Checks}

@@ -8,12 +8,12 @@ use mathlib.Core.Path.{_≡_, refl, sym, ap, subst, _∙_}
 use lib.Dec.{T}
 use lib.Ieee.Fits.{and-i, and-l, and-r}
 use lib.ListN.{length, getD}
-use Rattle.rules.specs.Lists.{one, keep, many}
+use Rattle.lists.specs.Lists.{one, keep, many}
 use Rattle.rules.specs.Grid.{GridPoint, Box, samePoint, isCell}
 use Rattle.rules.specs.Vertices.{cells}
-use Rattle.rules.proofs.Tests.{same-test, is-test, one-of, one-not, one-most, one-positive}
-use Rattle.rules.proofs.Lists.{All, none, more, all-each, total, total-same, total-plus, many-total, many-same, many-keep, many-with, many-some, many-none, length-keep}
-use Rattle.rules.proofs.Permutation.{Perm, perm-length, perm-counts}
+use Rattle.lists.proofs.Tests.{same-test, is-test, one-of, one-not, one-most, one-positive}
+use Rattle.lists.proofs.Lists.{All, none, more, all-each, total, total-same, total-plus, many-total, many-same, many-keep, many-with, many-some, many-none, length-keep}
+use Rattle.lists.proofs.Permutation.{Perm, perm-length, perm-counts}
 use Rattle.rules.proofs.Counting.{samePoint-sound, samePoint-itself, samePoint-moves, cells-once}
 use Rattle.grid.proofs.Order.{box-ends, box-length}
 

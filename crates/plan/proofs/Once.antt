@@ -5,7 +5,7 @@ use mathlib.Core.List.{List}
 use mathlib.Core.Path.{_≡_, sym, _∙_}
 use lib.Dec.{T}
 use Rattle.rules.specs.Cutting.{Piece}
-use Rattle.rules.proofs.Tests.{same-test}
+use Rattle.lists.proofs.Tests.{same-test}
 use Rattle.plan.specs.Plan.{Checks}
 
 module _ (ps : List Piece) (w : Piece) where

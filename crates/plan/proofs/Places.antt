@@ -8,9 +8,9 @@ use mathlib.Core.Path.{_≡_, refl, ap, ap₂, _∙_}
 use lib.Dec.{T}
 use lib.Ieee.Bits.{is-false}
 use lib.ListN.{length, getD}
-use Rattle.rules.specs.Lists.{some}
-use Rattle.rules.proofs.Tests.{or-first, or-second}
-use Rattle.rules.proofs.Lists.{total}
+use Rattle.lists.specs.Lists.{some}
+use Rattle.lists.proofs.Tests.{or-first, or-second}
+use Rattle.lists.proofs.Lists.{total}
 
 pub at-map : {A B : Type 0} (f : A → B) (l : List A) (i : ℕ) (d : A) (e : B) → i < length l → getD (map f l) i e ≡ f (getD l i d)
 at-map f [] i d e h = absurd (omega arith)

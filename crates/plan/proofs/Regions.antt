@@ -8,12 +8,12 @@ use mathlib.Core.Logic.{_⊎_, inl, inr}
 use mathlib.Core.Path.{_≡_, refl, sym, ap, _∙_}
 use lib.Dec.{T, leb, ltb, eqb, leb→le, le→leb, ltb→lt, lt→ltb, eqb→eq, nleb→lt, T-not, not-T}
 use lib.Ieee.Fits.{and-i, and-l, and-r, eq→eqb}
-use Rattle.rules.specs.Lists.{one, many}
-use Rattle.rules.specs.Grid.{GridPoint, Axis, axisX, axisY, axisZ, Box, below, isCell}
+use Rattle.lists.specs.Lists.{one, many, below}
+use Rattle.rules.specs.Grid.{GridPoint, Axis, axisX, axisY, axisZ, Box, isCell}
 use Rattle.rules.specs.Faces.{Edge, edge}
 use Rattle.rules.specs.Cutting.{Piece, Plan}
-use Rattle.rules.proofs.Tests.{same-test, less-or-not, below-low, below-high, below-in, nor-left, nor-right, nor-both}
-use Rattle.rules.proofs.Lists.{all-each, many-map, many-same}
+use Rattle.lists.proofs.Tests.{same-test, less-or-not, below-low, below-high, below-in, nor-left, nor-right, nor-both}
+use Rattle.lists.proofs.Lists.{all-each, many-map, many-same}
 use Rattle.rules.proofs.Ownership.{side, has, owned-sides}
 use Rattle.plan.specs.declared.Block.{Block}
 use Rattle.plan.specs.declared.region.Span.{Span}

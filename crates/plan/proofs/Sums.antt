@@ -7,7 +7,7 @@ use mathlib.Core.Bool.{Bool, true, false, not, _&&_, _||_, cond}
 use mathlib.Core.Path.{_≡_, sym, ap, _∙_}
 use lib.Dec.{T, ltb, eqb, eqb→eq, nltb→le}
 use lib.Ieee.Fits.{and-i, and-l, and-r, eq→eqb}
-use Rattle.rules.proofs.Tests.{nor-left, nor-right}
+use Rattle.lists.proofs.Tests.{nor-left, nor-right}
 use Rattle.plan.specs.declared.Block.{Block}
 use Rattle.plan.specs.declared.region.Region.{Region}
 use Rattle.plan.specs.declared.region.Owned.{Owned}

@@ -10,11 +10,11 @@ use lib.Dec.{T, T-not}
 use lib.Ieee.Bits.{is-true, is-false}
 use lib.Ieee.Fits.{and-i, and-l, and-r}
 use lib.ListN.{length, getD, length-map}
-use Rattle.rules.specs.Lists.{some}
+use Rattle.lists.specs.Lists.{some}
 use Rattle.rules.specs.Grid.{Axis, axisX, axisY, axisZ}
 use Rattle.rules.specs.Cutting.{Plan}
-use Rattle.rules.proofs.Tests.{less-or-not, or-second}
-use Rattle.rules.proofs.Lists.{total}
+use Rattle.lists.proofs.Tests.{less-or-not, or-second}
+use Rattle.lists.proofs.Lists.{total}
 use Rattle.plan.specs.declared.Block.{Block}
 use Rattle.plan.specs.declared.PlanAnswer.{PlanAnswer}
 use Rattle.plan.specs.declared.size.Sum.{Sum}

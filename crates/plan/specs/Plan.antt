@@ -6,7 +6,7 @@ use mathlib.Core.List.{List}
 use mathlib.Core.Path.{_≡_}
 use lib.Dec.{T, ltb}
 use lib.ListN.{length}
-use Rattle.rules.specs.Lists.{some}
+use Rattle.lists.specs.Lists.{some}
 use Rattle.rules.specs.Grid.{Box}
 use Rattle.rules.specs.Cutting.{Piece, Plan}
 use Rattle.plan.specs.declared.Block.{Block}

@@ -6,11 +6,11 @@ use mathlib.Core.Bool.{true}
 use mathlib.Core.List.{List, map}
 use mathlib.Core.Path.{_≡_}
 use lib.Ieee.{Float}
-use Rattle.rules.specs.Lists.{joined}
+use Rattle.lists.specs.Lists.{joined}
 use Rattle.rules.specs.Grid.{Field}
 use Rattle.rules.specs.Cutting.{Piece}
-use Rattle.rules.proofs.Lists.{All}
-use Rattle.rules.proofs.Permutation.{Perm}
+use Rattle.lists.proofs.Lists.{All}
+use Rattle.lists.proofs.Permutation.{Perm}
 use Rattle.grid.specs.declared.Extent.{Extent}
 use Rattle.plan.specs.declared.Block.{Block}
 use Rattle.plan.specs.Plan.{piece, Checks}

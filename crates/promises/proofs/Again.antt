@@ -10,17 +10,17 @@ use mathlib.Core.Path.{_≡_, refl, sym, ap, _∙_}
 use lib.Dec.{T, nltb→le}
 use lib.Ieee.Bits.{is-true}
 use lib.ListN.{length, getD}
-use Rattle.rules.specs.Lists.{placed}
+use Rattle.lists.specs.Lists.{placed}
 use Rattle.rules.specs.Grid.{GridPoint, pointAt, isCell, inBox}
 use Rattle.rules.specs.Vertices.{nullVertex, cellEntry, edgeEntry, mapEntry}
 use Rattle.rules.specs.Call.{Call, Buffers, room, answer, written}
-use Rattle.rules.proofs.Tests.{is-false, less-or-not}
-use Rattle.rules.proofs.Lists.{length-placed, getD-placed}
+use Rattle.lists.proofs.Tests.{is-false, less-or-not}
+use Rattle.lists.proofs.Lists.{length-placed, getD-placed}
 use Rattle.rules.proofs.Indexes.{box-fits, cell-in-box}
 use Rattle.rules.proofs.Accepted.{done-accepted}
 use Rattle.rules.proofs.Locality.{Alike, SameWritten, map-at}
 use Rattle.judge.proofs.Judging.{done-enough}
-use Rattle.whole_box.specs.Reading.{Roomy}
+use Rattle.whole_box.specs.LentLists.{Roomy}
 use Rattle.whole_box.specs.Layers.{lastAt, writtenTo, madeTo, Written}
 use Rattle.whole_box.proofs.Map.{outside}
 use Rattle.whole_box.proofs.Steps.{written-all, written-lengths}

@@ -8,11 +8,11 @@ use lib.Dec.{T}
 use lib.Ieee.{Float, nan, binary32, fits}
 use lib.ListN.{length, getD, length-map, drop, List·getD-map}
 use Rattle.rules.specs.Grid.{GridPoint, index, inBox, value}
-use Rattle.rules.specs.Lists.{over}
+use Rattle.lists.specs.Lists.{over}
 use Rattle.rules.specs.Cell.{Vector}
 use Rattle.rules.specs.Vertices.{vertices, vertexPosition, vertexNormal}
 use Rattle.rules.specs.Call.{Call, Buffers, vertexCount, flatPoints, flatVectors, written}
-use Rattle.rules.proofs.Lists.{all-at, by-threes}
+use Rattle.lists.proofs.Lists.{all-at, by-threes}
 use Rattle.rules.proofs.Indexes.{index-below}
 use Rattle.rules.proofs.Inside.{vertices-all}
 use Rattle.rules.proofs.Accepted.{Accepted}
@@ -39,7 +39,8 @@ points-at vs old v k =
 vectors-at : (f : GridPoint → Vector) (vs : List GridPoint) (old : List Float) (v : ℕ) → v < length vs
     → ThreeAt (λ (w : Vector). w .x) (λ (w : Vector). w .y) (λ (w : Vector). w .z) (over (flatVectors (map f vs)) old) v nan (f (getD vs v origin))
 vectors-at f vs old v k =
-    three-over (λ (w : Vector). w .x) (λ (w : Vector). w .y) (λ (w : Vector). w .z) (flatVectors (map f vs)) (drop (length (flatVectors (map f vs))) old) v nan (f (getD vs v origin))
+    three-over (λ (w : Vector). w .x) (λ (w : Vector). w .y) (λ (w : Vector). w .z) (flatVectors (map f vs)) (drop (length (flatVectors (map f vs))) old) v nan
+    (f (getD vs v origin))
     (omega (arith, length-vectors f vs))
     (subst (ThreeAt (λ (w : Vector). w .x) (λ (w : Vector). w .y) (λ (w : Vector). w .z) (flatVectors (map f vs)) v nan) (List·getD-map f vs v origin)
     (three-at (λ (w : Vector). w .x) (λ (w : Vector). w .y) (λ (w : Vector). w .z) (map f vs) v nan (f origin) (rw (length-map vs f) k)))
@@ -88,7 +89,8 @@ closed-mesh u done = record { inside = λ v a k l. sound (3 * v + a) (omega arit
   where
     -- condition 3 lets each point of the box stand in the grid, whose numbers are binary32 values
     values32 : (p : GridPoint) → T (inBox (u .call .box) p) → T (fits binary32 (value (u .call .grid) p))
-    values32 p t = u .numbers (index (u .call .grid .dims) p) (index-below (u .call .grid .dims) (u .call .box) (u .call .size) p (done-accepts u done .box) (done-accepts u done .length) t)
+    values32 p t = u .numbers (index (u .call .grid .dims) p)
+        (index-below (u .call .grid .dims) (u .call .box) (u .call .size) p (done-accepts u done .box) (done-accepts u done .length) t)
 
     sound : (i : ℕ) → i < 3 * u .says .vertices → Sound (u .after) i
     sound i k =

@@ -10,7 +10,7 @@ use Rattle.rules.specs.Cell.{values}
 use Rattle.rules.specs.Vertices.{vertices, vertexCrossings}
 use Rattle.rules.specs.Call.{Buffers, written}
 use Rattle.rules.specs.Cutting.{pointIn}
-use Rattle.rules.proofs.Lists.{all-at}
+use Rattle.lists.proofs.Lists.{all-at}
 use Rattle.rules.proofs.Inside.{vertices-all}
 use Rattle.rules.proofs.Crossings.{Possible, crossings-possible}
 use Rattle.rules.proofs.Seen.{one-at}

@@ -1,7 +1,8 @@
 -- Document 01, "Cutting a box", of what the calls on the pieces have written, lent lists and all: whoever cuts a box that conditions 1 to 5 let pass, and
 -- calls once for each piece, with a map as long as the grid and room for the piece's own mesh, is answered 0 each time, and the faces read from
 -- the lists of all the pieces are those of the whole, each once. For any flags (document 02, request 4): "on the cut axis the lower piece has its flag off and
--- the upper keeps the whole's; on the other axes both keep the whole's". Document 01's law is the case with none. The same for any plan, of which a run of cuts is a case. From the laws of cutting and of
+-- the upper keeps the whole's; on the other axes both keep the whole's". Document 01's law is the case with none. The same for any plan, of which a
+-- run of cuts is a case. From the laws of cutting and of
 -- what is read back. Assumes nothing.
 use Prim.Native.Nat.{ℕ, _+_, _*_, _≤_, _<_}
 use mathlib.Core.Bool.{false}
@@ -10,13 +11,13 @@ use mathlib.Core.Path.{_≡_, refl, sym, ap, ap₂, _∙_}
 use lib.Arith.{le→nltb}
 use lib.Ieee.{Float, nan}
 use lib.ListN.{length, getD}
-use Rattle.rules.specs.Lists.{one, many, joined}
+use Rattle.lists.specs.Lists.{one, many, joined}
 use Rattle.rules.specs.Grid.{GridPoint, Axis, Box, Field, along}
 use Rattle.rules.specs.Faces.{Edge, flag, gives, edges, changingEdges}
 use Rattle.rules.specs.Call.{Call, Room, Answer, room, answer, vertexCount, indexCount}
 use Rattle.rules.specs.Cutting.{Piece, Cuts, pieces, Fits, Plan, upperPiece, Face, faceOf}
-use Rattle.rules.proofs.Lists.{All, none, more, all-then, many-map, total, total-same, total-scaled, length-joined}
-use Rattle.rules.proofs.Permutation.{Perm, perm-many}
+use Rattle.lists.proofs.Lists.{All, none, more, all-then, many-map, total, total-same, total-scaled, length-joined}
+use Rattle.lists.proofs.Permutation.{Perm, perm-many}
 use Rattle.rules.proofs.Accepted.{Accepted, accepted-answer, pieces-accepted}
 use Rattle.rules.proofs.Edges.{sameEdge, edges-once}
 use Rattle.rules.proofs.Seen.{seen, seen-is}

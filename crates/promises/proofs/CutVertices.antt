@@ -6,13 +6,13 @@ use mathlib.Core.Path.{_≡_, ap, _∙_}
 use lib.Dec.{eqb}
 use lib.Ieee.{Float}
 use lib.ListN.{length}
-use Rattle.rules.specs.Lists.{keep}
+use Rattle.lists.specs.Lists.{keep}
 use Rattle.rules.specs.Grid.{Axis, Box, Field, along}
 use Rattle.rules.specs.Vertices.{vertices}
 use Rattle.rules.specs.Call.{Call}
 use Rattle.rules.specs.Cutting.{Piece, lowerPiece, upperPiece, Vertex, vertexOf}
-use Rattle.rules.proofs.Lists.{keep-map}
-use Rattle.rules.proofs.Permutation.{Perm, perm-map}
+use Rattle.lists.proofs.Lists.{keep-map}
+use Rattle.lists.proofs.Permutation.{Perm, perm-map}
 use Rattle.rules.proofs.Accepted.{cut-accepted}
 use Rattle.rules.proofs.Twice.{layerOf, vertices-twice}
 use Rattle.grid.specs.declared.Extent.{Extent}

@@ -8,7 +8,7 @@ use lib.ListN.{length}
 use Rattle.rules.specs.Grid.{Box, Field}
 use Rattle.rules.specs.Vertices.{surfaceCell, cells, vertices}
 use Rattle.rules.specs.Call.{Answer, room, answer, vertexCount, indexCount, written}
-use Rattle.rules.proofs.Lists.{many-most}
+use Rattle.lists.proofs.Lists.{many-most}
 use Rattle.rules.proofs.Counting.{cell-count}
 use Rattle.rules.proofs.Indexes.{BoxFits, box-fits}
 use Rattle.rules.proofs.Locality.{when-done, when-refused}

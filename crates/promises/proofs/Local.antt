@@ -11,9 +11,9 @@ use Rattle.rules.specs.Grid.{GridPoint, index, inBox}
 use Rattle.rules.specs.Call.{Call, Buffers, room, answer, afterwards}
 use Rattle.rules.proofs.Locality.{Alike, SameWritten, answer-local, local}
 use Rattle.grid.specs.declared.Extent.{Extent}
-use Rattle.grid.specs.declared.MaxPlane.{MaxPlane}
+use Rattle.grid.specs.declared.EachAxis.{EachAxis}
 use Rattle.grid.specs.Block.{point, flags}
-use Rattle.surface_nets.specs.Reading.{callMade}
+use Rattle.surface_nets.specs.AsRules.{callMade}
 use Rattle.promises.specs.Served.{Served, Done}
 use Rattle.promises.proofs.Runs.{Run, gridOf, dimsOf, lowOf, highOf, planeOf, served, BedRun, bedGrid, bedDims, bedLow, bedHigh, bedPlane, bedServed}
 
@@ -30,7 +30,7 @@ module _ (u u' : Served) (same : Alike (u .call) (u' .call)) (rooms : room (u .b
   same-written d = rw (u .left, u' .left) (local (u .call) (u' .call) (u .before) (u' .before) same rooms (rw (← u .answered) d))
 
 -- by the arguments: grids of one length that have the same distance at each point of the box within the dimensions, and all else the same
-module _ (grid grid' : List Float) {dims dims' low low' high high' : Extent} {plane plane' : MaxPlane} where
+module _ (grid grid' : List Float) {dims dims' low low' high high' : Extent} {plane plane' : EachAxis} where
   pub calls-alike : dims ≡ dims' → low ≡ low' → high ≡ high' → plane ≡ plane' → length grid ≡ length grid'
       → ((p : GridPoint) → T (inBox (callMade grid dims low high plane .box) p) → (p .x < dims .x) × (p .y < dims .y) × (p .z < dims .z)
       → getD grid (index (point dims) p) nan ≡ getD grid' (index (point dims) p) nan)

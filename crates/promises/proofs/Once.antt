@@ -2,7 +2,7 @@
 -- one outcome alone fits the contract: the result, and every list behind a `&mut` afterwards, refused calls too. Those of cube stand in
 -- its own proofs/Unique. Assumes nothing.
 use mathlib.Core.Path.{_≡_, _∙_, sym}
-use Rattle.grid.specs.declared.ownership.Own.{Own}
+use Rattle.grid.specs.declared.EachAxis.{EachAxis}
 use Rattle.promises.proofs.OneOutcome.{OneOutcome}
 use Rattle.grid.proofs.checks.bad_dimension.Kinds as bad-dimension-kinds
 use Rattle.grid.proofs.checks.bad_dimension.Reads as bad-dimension
@@ -12,10 +12,14 @@ use Rattle.grid.proofs.checks.bad_side.Kinds as bad-side-kinds
 use Rattle.grid.proofs.checks.bad_side.Reads as bad-side
 use Rattle.grid.proofs.checks.bad_box.Kinds as bad-box-kinds
 use Rattle.grid.proofs.checks.bad_box.Reads as bad-box
-use Rattle.grid.proofs.corners.side_at.Kinds as side-at-kinds
-use Rattle.grid.proofs.corners.side_at.Reads as side-at
+use Rattle.grid.proofs.checks.bad_length.Kinds as bad-length-kinds
+use Rattle.grid.proofs.checks.bad_length.Reads as bad-length
+use Rattle.grid.proofs.checks.first_fault.Kinds as first-fault-kinds
+use Rattle.grid.proofs.checks.first_fault.Reads as first-fault
 use Rattle.grid.proofs.corners.corners.Kinds as corners-kinds
 use Rattle.grid.proofs.corners.corners.Reads as corners
+use Rattle.count.proofs.count_layer.Kinds as count-layer-kinds
+use Rattle.count.proofs.count_layer.Reads as count-layer
 use Rattle.count.proofs.count_box.Kinds as count-box-kinds
 use Rattle.count.proofs.count_box.Reads as count-box
 use Rattle.grid.proofs.ownership.owns.Kinds as owns-kinds
@@ -69,7 +73,7 @@ use Rattle.surface_nets.proofs.surface_nets.Reads as surface-nets
 use Rattle.bed.proofs.bed_surface_nets.Kinds as bed-surface-nets-kinds
 use Rattle.bed.proofs.bed_surface_nets.Reads as bed-surface-nets
 
-same-own : {u v : Own} → u .x ≡ v .x → u .y ≡ v .y → u .z ≡ v .z → u ≡ v
+same-own : {u v : EachAxis} → u .x ≡ v .x → u .y ≡ v .y → u .z ≡ v .z → u ≡ v
 same-own p q r = λ i. record { x = p i; y = q i; z = r i }
 
 -- ---- with no lent list
@@ -86,14 +90,20 @@ bad-side-once κs a o o' l l' = let s = l ∙ sym l' in λ i. record { result = 
 pub bad-box-once : OneOutcome 0 bad-box-kinds.ps bad-box-kinds.r bad-box.Learnt
 bad-box-once κs a o o' l l' = let s = l ∙ sym l' in λ i. record { result = s i; last = o .last }
 
-pub side-at-once : OneOutcome 1 side-at-kinds.ps side-at-kinds.r side-at.Learnt
-side-at-once κs a o o' l l' = let s = l ∙ sym l' in λ i. record { result = s i; last = o .last }
+pub bad-length-once : OneOutcome 0 bad-length-kinds.ps bad-length-kinds.r bad-length.Learnt
+bad-length-once κs a o o' l l' = let s = l ∙ sym l' in λ i. record { result = s i; last = o .last }
+
+pub first-fault-once : OneOutcome 0 first-fault-kinds.ps first-fault-kinds.r first-fault.Learnt
+first-fault-once κs a o o' l l' = let s = l ∙ sym l' in λ i. record { result = s i; last = o .last }
 
 pub side-between-once : OneOutcome 2 side-between-kinds.ps side-between-kinds.r side-between.Learnt
 side-between-once κs a o o' l l' = let s = l ∙ sym l' in λ i. record { result = s i; last = o .last }
 
 pub corners-once : OneOutcome 0 corners-kinds.ps corners-kinds.r corners.Learnt
 corners-once κs a o o' l l' = let s = l ∙ sym l' in λ i. record { result = s i; last = o .last }
+
+pub count-layer-once : OneOutcome 2 count-layer-kinds.ps count-layer-kinds.r count-layer.Learnt
+count-layer-once κs a o o' l l' = let s = l ∙ sym l' in λ i. record { result = s i; last = o .last }
 
 pub count-box-once : OneOutcome 1 count-box-kinds.ps count-box-kinds.r count-box.Learnt
 count-box-once κs a o o' l l' = let s = l ∙ sym l' in λ i. record { result = s i; last = o .last }
@@ -203,5 +213,50 @@ bed-surface-nets-once κs a o o' l l' =
     λ i.
     record {
       result = s i .number;
-      last = (tt, (tt, (tt, (tt, (tt, (tt, (tt, (tt, (tt, (tt, (tt, (tt, (tt, (b i .positions, (b i .normals, (b i .cells, (b i .strides, (b i .crossings, (b i .map, (b i .indices, (s i .vertices, (s i .indices, tt))))))))))))))))))))));
+      last = (
+        tt,
+        (
+          tt,
+          (
+            tt,
+            (
+              tt,
+              (
+                tt,
+                (
+                  tt,
+                  (
+                    tt,
+                    (
+                      tt,
+                      (
+                        tt,
+                        (
+                          tt,
+                          (
+                            tt,
+                            (
+                              tt,
+                              (
+                                tt,
+                                (
+                                  b i .positions,
+                                  (
+                                    b i .normals,
+                                    (b i .cells, (b i .strides, (b i .crossings, (b i .map, (b i .indices, (s i .vertices, (s i .indices, tt))))))),
+                                  ),
+                                ),
+                              ),
+                            ),
+                          ),
+                        ),
+                      ),
+                    ),
+                  ),
+                ),
+              ),
+            ),
+          ),
+        ),
+      );
     }

@@ -7,7 +7,7 @@ use mathlib.Core.Path.{_≡_, refl, ap, ap₂, _∙_}
 use lib.Ieee.{Float}
 use lib.ListN.{length, length-map, take, drop}
 use lib.Seq.{take-at}
-use Rattle.rules.specs.Lists.{over}
+use Rattle.lists.specs.Lists.{over}
 use Rattle.rules.specs.Grid.{GridPoint}
 use Rattle.rules.specs.Cell.{Vector}
 use Rattle.rules.specs.Vertices.{vertices, vertexPosition, vertexNormal, vertexCrossings}

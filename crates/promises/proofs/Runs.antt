@@ -5,10 +5,10 @@ use lib.Ieee.{Float}
 use contract.Lifetimes.{Lfts}
 use borrow.Fn.Kinds.{Dens}
 use Rattle.grid.specs.declared.Extent.{Extent}
-use Rattle.grid.specs.declared.MaxPlane.{MaxPlane}
-use Rattle.judge.specs.Reading.{answerOf}
-use Rattle.whole_box.specs.Reading.{buffers, buffersGiven}
-use Rattle.surface_nets.specs.Reading.{callMade}
+use Rattle.grid.specs.declared.EachAxis.{EachAxis}
+use Rattle.judge.specs.AsRules.{answerOf}
+use Rattle.whole_box.specs.LentLists.{buffers, buffersGiven}
+use Rattle.surface_nets.specs.AsRules.{callMade}
 use Rattle.bed.specs.Boundary.{extent, planes, said}
 use Rattle.promises.specs.Served.{Served}
 use Rattle.promises.proofs.OneOutcome.{Outcome, FitsContract}
@@ -39,7 +39,7 @@ lowOf u = u .args .1 .1 .0
 abbrev pub highOf : Run → Extent
 highOf u = u .args .1 .1 .1 .0
 
-abbrev pub planeOf : Run → MaxPlane
+abbrev pub planeOf : Run → EachAxis
 planeOf u = u .args .1 .1 .1 .1 .0
 
 abbrev pub served : Run → Served
@@ -77,7 +77,7 @@ bedLow u = let n = u .args .1 .1 .1 .1 in extent (n .0) (n .1 .0) (n .1 .1 .0)
 abbrev pub bedHigh : BedRun → Extent
 bedHigh u = let n = u .args .1 .1 .1 .1 .1 .1 .1 in extent (n .0) (n .1 .0) (n .1 .1 .0)
 
-abbrev pub bedPlane : BedRun → MaxPlane
+abbrev pub bedPlane : BedRun → EachAxis
 bedPlane u = let n = u .args .1 .1 .1 .1 .1 .1 .1 .1 .1 .1 in planes (n .0) (n .1 .0) (n .1 .1 .0)
 
 -- V and I stand behind the last two parameters

@@ -1,7 +1,7 @@
 // A stored call, read from an open file: what is asked, and what it must answer.
 use crate::list::read;
+use grid::EachAxis;
 use grid::Extent;
-use grid::MaxPlane;
 use marks::stored::word;
 
 // What stands before the distances; `grid` is their number.
@@ -9,7 +9,7 @@ pub(crate) struct Asked {
     pub(crate) dims: Extent,
     pub(crate) low: Extent,
     pub(crate) high: Extent,
-    pub(crate) max_plane: MaxPlane,
+    pub(crate) max_plane: EachAxis,
     pub(crate) grid: usize,
 }
 
@@ -52,8 +52,8 @@ fn corner(head: &[u8], x: usize, y: usize, z: usize) -> Extent {
 }
 
 // 1 for x, 2 for y and 4 for z.
-fn plane(word: u32) -> MaxPlane {
-    MaxPlane {
+fn plane(word: u32) -> EachAxis {
+    EachAxis {
         x: word % 2 == 1,
         y: word / 2 % 2 == 1,
         z: word / 4 % 2 == 1,

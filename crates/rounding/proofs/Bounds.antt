@@ -2,7 +2,24 @@
 -- Assumes nothing.
 use mathlib.Core.Path.{_≡_, sym, ap, _∙_, subst}
 use Prim.Native.Nat.{ℕ, zero, suc, _+_, _-_, _*_, _%_, _^_, _≤_, _<_}
-use native.Mathlib.Nat.{le-of-suc-le-suc, lt-of-not-le, not-le-of-lt, sub-add-cancel, lt-of-mul-lt-mul-right, le-trans, le-of-eq, lt-of-lt-of-le, zero-lt-suc, mul-one, mul-comm, mul-assoc, mul-right-comm, mul-le-mul-right, mul-lt-mul-of-pos-right, zero-mul}
+use native.Mathlib.Nat.{
+  le-of-suc-le-suc,
+  lt-of-not-le,
+  not-le-of-lt,
+  sub-add-cancel,
+  lt-of-mul-lt-mul-right,
+  le-trans,
+  le-of-eq,
+  lt-of-lt-of-le,
+  zero-lt-suc,
+  mul-one,
+  mul-comm,
+  mul-assoc,
+  mul-right-comm,
+  mul-le-mul-right,
+  mul-lt-mul-of-pos-right,
+  zero-mul,
+}
 use native.Mathlib.Omega.{arith}
 use mathlib.Core.Bool.{Bool, true, false, _&&_}
 use lib.IntN.{ℤ, pos, negsuc}
@@ -114,7 +131,8 @@ held-exact f m e small fine h =
     (lt-of-mul-lt-mul-right (down e)
     (subst (λ (z : ℕ). z < 2 ^ (low f + suc (emax f)) * down e) eq
     (lt-of-lt-of-le (mul-lt-mul-of-pos-right h (pow-pos (low f)))
-    (le-of-eq (mul-right-comm (2 ^ suc (emax f)) (down e) (2 ^ low f) ∙ ap (λ (z : ℕ). z * down e) (mul-comm (2 ^ suc (emax f)) (2 ^ low f) ∙ sym (pow-add 2 (low f) (suc (emax f)))))))))
+    (le-of-eq (mul-right-comm (2 ^ suc (emax f)) (down e) (2 ^ low f) ∙ ap (λ (z : ℕ). z * down e)
+    (mul-comm (2 ^ suc (emax f)) (2 ^ low f) ∙ sym (pow-add 2 (low f) (suc (emax f)))))))))
     eq
 
 pub holds-held : (f : Format) (x : Float) → Held f x → Holds f (num x) (den x)

@@ -2,7 +2,31 @@
 -- Assumes nothing.
 use mathlib.Core.Path.{_≡_, refl, sym, ap, _∙_, subst}
 use Prim.Native.Nat.{ℕ, suc, _+_, _-_, _*_, _/_, _%_, _^_, _≤_, _<_, compare, Ordering, Ordering·lt, Ordering·eq, Ordering·gt}
-use native.Mathlib.Nat.{le-refl, add-le-add, le-trans, le-of-eq, lt-of-le-of-lt, zero-lt-suc, lt-suc-self, mul-one, one-mul, mul-comm, mul-assoc, mul-left-comm, mul-right-comm, mul-le-mul-right, mul-le-mul-left, le-of-mul-le-mul-right, mul-pos, add-mul, suc-mul, mod-lt, div-add-mod', div-lt-iff-lt-mul, mul-lt-mul-of-pos-right}
+use native.Mathlib.Nat.{
+  le-refl,
+  add-le-add,
+  le-trans,
+  le-of-eq,
+  lt-of-le-of-lt,
+  zero-lt-suc,
+  lt-suc-self,
+  mul-one,
+  one-mul,
+  mul-comm,
+  mul-assoc,
+  mul-left-comm,
+  mul-right-comm,
+  mul-le-mul-right,
+  mul-le-mul-left,
+  le-of-mul-le-mul-right,
+  mul-pos,
+  add-mul,
+  suc-mul,
+  mod-lt,
+  div-add-mod',
+  div-lt-iff-lt-mul,
+  mul-lt-mul-of-pos-right,
+}
 use native.Mathlib.Omega.{arith}
 use mathlib.Core.Bool.{false, not}
 use lib.Dec.{T, isLe, isEq, eqb, leb→le, nleb→lt, eqb→eq, eqb-refl, lit≤}

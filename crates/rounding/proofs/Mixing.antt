@@ -2,7 +2,27 @@
 -- The rounded 1 - t is at most 1 - t + 1 / 2 ^ prec, so the sum before its rounding is at most 1 + 1 / 2 ^ prec, which is rounded to 1. Assumes nothing.
 use mathlib.Core.Path.{_≡_, sym, ap, _∙_, subst}
 use Prim.Native.Nat.{ℕ, _+_, _-_, _*_, _^_, _≤_, _<_, zero-le}
-use native.Mathlib.Nat.{le-trans, le-of-eq, mul-one, one-mul, mul-comm, mul-assoc, mul-left-comm, mul-right-comm, mul-le-mul-right, mul-le-mul-left, le-of-mul-le-mul-right, mul-pos, add-mul, zero-mul, sub-le, sub-add-cancel, add-le-add, eq-zero-or-pos, lt-irrefl}
+use native.Mathlib.Nat.{
+  le-trans,
+  le-of-eq,
+  mul-one,
+  one-mul,
+  mul-comm,
+  mul-assoc,
+  mul-left-comm,
+  mul-right-comm,
+  mul-le-mul-right,
+  mul-le-mul-left,
+  le-of-mul-le-mul-right,
+  mul-pos,
+  add-mul,
+  zero-mul,
+  sub-le,
+  sub-add-cancel,
+  add-le-add,
+  eq-zero-or-pos,
+  lt-irrefl,
+}
 use native.Mathlib.Omega.{arith}
 use mathlib.Core.Logic.{inl, inr}
 use mathlib.Core.Bool.{true, false}
@@ -70,7 +90,8 @@ mul-part f (fin s m e) (inf t) h w u = absurd (u .0)
 mul-part f (fin s m e) (fin true n d) h w u = absurd (u .0)
 mul-part f (fin false m e) (fin false n d) h w u =
     let c = down e * down d in
-    let r = at-most f (m * up e) (down e) (m * up e * (n * up d)) c (holds-held f (fin false m e) h) (down-pos e) (mul-pos (down-pos e) (down-pos d)) (smaller (m * up e) (down e) (n * up d) (down d) (u .1)) in
+    let r = at-most f (m * up e) (down e) (m * up e * (n * up d)) c (holds-held f (fin false m e) h) (down-pos e) (mul-pos (down-pos e) (down-pos d))
+    (smaller (m * up e) (down e) (n * up d) (down d) (u .1)) in
     (plain-weak (round f false (m * up e * (n * up d)) c) (r .0), r .1)
   where
     smaller : (X D Y E : ℕ) → Y ≤ 1 * E → X * Y * D ≤ X * (D * E)

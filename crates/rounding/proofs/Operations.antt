@@ -2,7 +2,27 @@
 -- Assumes nothing.
 use mathlib.Core.Path.{_≡_, refl, sym, ap, _∙_, subst}
 use Prim.Native.Nat.{ℕ, _+_, _-_, _*_, _^_, _≤_, _<_, zero-le}
-use native.Mathlib.Nat.{le-trans, le-of-eq, mul-one, one-mul, mul-comm, mul-assoc, mul-right-comm, mul-le-mul, mul-le-mul-right, mul-pos, add-mul, zero-mul, add-zero, zero-add, sub-zero, add-le-add, not-le-of-lt, mul-mul-mul-comm, lt-irrefl}
+use native.Mathlib.Nat.{
+  le-trans,
+  le-of-eq,
+  mul-one,
+  one-mul,
+  mul-comm,
+  mul-assoc,
+  mul-right-comm,
+  mul-le-mul,
+  mul-le-mul-right,
+  mul-pos,
+  add-mul,
+  zero-mul,
+  add-zero,
+  zero-add,
+  sub-zero,
+  add-le-add,
+  not-le-of-lt,
+  mul-mul-mul-comm,
+  lt-irrefl,
+}
 use native.Mathlib.Omega.{arith}
 use mathlib.Core.Bool.{Bool, true, false, not, _&&_, Bool·beq, cond}
 use lib.IntN.{ℤ, pos}
@@ -74,7 +94,8 @@ add-is f (fin false m e) (fin true n d) p q = nothing n (eqb→eq n 0 q)
     nothing : (n : ℕ) → n ≡ 0 → sum f false (m * up e * down d) true (n * up d * down e) (down e * down d) ≡ round f false (m * up e * down d + n * up d * down e) (down e * down d)
     nothing n z =
         let b : n * up d * down e ≡ 0 = ap (λ (z : ℕ). z * up d * down e) z ∙ zero-size (up d) (down e) in
-        rw b (difference f (m * up e * down d) 0 (down e * down d) zero-le ∙ ap (λ (z : ℕ). round f false z (down e * down d)) (sub-zero (m * up e * down d) ∙ sym (add-zero (m * up e * down d))))
+        rw b (difference f (m * up e * down d) 0 (down e * down d) zero-le ∙ ap (λ (z : ℕ). round f false z (down e * down d))
+        (sub-zero (m * up e * down d) ∙ sym (add-zero (m * up e * down d))))
 
 -- x - y, for y at most x
 pub less-is : (f : Format) (x y : Float) → T (plain x) → T (weak y) → num y * den x ≤ num x * den y → sub f x y ≡ round f false (num x * den y - num y * den x) (den x * den y)
@@ -87,7 +108,8 @@ less-is f (fin false m e) (inf t) p q h = absurd q
 less-is f (fin false m e) (fin false n d) p q h = difference f (m * up e * down d) (n * up d * down e) (down e * down d) h
 less-is f (fin false m e) (fin true n d) p q h = nothing n (eqb→eq n 0 q)
   where
-    nothing : (n : ℕ) → n ≡ 0 → sum f false (m * up e * down d) false (n * up d * down e) (down e * down d) ≡ round f false (m * up e * down d - n * up d * down e) (down e * down d)
+    nothing : (n : ℕ) → n ≡ 0 → sum f false (m * up e * down d) false (n * up d * down e) (down e * down d) ≡ round f false (m * up e * down d - n * up d * down e)
+        (down e * down d)
     nothing n z =
         let b : n * up d * down e ≡ 0 = ap (λ (z : ℕ). z * up d * down e) z ∙ zero-size (up d) (down e) in
         rw b (plus-zero f (m * up e * down d) (down e * down d) ∙ ap (λ (z : ℕ). round f false z (down e * down d)) (sym (sub-zero (m * up e * down d))))
@@ -156,7 +178,8 @@ add-within f i j (inf s) y v p q = absurd (p .0)
 add-within f i j (fin s m e) nan v p q = absurd (q .0)
 add-within f i j (fin s m e) (inf t) v p q = absurd (q .0)
 add-within f i j (fin s m e) (fin t n d) v p q =
-    sum-within f s (m * up e * down d) t (n * up d * down e) (down e * down d) (i + j) v (mul-pos (down-pos e) (down-pos d)) (cross-sum (m * up e) (down e) (n * up d) (down d) i j (p .1) (q .1))
+    sum-within f s (m * up e * down d) t (n * up d * down e) (down e * down d) (i + j) v (mul-pos (down-pos e) (down-pos d))
+    (cross-sum (m * up e) (down e) (n * up d) (down d) i j (p .1) (q .1))
 
 pub sub-within : (f : Format) (i j : ℕ) (x y : Float) → Holds f (i + j) 1 → Within i x → Within j y → Within (i + j) (sub f x y)
 unfolding sub
@@ -169,16 +192,19 @@ mul-within f i j (inf s) y v p q = absurd (p .0)
 mul-within f i j (fin s m e) nan v p q = absurd (q .0)
 mul-within f i j (fin s m e) (inf t) v p q = absurd (q .0)
 mul-within f i j (fin s m e) (fin t n d) v p q =
-    within f (unlike s t) (i * j) (m * up e * (n * up d)) (down e * down d) v (mul-pos (down-pos e) (down-pos d)) (cross-product (m * up e) (down e) (n * up d) (down d) i j (p .1) (q .1))
+    within f (unlike s t) (i * j) (m * up e * (n * up d)) (down e * down d) v (mul-pos (down-pos e) (down-pos d))
+    (cross-product (m * up e) (down e) (n * up d) (down d) i j (p .1) (q .1))
 
 -- ---- bounds with the sign clear
 
 -- a divisor that is not 0
-pub div-at : (f : Format) (s : Bool) (m : ℕ) (e : ℤ) (t : Bool) (n : ℕ) (d : ℤ) → 0 < n → div f (fin s m e) (fin t n d) ≡ round f (unlike s t) (m * up e * down d) (n * up d * down e)
+pub div-at : (f : Format) (s : Bool) (m : ℕ) (e : ℤ) (t : Bool) (n : ℕ) (d : ℤ) → 0 < n → div f (fin s m e) (fin t n d) ≡ round f (unlike s t) (m * up e * down d)
+    (n * up d * down e)
 unfolding div
 div-at f s m e t n d h = go (eqb n 0) (eqb→eq n 0)
   where
-    go : (b : Bool) → (T b → n ≡ 0) → cond b (cond (eqb m 0) nan (inf (unlike s t))) (round f (unlike s t) (m * up e * down d) (n * up d * down e)) ≡ round f (unlike s t) (m * up e * down d) (n * up d * down e)
+    go : (b : Bool) → (T b → n ≡ 0) → cond b (cond (eqb m 0) nan (inf (unlike s t))) (round f (unlike s t) (m * up e * down d) (n * up d * down e)) ≡ round f (unlike s t)
+        (m * up e * down d) (n * up d * down e)
     go true k = absurd (lt-irrefl 0 (subst (λ (z : ℕ). 0 < z) (k tt) h))
     go false k = refl
 

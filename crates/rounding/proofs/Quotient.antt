@@ -33,12 +33,14 @@ second-in X D Y E = le-trans (le-add-left (Y * (D * E)) (X * E * E)) (le-of-eq (
 reaches-first : (f : Format) (a b : Float) → Held f a → T (plain (round f false (num a * den b + num b * den a) (den a * den b)))
     → num a * den (round f false (num a * den b + num b * den a) (den a * den b)) ≤ num (round f false (num a * den b + num b * den a) (den a * den b)) * den a
 reaches-first f a b h p =
-    at-least f (num a) (den a) (num a * den b + num b * den a) (den a * den b) (holds-held f a h) (den-pos a) (mul-pos (den-pos a) (den-pos b)) (first-in (num a) (den a) (num b) (den b)) p
+    at-least f (num a) (den a) (num a * den b + num b * den a) (den a * den b) (holds-held f a h) (den-pos a) (mul-pos (den-pos a) (den-pos b))
+    (first-in (num a) (den a) (num b) (den b)) p
 
 reaches-second : (f : Format) (a b : Float) → Held f b → T (plain (round f false (num a * den b + num b * den a) (den a * den b)))
     → num b * den (round f false (num a * den b + num b * den a) (den a * den b)) ≤ num (round f false (num a * den b + num b * den a) (den a * den b)) * den b
 reaches-second f a b h p =
-    at-least f (num b) (den b) (num a * den b + num b * den a) (den a * den b) (holds-held f b h) (den-pos b) (mul-pos (den-pos a) (den-pos b)) (second-in (num a) (den a) (num b) (den b)) p
+    at-least f (num b) (den b) (num a * den b + num b * den a) (den a * den b) (holds-held f b h) (den-pos b) (mul-pos (den-pos a) (den-pos b))
+    (second-in (num a) (den a) (num b) (den b)) p
 
 pos-of-reach : (X E q u D : ℕ) → 0 < X → 0 < E → X * E ≤ q * u * D → 0 < q
 pos-of-reach X E q u D x e h = first-pos q u (first-pos (q * u) D (lt-of-lt-of-le (mul-pos x e) h))
@@ -88,7 +90,8 @@ share-under f true m e (fin false q k) Y E y w c h g =
     let Q : 0 < q = pos-of-reach Y (down k) q (up k) E y (down-pos k) (g tt) in
     let z : m * up e * down k ≡ 0 = ap (λ (n : ℕ). n * up e * down k) (eqb→eq m 0 w) ∙ ap (λ (n : ℕ). n * down k) (zero-mul (up e)) ∙ zero-mul (down k) in
     let x = round f true (m * up e * down k) (q * up k * down e) in
-    let r = nothing-weak x (within f true 0 (m * up e * down k) (q * up k * down e) (holds-whole f 0 zero-le) (mul-pos (mul-pos Q (up-pos k)) (down-pos e)) (le-trans (le-of-eq z) zero-le)) in
+    let r = nothing-weak x (within f true 0 (m * up e * down k) (q * up k * down e) (holds-whole f 0 zero-le) (mul-pos (mul-pos Q (up-pos k)) (down-pos e))
+    (le-trans (le-of-eq z) zero-le)) in
     let s : Share x = (r .0, le-trans (le-of-eq (r .1)) zero-le) in
     rw (div-at f true m e false q k Q) s
 

@@ -64,5 +64,6 @@ shift f c s h k u =
     let is : add f x s ≡ round f false N C = add-is f x s p (plain-weak s (u .0)) in
     let r = round f false N C in
     let low : c * den r ≤ num r * 1 =
-    at-least f c 1 N C (holds-whole f c h) (zero-lt-suc 0) (mul-pos (den-pos x) (den-pos s)) (no-less c (num x) (den x) (num s) (den s) e) (subst (λ (z : Float). T (plain z)) is (up .0)) in
+    at-least f c 1 N C (holds-whole f c h) (zero-lt-suc 0) (mul-pos (den-pos x) (den-pos s)) (no-less c (num x) (den x) (num s) (den s) e)
+    (subst (λ (z : Float). T (plain z)) is (up .0)) in
     (up .0, subst (λ (z : Float). c * den z ≤ num z) (sym is) (le-trans low (le-of-eq (mul-one (num r)))), up .1)

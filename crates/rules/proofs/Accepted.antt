@@ -8,9 +8,26 @@ use native.Mathlib.Omega.{arith}
 use lib.Dec.{T, T-not, not-T}
 use lib.Ieee.Bits.{is-false}
 use Rattle.rules.specs.Grid.{GridPoint, Axis, axisX, axisY, axisZ, Box, Field, along, inBox, value}
-use Rattle.rules.specs.Call.{Call, Room, Answer, answers, badDimensions, badBox, badLength, badMap, beyond, badDistance, badVertexRoom, badIndexRoom, vertexCount, indexCount, roomAnswer, answer}
+use Rattle.rules.specs.Call.{
+  Call,
+  Room,
+  Answer,
+  answers,
+  badDimensions,
+  badBox,
+  badLength,
+  badMap,
+  beyond,
+  badDistance,
+  badVertexRoom,
+  badIndexRoom,
+  vertexCount,
+  indexCount,
+  roomAnswer,
+  answer,
+}
 use Rattle.rules.specs.Cutting.{Piece, Cuts, uncut, cut, lowerPiece, upperPiece, pieces, Fits}
-use Rattle.rules.proofs.Lists.{All, none, more, all-append}
+use Rattle.lists.proofs.Lists.{All, none, more, all-append}
 use Rattle.rules.proofs.Indexes.{within, in-box, BoxFits, box-fits, not-bad-box}
 use Rattle.rules.proofs.Inside.{none-in, in-none, distance-is}
 
@@ -75,7 +92,8 @@ room-counts : (r : Room) (v i : ℕ) → (roomAnswer r v i .vertices ≡ v) × (
 unfolding roomAnswer
 room-counts r v i = go (badVertexRoom r v) (badIndexRoom r i)
   where
-    go : (p q : Bool) → (cond p (answers 6 v i) (cond q (answers 7 v i) (answers 0 v i)) .vertices ≡ v) × (cond p (answers 6 v i) (cond q (answers 7 v i) (answers 0 v i)) .indices ≡ i)
+    go : (p q : Bool) → (cond p (answers 6 v i) (cond q (answers 7 v i) (answers 0 v i)) .vertices ≡ v) ×
+        (cond p (answers 6 v i) (cond q (answers 7 v i) (answers 0 v i)) .indices ≡ i)
     go true q = (refl, refl)
     go false true = (refl, refl)
     go false false = (refl, refl)
@@ -122,7 +140,8 @@ cut-accepted g size entries ax k w l h a =
       inner-accepted g size entries (w .box) (upperPiece ax k w .box) (upper-inner (g .dims) ax k w f l h) a,
     )
 
-pub pieces-accepted : (g : Field) (size entries : ℕ) (t : Cuts) (w : Piece) → Fits t w → Accepted g size entries (w .box) → All (λ (q : Piece). Accepted g size entries (q .box)) (pieces t w)
+pub pieces-accepted : (g : Field) (size entries : ℕ) (t : Cuts) (w : Piece) → Fits t w → Accepted g size entries (w .box) → All (λ (q : Piece). Accepted g size entries (q .box))
+    (pieces t w)
 unfolding pieces
 pieces-accepted g size entries uncut w fits a = more a none
 pieces-accepted g size entries (cut ax k lower upper) w fits a =

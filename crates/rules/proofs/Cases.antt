@@ -13,11 +13,31 @@ use lib.Count.{trailingZeros}
 use lib.ListN.{length, getD, replicate}
 use lib.Ieee.{Float, nan, inf, fin, binary32, add, sub, mul, div, lt, ofInt, round, size, units, odd, neg, sum, span, climb, toBits}
 use lib.Ieee.Fits.{and-l, and-r}
-use Rattle.rules.specs.Lists.{run, upTo, keep, many, some, joined, place, placed}
+use Rattle.lists.specs.Lists.{run, upTo, keep, many, some, joined, place, placed}
 use Rattle.rules.specs.Grid.{GridPoint, axisX, axisY, Field, index}
 use Rattle.rules.specs.Cell.{Vector, zero32, one32, squaredDistance, fraction, pointBetween, crossingPoint, crossingPoints, summed, crossings, centroid, position, normal}
 use Rattle.rules.specs.Vertices.{rowCells, layerCells, cells, layerVertices, vertices, firstVertex, vertexPosition, vertexNormal, vertexCrossings, cellEntry, mapEntry}
-use Rattle.rules.specs.Faces.{Edge, edge, allThree, owned, changes, cellEdges, layerEdges, edges, cell1, cell2, cell3, cell4, shorter, faceCells, layerIndices, indices, layerPoints, points, changingEdges}
+use Rattle.rules.specs.Faces.{
+  Edge,
+  edge,
+  allThree,
+  owned,
+  changes,
+  cellEdges,
+  layerEdges,
+  edges,
+  cell1,
+  cell2,
+  cell3,
+  cell4,
+  shorter,
+  faceCells,
+  layerIndices,
+  indices,
+  layerPoints,
+  points,
+  changingEdges,
+}
 use Rattle.rules.specs.Call.{Call, Buffers, room, Answer, badDimensions, badBox, badLength, beyond, badLayer, badDistance, roomAnswer, answer, written, afterwards}
 use Rattle.rules.specs.Cutting.{Piece, Cuts, uncut, cut, lowerPiece, upperPiece, pieces, Fits}
 use Rattle.rules.proofs.Edges.{sameEdge}
@@ -325,7 +345,10 @@ cases =
 
 -- what a computed test opens: every definition of the rules, and the arithmetic below them
 unfoldable pub opened : Unit {0}
-unfolding answer roomAnswer badDimensions badBox badLength beyond badLayer badDistance written afterwards run upTo keep many some joined place placed fraction pointBetween crossingPoint crossingPoints summed crossings centroid position normal rowCells layerCells cells layerVertices vertices firstVertex cellEntry mapEntry owned changes cellEdges layerEdges edges shorter faceCells layerIndices indices layerPoints points changingEdges add sub mul div lt ofInt round size units odd neg sum span climb trailingZeros toBits pieces
+unfolding answer roomAnswer badDimensions badBox badLength beyond badLayer badDistance written afterwards run upTo keep many some joined place placed fraction pointBetween
+    crossingPoint crossingPoints summed crossings centroid position normal rowCells layerCells cells layerVertices vertices firstVertex cellEntry mapEntry owned changes cellEdges
+    layerEdges edges shorter faceCells layerIndices indices layerPoints points changingEdges add sub mul div lt ofInt round size units odd neg sum span climb trailingZeros toBits
+    pieces
 opened = tt
 
 -- ---- the test, and from it each entry

@@ -8,13 +8,28 @@ use mathlib.Core.Path.{_≡_, refl, sym, ap, ap₂, _∙_}
 use lib.Dec.{T, leb, ltb, eqb, eqb→eq, eqb-refl, leb→le, le→leb, ltb→lt, lt→ltb}
 use lib.Ieee.Fits.{and-i, and-l, and-r, eq→eqb}
 use lib.ListN.{length}
-use Rattle.rules.specs.Lists.{one, upTo, keep, many, joined}
-use Rattle.rules.specs.Grid.{below, GridPoint, Box, Field, samePoint, between, isCell, inBox}
+use Rattle.lists.specs.Lists.{one, upTo, keep, many, joined, below}
+use Rattle.rules.specs.Grid.{GridPoint, Box, Field, samePoint, between, isCell, inBox}
 use Rattle.rules.specs.Vertices.{rowCells, layerCells, layers, cells, surfaceCell, layerVertices, vertices}
 use Rattle.rules.specs.Faces.{layerPoints, points}
-use Rattle.rules.proofs.Tests.{same-test, same-moves}
-use Rattle.rules.proofs.Lists.{All, all-each, all-then, all-map, all-joined, all-keep, length-keep, many-keep, many-same, many-and, many-with, many-map, many-joined-once, keep-joined}
-use Rattle.rules.proofs.Runs.{upTo-once, upTo-all}
+use Rattle.lists.proofs.Tests.{same-test, same-moves}
+use Rattle.lists.proofs.Lists.{
+  All,
+  all-each,
+  all-then,
+  all-map,
+  all-joined,
+  all-keep,
+  length-keep,
+  many-keep,
+  many-same,
+  many-and,
+  many-with,
+  many-map,
+  many-joined-once,
+  keep-joined,
+}
+use Rattle.lists.proofs.Runs.{upTo-once, upTo-all}
 use Rattle.rules.proofs.Indexes.{Same, same-point}
 
 -- ---- points told apart
@@ -63,7 +78,8 @@ plane-once p lx hx ly hy z =
     (many-and (eqb (p .y)) (eqb (p .z) z) (upTo ly hy) (below ly hy (p .y)) (upTo-once (p .y) ly hy))
 
 block-once : (p : GridPoint) (a b : Bool) (plane : ℕ → List GridPoint)
-    → ((z : ℕ) → many (samePoint p) (plane z) ≡ one (a && (b && eqb (p .z) z))) → (lz hz : ℕ) → many (samePoint p) (joined plane (upTo lz hz)) ≡ one (a && (b && below lz hz (p .z)))
+    → ((z : ℕ) → many (samePoint p) (plane z) ≡ one (a && (b && eqb (p .z) z))) → (lz hz : ℕ) → many (samePoint p) (joined plane (upTo lz hz)) ≡ one
+    (a && (b && below lz hz (p .z)))
 block-once p a b plane e lz hz =
     many-joined-once (samePoint p) plane (λ (z : ℕ). a && (b && eqb (p .z) z)) e (upTo lz hz)
     ∙ many-with (λ (z : ℕ). b && eqb (p .z) z) a (upTo lz hz) (b && below lz hz (p .z)) (many-with (eqb (p .z)) b (upTo lz hz) (below lz hz (p .z)) (upTo-once (p .z) lz hz))

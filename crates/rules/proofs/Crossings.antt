@@ -11,9 +11,9 @@ use lib.Dec.{T, leb, eqb, leb→le, eqb→eq}
 use lib.ListN.{length, getD, length-map, List·getD-map}
 use lib.Ieee.{Float, nan, unlike, lt}
 use lib.Ieee.Fits.{and-l, and-r}
-use Rattle.rules.specs.Lists.{keep, many}
+use Rattle.lists.specs.Lists.{keep, many}
 use Rattle.rules.specs.Cell.{CubeEdge, cubeEdges, negative, negatives, surface, crosses, crossings, crossingPoint, crossingPoints}
-use Rattle.rules.proofs.Lists.{length-keep, many-map}
+use Rattle.lists.proofs.Lists.{length-keep, many-map}
 
 pub crossings-points : (d : List Float) → crossings d ≡ length (crossingPoints d)
 unfolding crossings crossingPoints
@@ -51,8 +51,10 @@ unfolding everyRow
 at-row zero f t [] e = t
 at-row zero f t (b ∷ s) e = absurd (suc-ne-zero (length s) e)
 at-row (suc n) f t [] e = absurd (suc-ne-zero n (sym e))
-at-row (suc n) f t (true ∷ s) e = at-row n (λ (r : List Bool). f (true ∷ r)) (and-l (everyRow n (λ (r : List Bool). f (true ∷ r))) (everyRow n (λ (r : List Bool). f (false ∷ r))) t) s (suc-inj e)
-at-row (suc n) f t (false ∷ s) e = at-row n (λ (r : List Bool). f (false ∷ r)) (and-r (everyRow n (λ (r : List Bool). f (true ∷ r))) (everyRow n (λ (r : List Bool). f (false ∷ r))) t) s (suc-inj e)
+at-row (suc n) f t (true ∷ s) e = at-row n (λ (r : List Bool). f (true ∷ r))
+    (and-l (everyRow n (λ (r : List Bool). f (true ∷ r))) (everyRow n (λ (r : List Bool). f (false ∷ r))) t) s (suc-inj e)
+at-row (suc n) f t (false ∷ s) e = at-row n (λ (r : List Bool). f (false ∷ r))
+    (and-r (everyRow n (λ (r : List Bool). f (true ∷ r))) (everyRow n (λ (r : List Bool). f (false ∷ r))) t) s (suc-inj e)
 
 -- 3 to 9, or 12
 abbrev possible : ℕ → Bool

@@ -6,12 +6,12 @@ use mathlib.Core.Bool.{false}
 use mathlib.Core.List.{List, [], _∷_, _++_, map, append-nil}
 use mathlib.Core.Path.{_≡_, refl, sym, ap, ap₂, _∙_}
 use lib.ListN.{length, length-append}
-use Rattle.rules.specs.Lists.{one, many, joined}
+use Rattle.lists.specs.Lists.{one, many, joined}
 use Rattle.rules.specs.Grid.{Axis, axisX, axisY, axisZ, Field, along}
 use Rattle.rules.specs.Faces.{Edge, flag, owned, changes, gives, edges, changingEdges}
 use Rattle.rules.specs.Cutting.{Piece, Cuts, uncut, cut, pieces, Fits, Plan, lowerPiece, upperPiece, faceOf}
-use Rattle.rules.proofs.Lists.{all-each, map-joined, joined-same, many-append, many-and, many-joined-once}
-use Rattle.rules.proofs.Permutation.{Perm, perm-length, perm-map, perm-counts}
+use Rattle.lists.proofs.Lists.{all-each, map-joined, joined-same, many-append, many-and, many-joined-once}
+use Rattle.lists.proofs.Permutation.{Perm, perm-length, perm-map, perm-counts}
 use Rattle.rules.proofs.Edges.{sameEdge, sameEdge-sound, sameEdge-itself, edges-once}
 use Rattle.rules.proofs.Ownership.{has, two-pieces}
 use Rattle.rules.proofs.Seen.{edgesOf, seen, seen-is, seen-number}
@@ -84,4 +84,5 @@ last-upper g a k w l h f = empty (seen g (upperPiece a k w)) (omega (arith, both
     both = cut-law g (cut a k uncut uncut) w (l, omega arith, tt, tt) .1
 
     together : length (seen g (lowerPiece a k w) ++ (seen g (upperPiece a k w) ++ [])) ≡ length (seen g (lowerPiece a k w)) + length (seen g (upperPiece a k w))
-    together = length-append (seen g (lowerPiece a k w)) (seen g (upperPiece a k w) ++ []) ∙ ap (λ r. length (seen g (lowerPiece a k w)) + length r) (append-nil (seen g (upperPiece a k w)))
+    together = length-append (seen g (lowerPiece a k w)) (seen g (upperPiece a k w) ++ []) ∙ ap (λ r. length (seen g (lowerPiece a k w)) + length r)
+        (append-nil (seen g (upperPiece a k w)))

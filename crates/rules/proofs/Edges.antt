@@ -8,14 +8,54 @@ use mathlib.Core.Path.{_≡_, refl, sym, ap, ap₂, _∙_}
 use lib.Dec.{T}
 use lib.Ieee.Fits.{and-i, and-l, and-r}
 use lib.ListN.{length, length-map}
-use Rattle.rules.specs.Lists.{one, keep, many, joined}
+use Rattle.lists.specs.Lists.{one, keep, many, joined}
 use Rattle.rules.specs.Grid.{GridPoint, Box, Field, samePoint, isCell, inBox, Axis, axisX, axisY, axisZ, value}
 use Rattle.rules.specs.Cell.{negative}
 use Rattle.rules.specs.Vertices.{layers, surfaceCell, layerVertices, vertices, firstVertex, numberIn}
-use Rattle.rules.specs.Faces.{points, Edge, Flags, gives, edge, edgesAt, cellEdges, layerEdges, edges, cell1, cell2, cell3, cell4, six, shorter, faceCells, layerIndices, indices, changingEdges}
-use Rattle.rules.proofs.Tests.{same-test}
-use Rattle.rules.proofs.Lists.{All, all-each, all-then, all-joined, all-keep, joined-joined, total, total-same, total-plus, total-scaled, length-keep, many-keep, many-total, many-with, many-joined-once, length-joined, joined-length, none, more}
-use Rattle.rules.proofs.Permutation.{Perm, perm-length, perm-counts}
+use Rattle.rules.specs.Faces.{
+  points,
+  Edge,
+  Flags,
+  gives,
+  edge,
+  edgesAt,
+  cellEdges,
+  layerEdges,
+  edges,
+  cell1,
+  cell2,
+  cell3,
+  cell4,
+  six,
+  shorter,
+  faceCells,
+  layerIndices,
+  indices,
+  changingEdges,
+}
+use Rattle.lists.proofs.Tests.{same-test}
+use Rattle.lists.proofs.Lists.{
+  All,
+  all-each,
+  all-then,
+  all-joined,
+  all-keep,
+  joined-joined,
+  total,
+  total-same,
+  total-plus,
+  total-scaled,
+  length-keep,
+  many-keep,
+  many-total,
+  many-with,
+  many-joined-once,
+  length-joined,
+  joined-length,
+  none,
+  more,
+}
+use Rattle.lists.proofs.Permutation.{Perm, perm-length, perm-counts}
 use Rattle.rules.proofs.Counting.{samePoint-sound, samePoint-itself, samePoint-moves, isLayerCell, layer-z, points-once, vertices-once, layerVertices-all}
 use Rattle.rules.proofs.Indexes.{cell-in-box}
 use Rattle.rules.proofs.FourCells.{four-on, gives-cell}
@@ -125,7 +165,8 @@ foundEdges g b m = joined (λ (p : GridPoint). keep (gives g b m) (edgesAt p)) (
 pub edges-found : (g : Field) (b : Box) (m : Flags) → Perm (edges g b m) (foundEdges g b m)
 edges-found g b m =
     perm-counts sameEdge sameEdge-sound sameEdge-itself (edges g b m) (foundEdges g b m)
-    (λ e. edges-once g b m e ∙ sym (joined-edges-once (gives g b m) (points b) e (inBox b (e .from)) (points-once b (e .from)) (λ t. cell-in-box b (e .from) (gives-cell g b m e t))))
+    (λ e. edges-once g b m e ∙ sym (joined-edges-once (gives g b m) (points b) e (inBox b (e .from)) (points-once b (e .from))
+    (λ t. cell-in-box b (e .from) (gives-cell g b m e t))))
 
 pub cellEdges-length : (g : Field) (b : Box) (m : Flags) (c : GridPoint)
     → length (cellEdges g b m c) ≡ one (gives g b m (edge axisX c)) + one (gives g b m (edge axisY c)) + one (gives g b m (edge axisZ c))

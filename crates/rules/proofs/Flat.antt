@@ -8,12 +8,12 @@ use mathlib.Core.Path.{_≡_, refl, ap, ap₂, _∙_}
 use borrow.Author.Tests.{le-ltb}
 use lib.Dec.{T, ltb}
 use lib.ListN.{length}
-use Rattle.rules.specs.Lists.{joined}
+use Rattle.lists.specs.Lists.{joined}
 use Rattle.rules.specs.Grid.{GridPoint, Axis, axisX, axisY, axisZ, Box, Field, along, isCell}
 use Rattle.rules.specs.Vertices.{vertices}
 use Rattle.rules.specs.Faces.{Flags, edges, indices}
 use Rattle.rules.specs.Call.{Call, Room, answers, vertexCount, indexCount, roomAnswer, answer}
-use Rattle.rules.proofs.Lists.{All, none, more}
+use Rattle.lists.proofs.Lists.{All, none, more}
 use Rattle.rules.proofs.Indexes.{cell-within}
 use Rattle.rules.proofs.FourCells.{gives-cell}
 use Rattle.rules.proofs.Edges.{edges-all}

@@ -13,8 +13,8 @@ use Rattle.rules.specs.Grid.{GridPoint, Box, Field, isCell, Axis, axisX,
 use Rattle.rules.specs.Cell.{negative, negatives, surface, values, corner, cornerOf}
 use Rattle.rules.specs.Vertices.{surfaceCell}
 use Rattle.rules.specs.Faces.{Edge, Flags, axisB, axisC, aboveLow, insideMax, owned, changes, gives, edge, cell1, cell2, cell3, cell4}
-use Rattle.rules.proofs.Tests.{is-test}
-use Rattle.rules.proofs.Lists.{many-some, many-less}
+use Rattle.lists.proofs.Tests.{is-test}
+use Rattle.lists.proofs.Lists.{many-some, many-less}
 use Rattle.rules.proofs.Indexes.{Same, same-point, CellWithin, cell-within, is-cell}
 
 -- ---- the four cells round an owned edge

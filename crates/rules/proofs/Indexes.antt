@@ -3,15 +3,29 @@
 use Prim.Native.Nat.{ℕ, _+_, _*_, _/_, _%_, _≤_, _<_}
 use mathlib.Core.Bool.{Bool, true, false, not, _&&_, _||_}
 use mathlib.Core.Path.{_≡_, sym, ap, _∙_}
-use native.Mathlib.Nat.{mul-add, mul-assoc, mul-one, mul-le-mul-left, add-assoc, mod-eq-of-lt, div-eq-of-lt, add-mul-mod-self-left, add-mul-div-left, mod-add-div, div-div-eq-div-mul, mul-suc}
+use native.Mathlib.Nat.{
+  mul-add,
+  mul-assoc,
+  mul-one,
+  mul-le-mul-left,
+  add-assoc,
+  mod-eq-of-lt,
+  div-eq-of-lt,
+  add-mul-mod-self-left,
+  add-mul-div-left,
+  mod-add-div,
+  div-div-eq-div-mul,
+  mul-suc,
+}
 use native.Mathlib.Omega.{arith}
 use lib.Dec.{T, leb, ltb, eqb, eqb→eq, leb→le, nltb→le, nleb→lt, le→leb}
 use lib.Arith.{le→nltb, lt→nleb}
 use lib.Ieee.Fits.{and-i, and-l, and-r}
-use Rattle.rules.specs.Grid.{GridPoint, Axis, axisX, axisY, axisZ, Box, along, stepUp, stepDown, index, pointAt, between, inBox, below, isCell}
+use Rattle.lists.specs.Lists.{below}
+use Rattle.rules.specs.Grid.{GridPoint, Axis, axisX, axisY, axisZ, Box, along, stepUp, stepDown, index, pointAt, between, inBox, isCell}
 use Rattle.rules.specs.Cell.{cornerOf}
 use Rattle.rules.specs.Call.{badDimension, badDimensions, badSide, badBox, badLength}
-use Rattle.rules.proofs.Tests.{below-low, below-high, below-in, nor-left, nor-right, nor-both}
+use Rattle.lists.proofs.Tests.{below-low, below-high, below-in, nor-left, nor-right, nor-both}
 
 -- ---- points by their coordinates
 

@@ -6,15 +6,15 @@ use mathlib.Core.Bool.{Bool, not, _&&_}
 use mathlib.Core.Path.{_≡_}
 use lib.Dec.{T, eqb, T-not, not-T}
 use lib.Ieee.Fits.{and-i, and-l, and-r}
-use Rattle.rules.specs.Lists.{many, some}
-use Rattle.rules.specs.Grid.{below, GridPoint, Axis, axisX, axisY, axisZ, Box, Field, samePoint, stepUp, inBox, isCell, value}
+use Rattle.lists.specs.Lists.{many, some, below}
+use Rattle.rules.specs.Grid.{GridPoint, Axis, axisX, axisY, axisZ, Box, Field, samePoint, stepUp, inBox, isCell, value}
 use Rattle.rules.specs.Vertices.{layerCells, cells, surfaceCell, vertices}
 use Rattle.rules.specs.Faces.{Flags, layerEdges, layerPoints, points, pointLayers}
 use Rattle.rules.specs.Call.{beyond, badLayer, badDistance}
-use Rattle.rules.proofs.Tests.{one-of, one-positive, below-in}
-use Rattle.rules.proofs.Lists.{All, all-then, all-map, all-joined, all-keep}
-use Rattle.rules.proofs.Some.{some-has, some-member, some-joined}
-use Rattle.rules.proofs.Runs.{upTo-each}
+use Rattle.lists.proofs.Tests.{one-of, one-positive, below-in}
+use Rattle.lists.proofs.Lists.{All, all-then, all-map, all-joined, all-keep}
+use Rattle.lists.proofs.Some.{some-has, some-member, some-joined}
+use Rattle.lists.proofs.Runs.{upTo-each}
 use Rattle.rules.proofs.Indexes.{in-box, cell-within}
 use Rattle.rules.proofs.Counting.{samePoint-sound, samePoint-itself, isLayerCell, layer-z, points-once, layerCells-all, vertices-are}
 use Rattle.rules.proofs.FourCells.{Four, four-in, gives-owned}

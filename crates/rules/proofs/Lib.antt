@@ -1,10 +1,5 @@
--- Laws about the definitions, which need no code: lists and counts, the edges and their four cells, vertex numbers, the edge that a face shows, cutting and what it
+-- Laws about the definitions, which need no code: counts of cells, the edges and their four cells, vertex numbers, the edge that a face shows, cutting and what it
 -- doubles; indexes, the P cases of document 01, vectors of the Rust, crossings, locality, pieces that are accepted, and flat boxes.
-pub mod Tests
-pub mod Lists
-pub mod Some
-pub mod Runs
-pub mod Permutation
 pub mod Counting
 pub mod FourCells
 pub mod Edges

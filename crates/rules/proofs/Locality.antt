@@ -11,15 +11,47 @@ use lib.Dec.{T, eqb, eqb→eq, eqb·suc-zero, lit<}
 use lib.ListN.{length, getD, take, drop, length-map}
 use lib.Seq.{take-at}
 use lib.Ieee.{Float, unlike}
-use Rattle.rules.specs.Lists.{upTo, keep, joined, place, placed, over}
+use Rattle.lists.specs.Lists.{upTo, keep, joined, place, placed, over}
 use Rattle.rules.specs.Grid.{GridPoint, Box, Field, stepUp, samePoint, index, pointAt, inBox, isCell, value}
 use Rattle.rules.specs.Cell.{cornerOf, values, surface, crossings, centroid, position, normal, negative}
-use Rattle.rules.specs.Vertices.{layerVertices, surfaceCell, vertices, firstVertex, vertexNumber, numberIn, vertexPosition, vertexNormal, vertexCrossings, nullVertex, cellEntry, edgeEntry, mapEntry}
+use Rattle.rules.specs.Vertices.{
+  layerVertices,
+  surfaceCell,
+  vertices,
+  firstVertex,
+  vertexNumber,
+  numberIn,
+  vertexPosition,
+  vertexNormal,
+  vertexCrossings,
+  nullVertex,
+  cellEntry,
+  edgeEntry,
+  mapEntry,
+}
 use Rattle.rules.specs.Faces.{Edge, Flags, owned, changes, gives, edgesAt, cellEdges, layerEdges, cell1, cell2, cell3, cell4, six, shorter, faceCells, layerIndices, indices}
-use Rattle.rules.specs.Call.{Call, Buffers, Room, room, badDimensions, badBox, beyond, badDistance, Answer, answers, vertexCount, indexCount, answer, flatVectors, flatPoints, written, afterwards}
-use Rattle.rules.proofs.Lists.{all-then, map-same, joined-same, keep-same, length-placed, getD-placed}
-use Rattle.rules.proofs.Some.{some-same}
-use Rattle.rules.proofs.Runs.{upTo-each}
+use Rattle.rules.specs.Call.{
+  Call,
+  Buffers,
+  Room,
+  room,
+  badDimensions,
+  badBox,
+  beyond,
+  badDistance,
+  Answer,
+  answers,
+  vertexCount,
+  indexCount,
+  answer,
+  flatVectors,
+  flatPoints,
+  written,
+  afterwards,
+}
+use Rattle.lists.proofs.Lists.{all-then, map-same, joined-same, keep-same, length-placed, getD-placed}
+use Rattle.lists.proofs.Some.{some-same}
+use Rattle.lists.proofs.Runs.{upTo-each}
 use Rattle.rules.proofs.Indexes.{cell-within, cell-in-box, corner-in-box, box-within}
 use Rattle.rules.proofs.FourCells.{Four, four-in}
 use Rattle.rules.proofs.Numbers.{face-all}
@@ -91,7 +123,8 @@ module _ (g g' : Field) (b : Box) (agree : (p : GridPoint) → T (inBox b p) →
 
   changes-same : (e : Edge) → T (isCell b (e .from)) → changes g e ≡ changes g' e
   unfolding changes
-  changes-same e t = ap₂ (λ (x y : Float). unlike (negative x) (negative y)) (agree (e .from) (cell-in-box b (e .from) t)) (agree (stepUp (e .axis) (e .from)) (up-in-box b (e .axis) (e .from) t))
+  changes-same e t = ap₂ (λ (x y : Float). unlike (negative x) (negative y)) (agree (e .from) (cell-in-box b (e .from) t))
+      (agree (stepUp (e .axis) (e .from)) (up-in-box b (e .axis) (e .from) t))
 
   gives-same : (m : Flags) (e : Edge) → gives g b m e ≡ gives g' b m e
   gives-same m e = and-same (owned b m e) (changes g e) (changes g' e) (λ (t : T (owned b m e)). changes-same e (four-in b m e t .one))
@@ -202,7 +235,8 @@ module _ (c c' : Call) (same : Alike c c') (ok : T (not (badBox (c .grid .dims) 
       let p : GridPoint = pointAt (c .grid .dims) j in
       cond-same (isCell (c .box) p) (cellEntry (c .grid) (c .box) p) (cellEntry (c' .grid) (c .box) p) (cond (inBox (c .box) p) edgeEntry old)
       (entry-same (c .grid) (c' .grid) (c .box) agree p)
-      ∙ ap₂ {A = Box} {B = GridPoint} (λ b d. cond (isCell b (pointAt d j)) (cellEntry (c' .grid) b (pointAt d j)) (cond (inBox b (pointAt d j)) edgeEntry old)) (same .box) (same .dims)
+      ∙ ap₂ {A = Box} {B = GridPoint} (λ b d. cond (isCell b (pointAt d j)) (cellEntry (c' .grid) b (pointAt d j)) (cond (inBox b (pointAt d j)) edgeEntry old)) (same .box)
+      (same .dims)
 
   -- distances outside the box never matter: with the same old numbers, every list holds the same afterwards
   pub written-local : (s : Buffers) → written c s ≡ written c' s

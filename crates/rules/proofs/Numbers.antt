@@ -10,14 +10,31 @@ use borrow.Author.Tests.{eq-eqb, ne-eqb}
 use lib.Dec.{T}
 use lib.Ieee.Fits.{and-i, and-l}
 use lib.ListN.{length, getD, length-append}
-use Rattle.rules.specs.Lists.{one, upTo, many, joined, place}
-use Rattle.rules.specs.Grid.{below, GridPoint, Box, Field, samePoint, isCell, Axis, axisX, axisY, axisZ, along, value}
+use Rattle.lists.specs.Lists.{one, upTo, many, joined, place, below}
+use Rattle.rules.specs.Grid.{GridPoint, Box, Field, samePoint, isCell, Axis, axisX, axisY, axisZ, along, value}
 use Rattle.rules.specs.Cell.{negative}
 use Rattle.rules.specs.Vertices.{layers, surfaceCell, layerVertices, vertices, firstVertex, numberIn, vertexNumber}
 use Rattle.rules.specs.Faces.{Edge, Flags, axisB, axisC, gives, edge, layerEdges, edges, cell1, cell2, cell3, cell4, six, shorter, faceCells, layerIndices, indices}
-use Rattle.rules.proofs.Tests.{one-of, below-high}
-use Rattle.rules.proofs.Lists.{All, all-at, all-each, all-then, all-map, all-joined, map-same, joined-same, joined-joined, many-none, place-here, place-past, place-below, place-passes, none, more}
-use Rattle.rules.proofs.Runs.{upTo-none, upTo-all, joined-last, joined-cut}
+use Rattle.lists.proofs.Tests.{one-of, below-high}
+use Rattle.lists.proofs.Lists.{
+  All,
+  all-at,
+  all-each,
+  all-then,
+  all-map,
+  all-joined,
+  map-same,
+  joined-same,
+  joined-joined,
+  many-none,
+  place-here,
+  place-past,
+  place-below,
+  place-passes,
+  none,
+  more,
+}
+use Rattle.lists.proofs.Runs.{upTo-none, upTo-all, joined-last, joined-cut}
 use Rattle.rules.proofs.Counting.{samePoint-sound, isLayerCell, layer-z, cell-layer, layerVertices-once, vertices-once, layerVertices-all}
 use Rattle.rules.proofs.Indexes.{CellWithin, cell-within}
 use Rattle.rules.proofs.FourCells.{Four, Owned, owned-says, four-in, four-on, gives-owned}
@@ -40,7 +57,12 @@ firstVertex-next g b z h = ap length (joined-last (layerVertices g b) (b .low .z
 -- ---- a vertex's number is its place
 
 layer-has : (g : Field) (b : Box) (c : GridPoint) → T (isCell b c) → T (surfaceCell g c) → 0 < many (samePoint c) (layerVertices g b (c .z))
-layer-has g b c t s = omega (arith, layerVertices-once g b (c .z) c, one-of (isLayerCell b (c .z) c && surfaceCell g c) (and-i (isLayerCell b (c .z) c) (surfaceCell g c) in-layer s))
+layer-has g b c t s = omega (
+  arith,
+  layerVertices-once g b (c .z) c,
+  one-of (isLayerCell b (c .z) c && surfaceCell g c)
+      (and-i (isLayerCell b (c .z) c) (surfaceCell g c) in-layer s),
+)
   where
     in-layer : T (isLayerCell b (c .z) c)
     in-layer = cell-layer b c t

@@ -7,11 +7,11 @@ use mathlib.Core.Logic.{_⊎_, inl, inr}
 use mathlib.Core.Path.{_≡_, refl, sym, ap, _∙_}
 use lib.Dec.{T, ltb, eqb, eqb→eq, ltb→lt, lt→ltb, T-not, not-T}
 use lib.Ieee.Fits.{and-i, and-l, and-r, eq→eqb}
-use Rattle.rules.specs.Lists.{one}
-use Rattle.rules.specs.Grid.{below, GridPoint, Box, isCell, Axis, axisX, axisY, axisZ, along}
+use Rattle.lists.specs.Lists.{one, below}
+use Rattle.rules.specs.Grid.{GridPoint, Box, isCell, Axis, axisX, axisY, axisZ, along}
 use Rattle.rules.specs.Faces.{Edge, aboveLow, insideMax, owned, edge, flag}
 use Rattle.rules.specs.Cutting.{Piece, lowerPiece, upperPiece}
-use Rattle.rules.proofs.Tests.{split2, less-or-not, or-second, below-low, below-high, below-in}
+use Rattle.lists.proofs.Tests.{split2, less-or-not, or-second, below-low, below-high, below-in}
 use Rattle.rules.proofs.Edges.{sameAxis}
 
 -- ---- ownership, one test for each axis

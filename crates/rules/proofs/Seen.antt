@@ -9,15 +9,15 @@ use lib.Dec.{T}
 use lib.Ieee.{Float, nan}
 use lib.ListN.{length, getD, length-map, take, List·getD-map, List·getD-append}
 use lib.Seq.{take-length, take-suc}
-use Rattle.rules.specs.Lists.{upTo, joined, place}
+use Rattle.lists.specs.Lists.{upTo, joined, place}
 use Rattle.rules.specs.Grid.{GridPoint, Box, Field, along, samePoint, isCell}
 use Rattle.rules.specs.Cell.{Vector}
 use Rattle.rules.specs.Vertices.{surfaceCell, vertices, vertexPosition, vertexNormal, vertexCrossings}
 use Rattle.rules.specs.Faces.{Edge, Flags, axisB, axisC, gives, edges, faceCells, indices, changingEdges}
 use Rattle.rules.specs.Call.{flatPoints, flatVectors}
 use Rattle.rules.specs.Cutting.{Piece, Corner, Face, cornerAt, faceOf, edgeShown, sixes, pointIn, vectorIn, looked, faceSeen, facesSeen, Vertex, vertexOf, verticesSeen}
-use Rattle.rules.proofs.Lists.{All, all-then, map-same, joined-length, none, more}
-use Rattle.rules.proofs.Runs.{upTo-none, upTo-last, upTo-each}
+use Rattle.lists.proofs.Lists.{All, all-then, map-same, joined-length, none, more}
+use Rattle.lists.proofs.Runs.{upTo-none, upTo-last, upTo-each}
 use Rattle.rules.proofs.FourCells.{Owned, owned-says, gives-owned}
 use Rattle.rules.proofs.Edges.{edges-all, edge-count, faceCells-length}
 use Rattle.rules.proofs.Numbers.{number-below, vertex-at, four-each, face-all, faceNumbers, indices-are}

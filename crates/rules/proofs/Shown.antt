@@ -10,14 +10,14 @@ use lib.Dec.{T, ltb, eqb, eqb→eq, ltb→lt, lt→ltb}
 use lib.Ieee.Bits.{is-true}
 use lib.Ieee.Fits.{and-i, and-l, and-r, eq→eqb}
 use lib.ListN.{length}
-use Rattle.rules.specs.Lists.{one, keep, many, some}
+use Rattle.lists.specs.Lists.{one, keep, many, some}
 use Rattle.rules.specs.Grid.{GridPoint, Field, Axis, axisX, axisY, axisZ, along, stepDown, samePoint, value}
 use Rattle.rules.specs.Cell.{negative}
 use Rattle.rules.specs.Faces.{Edge, axisB, axisC, edge, edgesAt, cell1, cell2, cell3, cell4, six, shorter, faceCells}
 use Rattle.rules.specs.Cutting.{greatest, highest, round, among, shows, edgeShown}
-use Rattle.rules.proofs.Tests.{is-false, is-test, one-of}
-use Rattle.rules.proofs.Lists.{All, none, more, all-then, all-keep, many-every, many-full}
-use Rattle.rules.proofs.Some.{some-has, some-member}
+use Rattle.lists.proofs.Tests.{is-false, is-test, one-of}
+use Rattle.lists.proofs.Lists.{All, none, more, all-then, all-keep, many-every, many-full}
+use Rattle.lists.proofs.Some.{some-has, some-member}
 use Rattle.rules.proofs.Indexes.{same-point}
 use Rattle.rules.proofs.Counting.{samePoint-sound, samePoint-itself}
 use Rattle.rules.proofs.FourCells.{Four}

@@ -8,13 +8,13 @@ use mathlib.Core.Logic.{_⊎_, inl, inr}
 use mathlib.Core.Path.{_≡_, refl, sym, ap, ap₂, _∙_}
 use lib.Dec.{T, eqb, eqb→eq}
 use lib.Ieee.Fits.{and-i, and-r, eq→eqb}
-use Rattle.rules.specs.Lists.{one, keep, many}
-use Rattle.rules.specs.Grid.{GridPoint, Axis, axisX, axisY, axisZ, Box, Field, along, samePoint, below, isCell}
+use Rattle.lists.specs.Lists.{one, keep, many, below}
+use Rattle.rules.specs.Grid.{GridPoint, Axis, axisX, axisY, axisZ, Box, Field, along, samePoint, isCell}
 use Rattle.rules.specs.Vertices.{surfaceCell, vertices}
 use Rattle.rules.specs.Cutting.{Piece, lowerPiece, upperPiece}
-use Rattle.rules.proofs.Tests.{same-test, split2, less-or-not, below-low, below-high, below-in}
-use Rattle.rules.proofs.Lists.{many-append}
-use Rattle.rules.proofs.Permutation.{Perm, perm-counts}
+use Rattle.lists.proofs.Tests.{same-test, split2, less-or-not, below-low, below-high, below-in}
+use Rattle.lists.proofs.Lists.{many-append}
+use Rattle.lists.proofs.Permutation.{Perm, perm-counts}
 use Rattle.rules.proofs.Counting.{samePoint-sound, samePoint-itself, kept-once, vertices-once}
 
 -- ---- one axis

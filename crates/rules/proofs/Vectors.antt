@@ -11,7 +11,28 @@ use lib.ListN.{length, getD, replicate}
 use lib.Ieee.{Float, nan, neg}
 use Rattle.rules.specs.Cell.{float}
 use Rattle.rules.specs.Call.{Call}
-use Rattle.rules.proofs.Cases.{Case, Holds, theIndices, theDiagonals, positionOf, normalOf, lowest, point, calls, ball, bitGrid, whole, wholePlane, roomy, case, opened, same, passes, every, entry-of}
+use Rattle.rules.proofs.Cases.{
+  Case,
+  Holds,
+  theIndices,
+  theDiagonals,
+  positionOf,
+  normalOf,
+  lowest,
+  point,
+  calls,
+  ball,
+  bitGrid,
+  whole,
+  wholePlane,
+  roomy,
+  case,
+  opened,
+  same,
+  passes,
+  every,
+  entry-of,
+}
 
 -- ---- the cells
 

@@ -6,7 +6,7 @@ use mathlib.Core.List.{List, [], _∷_, map}
 use lib.Dec.{leb, ltb, eqb}
 use lib.ListN.{length}
 use lib.Ieee.{Float, nan, inf, fin, up, down}
-use Rattle.rules.specs.Lists.{some, joined, placed, over}
+use Rattle.lists.specs.Lists.{some, joined, placed, over}
 use Rattle.rules.specs.Grid.{GridPoint, Box, Field, index, value}
 use Rattle.rules.specs.Cell.{Vector}
 use Rattle.rules.specs.Vertices.{vertices, vertexPosition, vertexNormal, vertexCrossings, mapEntry}

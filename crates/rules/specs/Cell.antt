@@ -7,7 +7,7 @@ use lib.Dec.{leb}
 use lib.IntN.{pos}
 use lib.ListN.{length, getD}
 use lib.Ieee.{Float, nan, fin, binary32, unlike, add, sub, mul, div, lt, ofInt}
-use Rattle.rules.specs.Lists.{keep, many}
+use Rattle.lists.specs.Lists.{keep, many}
 use Rattle.rules.specs.Grid.{GridPoint, Field, value}
 
 -- ---- the operations, at binary32

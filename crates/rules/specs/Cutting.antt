@@ -7,7 +7,7 @@ use mathlib.Core.Path.{_≡_}
 use lib.Dec.{ltb, eqb}
 use lib.ListN.{length, getD}
 use lib.Ieee.{Float, nan}
-use Rattle.rules.specs.Lists.{one, upTo, keep, many, some, joined}
+use Rattle.lists.specs.Lists.{one, upTo, keep, many, some, joined}
 use Rattle.rules.specs.Grid.{GridPoint, Axis, axisX, axisY, axisZ, Box, Field, along, moved, samePoint}
 use Rattle.rules.specs.Cell.{Vector}
 use Rattle.rules.specs.Vertices.{vertexPosition, vertexNormal, vertexCrossings}

@@ -6,7 +6,7 @@ use mathlib.Core.Bool.{Bool, true, false, not, _&&_, _||_}
 use mathlib.Core.List.{List, [], _∷_, map}
 use lib.Dec.{ltb, eqb}
 use lib.Ieee.{lt, unlike}
-use Rattle.rules.specs.Lists.{upTo, keep, many, joined}
+use Rattle.lists.specs.Lists.{upTo, keep, many, joined}
 use Rattle.rules.specs.Grid.{GridPoint, Axis, axisX, axisY, axisZ, Box, Field, along, stepUp, stepDown, turned, isCell, value}
 use Rattle.rules.specs.Cell.{negative, squaredDistance}
 use Rattle.rules.specs.Vertices.{layers, layerVertices, firstVertex, numberIn, vertexPosition}
@@ -131,4 +131,5 @@ points b = joined (layerPoints b) (pointLayers b)
 
 -- the owned edges with exactly one negative end, counted over the axes and the points of the box
 unfoldable pub changingEdges : Field → Box → Flags → ℕ
-changingEdges g b m = many (λ (p : GridPoint). gives g b m (edge axisX p)) (points b) + many (λ (p : GridPoint). gives g b m (edge axisY p)) (points b) + many (λ (p : GridPoint). gives g b m (edge axisZ p)) (points b)
+changingEdges g b m = many (λ (p : GridPoint). gives g b m (edge axisX p)) (points b) + many (λ (p : GridPoint). gives g b m (edge axisY p)) (points b) + many
+    (λ (p : GridPoint). gives g b m (edge axisZ p)) (points b)

@@ -4,6 +4,7 @@ use Prim.Native.Nat.{ℕ, _+_, _-_, _*_, _/_, _%_}
 use mathlib.Core.Bool.{Bool, _&&_}
 use lib.Dec.{leb, ltb, eqb}
 use lib.Ieee.{Float}
+use Rattle.lists.specs.Lists.{below}
 
 -- a point of the grid; dimensions and the corners of a box are written so too
 pub record GridPoint : Type 0 where
@@ -62,10 +63,6 @@ between low high n = leb low n && leb n high
 -- a point of the box, both corners included
 abbrev pub inBox : Box → GridPoint → Bool
 inBox b p = between (b .low .x) (b .high .x) (p .x) && (between (b .low .y) (b .high .y) (p .y) && between (b .low .z) (b .high .z) (p .z))
-
--- from low up to high, high left out
-abbrev pub below : ℕ → ℕ → ℕ → Bool
-below low high n = leb low n && ltb n high
 
 -- the lowest corner of a cell of the box: min up to max - 1 on each axis
 abbrev pub isCell : Box → GridPoint → Bool

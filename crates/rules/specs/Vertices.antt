@@ -5,7 +5,7 @@ use mathlib.Core.Bool.{Bool, cond}
 use mathlib.Core.List.{List, map}
 use lib.Dec.{eqb}
 use lib.ListN.{length}
-use Rattle.rules.specs.Lists.{upTo, keep, joined, place}
+use Rattle.lists.specs.Lists.{upTo, keep, joined, place}
 use Rattle.rules.specs.Grid.{GridPoint, Box, Field, samePoint, isCell, inBox, pointAt}
 use Rattle.rules.specs.Cell.{Vector, values, surface, crossings, centroid, position, normal}
 

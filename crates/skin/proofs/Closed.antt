@@ -7,11 +7,11 @@ use mathlib.Core.List.{List}
 use mathlib.Core.Path.{_≡_, refl, sym, subst, _∙_}
 use lib.Dec.{T, eqb, eqb→eq, eqb-refl, T-not, not-T}
 use lib.Ieee.Fits.{and-i, and-l, and-r, eq→eqb}
-use Rattle.rules.specs.Lists.{some, many}
+use Rattle.lists.specs.Lists.{some, many}
 use Rattle.rules.specs.Grid.{Box, Field}
 use Rattle.rules.specs.Faces.{Flags, indices}
-use Rattle.rules.proofs.Tests.{is-test}
-use Rattle.rules.proofs.Some.{some-has, some-member}
+use Rattle.lists.proofs.Tests.{is-test}
+use Rattle.lists.proofs.Some.{some-has, some-member}
 use Rattle.skin.specs.Links.{Link, link, reverse, sameLink, links, closed}
 use Rattle.skin.specs.Enclosed.{Enclosed}
 use Rattle.skin.proofs.Skin.{skin-law}

@@ -10,7 +10,7 @@ use lib.Ieee.Fits.{and-i}
 use Rattle.rules.specs.Grid.{GridPoint, Axis, axisX, axisY, axisZ, Box, Field, along, stepUp, turned, inBox, isCell, value}
 use Rattle.rules.specs.Cell.{negative}
 use Rattle.rules.specs.Faces.{Edge, Flags, edge, flag, axisB, axisC, aboveLow, insideMax, owned, changes}
-use Rattle.rules.proofs.Tests.{or-second}
+use Rattle.lists.proofs.Tests.{or-second}
 use Rattle.rules.proofs.Indexes.{CellWithin, is-cell, in-box, cell-in-box}
 use Rattle.rules.proofs.Inside.{up-in-box}
 use Rattle.skin.specs.Links.{Square}
@@ -112,7 +112,8 @@ square-in b axisZ c i =
     q : GridPoint
     q = stepUp axisZ c
 
-pub square-owned : (g : Field) (b : Box) (m : Flags) → Enclosed g b → (a : Axis) (c : GridPoint) → CellWithin b (stepUp a c) → Square (λ (e : Edge). T (changes g e) → T (owned b m e)) a c
+pub square-owned : (g : Field) (b : Box) (m : Flags) → Enclosed g b → (a : Axis) (c : GridPoint) → CellWithin b (stepUp a c) → Square
+    (λ (e : Edge). T (changes g e) → T (owned b m e)) a c
 square-owned g b m h a c i =
     record {
       near = changing-owned g b m h (edge (turned a) (stepUp a c)) (s .near);

@@ -9,7 +9,7 @@ use lib.IntN.{pos}
 use lib.Count.{trailingZeros}
 use lib.ListN.{length}
 use lib.Ieee.{fin, add, sub, mul, div, lt, ofInt, round, size, units, odd, neg, sum, span, climb}
-use Rattle.rules.specs.Lists.{run, upTo, keep, many, some, joined, place}
+use Rattle.lists.specs.Lists.{run, upTo, keep, many, some, joined, place}
 use Rattle.rules.specs.Grid.{GridPoint, axisX, Box, Field, index}
 use Rattle.rules.specs.Cell.{one32, fraction, pointBetween, crossingPoint, crossingPoints, summed, crossings, centroid, position}
 use Rattle.rules.specs.Vertices.{rowCells, layerCells, layerVertices, vertices, firstVertex}
@@ -63,7 +63,9 @@ ballList = 2 ∷ 1 ∷ 0 ∷ 2 ∷ 3 ∷ 1 ∷ 1 ∷ 4 ∷ 0 ∷ 1 ∷ 5 ∷ 4 �
 
 -- what a computed test opens: the definitions down to the arithmetic
 opened : Unit {0}
-unfolding run upTo keep many some joined place fraction pointBetween crossingPoint crossingPoints summed crossings centroid position rowCells layerCells layerVertices vertices firstVertex owned changes cellEdges layerEdges shorter faceCells layerIndices indices layerPoints points add sub mul div lt ofInt round size units odd neg sum span climb trailingZeros links faceLinks closed inner enclosed badDimensions badBox badLength judged
+unfolding run upTo keep many some joined place fraction pointBetween crossingPoint crossingPoints summed crossings centroid position rowCells layerCells layerVertices vertices
+    firstVertex owned changes cellEdges layerEdges shorter faceCells layerIndices indices layerPoints points add sub mul div lt ofInt round size units odd neg sum span climb
+    trailingZeros links faceLinks closed inner enclosed badDimensions badBox badLength judged
 opened = tt
 
 -- ---- one point: dimensions 4, 4, 4, box to (3,3,3)
@@ -100,9 +102,13 @@ singleList-joined : (many (sameLink (link 6 7)) (faceLinks singleList) ≡ 1) ×
 unfolding opened
 singleList-joined = (refl, refl)
 
-pub single-joined : (many (sameLink (link 6 7)) (faceLinks (indices single (boxTo 3) noPlane)) ≡ 1) × (many (sameLink (link 7 6)) (faceLinks (indices single (boxTo 3) noPlane)) ≡ 1)
-single-joined =
-    (ap (λ l. many (sameLink (link 6 7)) (faceLinks l)) single-indices ∙ singleList-joined .0, ap (λ l. many (sameLink (link 7 6)) (faceLinks l)) single-indices ∙ singleList-joined .1)
+pub single-joined : (many (sameLink (link 6 7)) (faceLinks (indices single (boxTo 3) noPlane)) ≡ 1) ×
+    (many (sameLink (link 7 6)) (faceLinks (indices single (boxTo 3) noPlane)) ≡ 1)
+single-joined = (
+  ap (λ l. many (sameLink (link 6 7)) (faceLinks l)) single-indices ∙ singleList-joined .0,
+  ap (λ l. many (sameLink (link 7 6)) (faceLinks l)) single-indices ∙
+      singleList-joined .1,
+)
 
 -- ---- two points across a square: dimensions 5, 5, 5, box to (4,4,4)
 

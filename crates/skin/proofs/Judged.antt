@@ -2,19 +2,16 @@
 use Prim.Native.Nat.{ℕ}
 use native.Mathlib.Omega.{arith}
 use mathlib.Core.Bool.{Bool, true, false, not, cond}
-use mathlib.Core.List.{List}
 use mathlib.Core.Path.{_≡_, ap}
-use lib.Ieee.{Float}
-use lib.ListN.{length}
-use Rattle.rules.specs.Lists.{many}
+use Rattle.lists.specs.Lists.{many}
 use Rattle.rules.specs.Grid.{Box, Field}
 use Rattle.rules.specs.Faces.{Flags, indices}
 use Rattle.rules.specs.Call.{badDimensions, badBox, badLength}
-use Rattle.rules.proofs.Tests.{is-test, failed}
+use Rattle.lists.proofs.Tests.{is-test}
 use Rattle.grid.specs.declared.Extent.{Extent}
 use Rattle.grid.specs.declared.Block.{Block}
-use Rattle.grid.specs.Block.{point, boxOf}
-use Rattle.grid.specs.Inside.{Inside}
+use Rattle.grid.specs.Faults.{firstFault}
+use Rattle.grid.proofs.Faults.{Faultless, first-answers}
 use Rattle.skin.specs.declared.Enclosed.{Enclosed}
 use Rattle.skin.specs.Links.{link, sameLink, links}
 use Rattle.skin.specs.Enclosed.{enclosed}
@@ -26,31 +23,16 @@ use Rattle.skin.proofs.Scans.{box-is}
 abbrev pub blockOf : Extent → Extent → Extent → Block
 blockOf dims low high = record { dims = dims; low = low; high = high; «max_plane» = record { x = false; y = false; z = false } }
 
--- ---- what the tests leave
-
-module _ (k : Block) {r s : Bool} (e : r ≡ badDimensions (point (k .dims))) (h : r ≡ false) (f : s ≡ badBox (point (k .dims)) (boxOf k)) (i : s ≡ false) where
-  pub all-inside : (sdf : List Float) {t : Bool} → t ≡ badLength (point (k .dims)) (length sdf) → t ≡ false → Inside sdf k
-  all-inside sdf p l = record { dims = failed e h; box = failed f i; size = failed p l }
-
 -- ---- the answer
 
 module _ (g : Field) (b : Box) (size : ℕ) where
-  pub judged-1 : {r : Bool} → r ≡ badDimensions (g .dims) → r ≡ true → answers 1 false ≡ judged g b size
+  pub judged-fault : (firstFault (g .dims) b size ≡ 0 → ⊥) → answers (firstFault (g .dims) b size) false ≡ judged g b size
   unfolding judged
-  judged-1 e h = rw (← e, h)
+  judged-fault n = first-answers (g .dims) b size (λ (m : ℕ). answers m false) (answers 0 (enclosed g b)) n
 
-  pub judged-2 : {r s : Bool} → r ≡ badDimensions (g .dims) → r ≡ false → s ≡ badBox (g .dims) b → s ≡ true → answers 2 false ≡ judged g b size
+  pub judged-0 : Faultless (g .dims) b size → {found : Bool} → found ≡ strayBox g b → answers 0 (not found) ≡ judged g b size
   unfolding judged
-  judged-2 e h f i = rw (← e, h, ← f, i)
-
-  pub judged-3 : {r s t : Bool} → r ≡ badDimensions (g .dims) → r ≡ false → s ≡ badBox (g .dims) b → s ≡ false → t ≡ badLength (g .dims) size → t ≡ true → answers 3 false ≡ judged g b size
-  unfolding judged
-  judged-3 e h f i p l = rw (← e, h, ← f, i, ← p, l)
-
-  pub judged-0 : {r s t : Bool} → r ≡ badDimensions (g .dims) → r ≡ false → s ≡ badBox (g .dims) b → s ≡ false → t ≡ badLength (g .dims) size → t ≡ false
-      → {found : Bool} → found ≡ strayBox g b → answers 0 (not found) ≡ judged g b size
-  unfolding judged
-  judged-0 e h f i p l q = rw (← e, h, ← f, i, ← p, l, q) (ap (answers 0) (box-is g b))
+  judged-0 f q = rw (f .dims, f .box, f .size, q) (ap (answers 0) (box-is g b))
 
 -- ---- what the answer says of the mesh
 

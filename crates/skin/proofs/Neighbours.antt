@@ -7,7 +7,7 @@ use mathlib.Core.Path.{_≡_, refl, sym, ap, _∙_}
 use lib.Ieee.Fits.{and-i, and-l, and-r}
 use Rattle.rules.specs.Grid.{GridPoint, Axis, axisX, axisY, axisZ, along, stepUp, stepDown, turned, samePoint}
 use Rattle.rules.specs.Faces.{Edge, edge, axisB, axisC, cell1, cell2, cell3, cell4}
-use Rattle.rules.proofs.Tests.{same-test, is-false}
+use Rattle.lists.proofs.Tests.{same-test, is-false}
 use Rattle.rules.proofs.Indexes.{Same, up-down as back-up}
 use Rattle.rules.proofs.FourCells.{along-down}
 use Rattle.rules.proofs.Counting.{same-says, says-same}

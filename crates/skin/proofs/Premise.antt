@@ -7,12 +7,12 @@ use mathlib.Core.Logic.{_↔_, _⊎_, inl, inr}
 use mathlib.Core.Path.{_≡_, refl, sym, ap, subst, _∙_}
 use lib.Dec.{T, leb, leb→le, le→leb, T-not}
 use lib.Ieee.Fits.{and-i, and-l, and-r}
-use Rattle.rules.specs.Lists.{many, joined}
+use Rattle.lists.specs.Lists.{many, joined}
 use Rattle.rules.specs.Grid.{GridPoint, axisX, axisY, axisZ, Box, Field, stepUp, inBox, value}
 use Rattle.rules.specs.Cell.{negative}
 use Rattle.rules.specs.Faces.{Edge, Flags, owned, changes, gives, indices}
-use Rattle.rules.proofs.Tests.{is-test}
-use Rattle.rules.proofs.Lists.{All, none, more, all-then}
+use Rattle.lists.proofs.Tests.{is-test}
+use Rattle.lists.proofs.Lists.{All, none, more, all-then}
 use Rattle.rules.proofs.Indexes.{Axes, axes, of-axes}
 use Rattle.rules.proofs.Inside.{none-in, in-none}
 use Rattle.rules.proofs.FourCells.{gives-cell}
@@ -62,7 +62,8 @@ module _ (g : Field) (b : Box) where
 
   pub enclosed-if : Enclosed g b → T (enclosed g b)
   unfolding enclosed
-  enclosed-if h = in-none b (stray g b) (λ p i t. T-not (inner b p) (and-r (negative (value g p)) (not (inner b p)) t) (says-inner b p (h p i (and-l (negative (value g p)) (not (inner b p)) t))))
+  enclosed-if h = in-none b (stray g b) (λ p i t. T-not (inner b p) (and-r (negative (value g p)) (not (inner b p)) t)
+      (says-inner b p (h p i (and-l (negative (value g p)) (not (inner b p)) t))))
 
   pub enclosed-is : T (enclosed g b) ↔ Enclosed g b
   enclosed-is = (enclosed-says, enclosed-if)

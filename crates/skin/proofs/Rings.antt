@@ -7,11 +7,11 @@ use mathlib.Core.List.{List, [], _∷_, _++_}
 use mathlib.Core.Path.{_≡_, refl, ap, _∙_}
 use borrow.Author.Tests.{eq-eqb}
 use lib.Dec.{eqb}
-use Rattle.rules.specs.Lists.{one, keep, some, many, joined}
+use Rattle.lists.specs.Lists.{one, keep, some, many, joined}
 use Rattle.rules.specs.Grid.{Box, Field, value}
 use Rattle.rules.specs.Cell.{negative}
 use Rattle.rules.specs.Faces.{Edge, Flags, six, shorter, faceCells, cell1, cell2, cell3, cell4, edges, indices}
-use Rattle.rules.proofs.Lists.{all-each, joined-same, total, many-joined}
+use Rattle.lists.proofs.Lists.{all-each, joined-same, total, many-joined}
 use Rattle.rules.proofs.Edges.{map-six}
 use Rattle.rules.proofs.Numbers.{faceNumbers, indices-are}
 use Rattle.skin.specs.Links.{Link, link, reverse, sameLink, links, withoutDiagonal, faceLinks, numberOf}
@@ -119,14 +119,16 @@ module _ (g : Field) (b : Box) where
   unfolding joined links
   links-joined [] = refl
   links-joined (e ∷ es) =
-      links-six (shorter g e) (negative (value g (e .from))) (numberOf g b (cell1 e)) (numberOf g b (cell2 e)) (numberOf g b (cell3 e)) (numberOf g b (cell4 e)) (joined (sixOf g b) es)
+      links-six (shorter g e) (negative (value g (e .from))) (numberOf g b (cell1 e)) (numberOf g b (cell2 e)) (numberOf g b (cell3 e)) (numberOf g b (cell4 e))
+      (joined (sixOf g b) es)
       ∙ ap (λ r. links (sixOf g b e) ++ r) (links-joined es)
 
   faceLinks-joined : (es : List Edge) → faceLinks (joined (sixOf g b) es) ≡ joined (λ (e : Edge). withoutDiagonal (links (sixOf g b e))) es
   unfolding joined faceLinks
   faceLinks-joined [] = refl
   faceLinks-joined (e ∷ es) =
-      faceLinks-six (shorter g e) (negative (value g (e .from))) (numberOf g b (cell1 e)) (numberOf g b (cell2 e)) (numberOf g b (cell3 e)) (numberOf g b (cell4 e)) (joined (sixOf g b) es)
+      faceLinks-six (shorter g e) (negative (value g (e .from))) (numberOf g b (cell1 e)) (numberOf g b (cell2 e)) (numberOf g b (cell3 e)) (numberOf g b (cell4 e))
+      (joined (sixOf g b) es)
       ∙ ap (λ r. withoutDiagonal (links (sixOf g b e)) ++ r) (faceLinks-joined es)
 
   -- a count over the whole list is the total of the counts over its faces

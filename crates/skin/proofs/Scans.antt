@@ -7,12 +7,12 @@ use mathlib.Core.List.{map}
 use mathlib.Core.Path.{_≡_, sym, ap, _∙_}
 use borrow.Author.Tests.{not-true, not-false}
 use lib.Dec.{leb, leb→le, le→leb}
-use Rattle.rules.specs.Lists.{some, upTo}
+use Rattle.lists.specs.Lists.{some, upTo}
 use Rattle.rules.specs.Grid.{Box, Field}
 use Rattle.rules.specs.Faces.{layerPoints, points, pointLayers}
-use Rattle.rules.proofs.Tests.{same-test, is-false}
-use Rattle.rules.proofs.Lists.{all-each}
-use Rattle.rules.proofs.Some.{some-joined, some-map, some-same}
+use Rattle.lists.proofs.Tests.{same-test, is-false}
+use Rattle.lists.proofs.Lists.{all-each}
+use Rattle.lists.proofs.Some.{some-joined, some-map, some-same}
 use Rattle.skin.specs.Enclosed.{innerSide, stray, enclosed}
 use Rattle.skin.specs.Scan.{strayRow, strayLayer, strayBox}
 use Rattle.skin.proofs.Premise.{side-says, says-side}

@@ -9,11 +9,11 @@ use mathlib.Core.Path.{_≡_, refl, sym, ap, ap₂, subst, _∙_}
 use lib.Dec.{T, eqb, eqb→eq}
 use lib.ListN.{length}
 use lib.Ieee.Fits.{and-l, and-r}
-use Rattle.rules.specs.Lists.{one, many}
+use Rattle.lists.specs.Lists.{one, many}
 use Rattle.rules.specs.Grid.{GridPoint, Axis, Box, Field, samePoint, isCell, stepUp}
 use Rattle.rules.specs.Faces.{Edge, Flags, axisB, axisC, owned, gives, edges, indices, changingEdges, shorter, cell1, cell2, cell3, cell4}
-use Rattle.rules.proofs.Tests.{is-false, one-positive}
-use Rattle.rules.proofs.Lists.{All, none, more, all-each, all-then, total, total-same, total-plus, total-times}
+use Rattle.lists.proofs.Tests.{is-false, one-positive}
+use Rattle.lists.proofs.Lists.{All, none, more, all-each, all-then, total, total-same, total-plus, total-times}
 use Rattle.rules.proofs.Indexes.{Same, CellWithin, cell-within}
 use Rattle.rules.proofs.Counting.{same-says}
 use Rattle.rules.proofs.FourCells.{Four, Owned, owned-says, gives-owned}

@@ -10,13 +10,13 @@ use lib.Dec.{T, eqb, eqb→eq}
 use lib.Ieee.{unlike}
 use lib.Ieee.Fits.{and-i, and-r, eq→eqb}
 use lib.ListN.{length, getD}
-use Rattle.rules.specs.Lists.{one, many, place}
+use Rattle.lists.specs.Lists.{one, many, place}
 use Rattle.rules.specs.Grid.{GridPoint, Axis, axisX, axisY, axisZ, Box, Field, samePoint, stepUp, turned, isCell, value}
 use Rattle.rules.specs.Cell.{negative}
 use Rattle.rules.specs.Vertices.{surfaceCell, vertices}
 use Rattle.rules.specs.Faces.{Edge, Flags, axisB, axisC, owned, changes, gives, edges, cell1, cell2, cell3, cell4}
-use Rattle.rules.proofs.Tests.{same-test, same-moves}
-use Rattle.rules.proofs.Lists.{all-each, all-then, total, total-same, total-plus, many-same, many-total, many-with, place-past, place-passes}
+use Rattle.lists.proofs.Tests.{same-test, same-moves}
+use Rattle.lists.proofs.Lists.{all-each, all-then, total, total-same, total-plus, many-same, many-total, many-with, place-past, place-passes}
 use Rattle.rules.proofs.Counting.{samePoint-sound}
 use Rattle.rules.proofs.FourCells.{Four, Owned, owned-says, gives-owned}
 use Rattle.rules.proofs.Edges.{sameAxis, sameEdge, sameEdge-sound, edges-once, edges-all}
@@ -75,9 +75,12 @@ module _ (g : Field) (b : Box) (a : Axis) (c : GridPoint) where
   one-side : (x : Axis) (l v : GridPoint) → v ≡ stepUp x l → IsVertex g b l → IsVertex g b v → (d t : Bool)
       → sameLink (between d) (way t (numberOf g b l) (numberOf g b v)) ≡ (Bool·beq d t && (sameAxis a x && samePoint c l))
   one-side x l v e hl hv true true = ap₂ _&&_ (number-same g b c l hl) (number-same g b (stepUp a c) v hv) ∙ ap (λ y. samePoint c l && samePoint (stepUp a c) y) e ∙ up-up a x c l
-  one-side x l v e hl hv true false = ap₂ _&&_ (number-same g b c v hv) (number-same g b (stepUp a c) l hl) ∙ ap (λ y. samePoint c y && samePoint (stepUp a c) l) e ∙ up-down a x c l
-  one-side x l v e hl hv false true = ap₂ _&&_ (number-same g b (stepUp a c) l hl) (number-same g b c v hv) ∙ ap (λ y. samePoint (stepUp a c) l && samePoint c y) e ∙ down-up a x c l
-  one-side x l v e hl hv false false = ap₂ _&&_ (number-same g b (stepUp a c) v hv) (number-same g b c l hl) ∙ ap (λ y. samePoint (stepUp a c) y && samePoint c l) e ∙ down-down a x c l
+  one-side x l v e hl hv true false = ap₂ _&&_ (number-same g b c v hv) (number-same g b (stepUp a c) l hl) ∙ ap (λ y. samePoint c y && samePoint (stepUp a c) l) e ∙ up-down a x
+      c l
+  one-side x l v e hl hv false true = ap₂ _&&_ (number-same g b (stepUp a c) l hl) (number-same g b c v hv) ∙ ap (λ y. samePoint (stepUp a c) l && samePoint c y) e ∙ down-up a x
+      c l
+  one-side x l v e hl hv false false = ap₂ _&&_ (number-same g b (stepUp a c) v hv) (number-same g b c l hl) ∙ ap (λ y. samePoint (stepUp a c) y && samePoint c l) e ∙ down-down a
+      x c l
 
 -- ---- the sides of one face
 

@@ -3,7 +3,7 @@
 use Prim.Native.Nat.{ℕ, _+_, _≤_}
 use mathlib.Core.Bool.{Bool, not, _&&_}
 use lib.Dec.{T, leb}
-use Rattle.rules.specs.Lists.{some}
+use Rattle.lists.specs.Lists.{some}
 use Rattle.rules.specs.Grid.{GridPoint, Axis, Box, Field, along, inBox, value}
 use Rattle.rules.specs.Cell.{negative}
 use Rattle.rules.specs.Faces.{points}

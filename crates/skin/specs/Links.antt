@@ -4,7 +4,7 @@ use Prim.Native.Nat.{ℕ}
 use mathlib.Core.Bool.{Bool, not, _&&_}
 use mathlib.Core.List.{List, [], _∷_, _++_}
 use lib.Dec.{eqb}
-use Rattle.rules.specs.Lists.{keep, many, some, place}
+use Rattle.lists.specs.Lists.{keep, many, some, place}
 use Rattle.rules.specs.Grid.{GridPoint, Axis, Box, Field, samePoint, stepUp, turned}
 use Rattle.rules.specs.Vertices.{vertices}
 use Rattle.rules.specs.Faces.{Edge, edge}

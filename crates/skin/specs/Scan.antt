@@ -5,7 +5,7 @@ use mathlib.Core.Bool.{Bool, false, cond}
 use mathlib.Core.List.{List}
 use lib.ListN.{length, getD}
 use lib.Ieee.{Float, nan}
-use Rattle.rules.specs.Lists.{some, upTo}
+use Rattle.lists.specs.Lists.{some, upTo}
 use Rattle.rules.specs.Grid.{Box, Field}
 use Rattle.rules.specs.Call.{badDimensions, badBox, badLength}
 use Rattle.grid.specs.declared.Extent.{Extent}

@@ -5,8 +5,8 @@ mod scan;
 ghost use mathlib.Core.Path.{_≡_};
 ghost use Rattle.skin.specs.Scan.{examined};
 use grid::Block;
+use grid::EachAxis;
 use grid::Extent;
-use grid::MaxPlane;
 
 // Answer 0 with the test's outcome, or a refusal of document 01, 1, 2 or 3, with `enclosed` false.
 pub struct Enclosed {
@@ -21,27 +21,16 @@ pub fn is_enclosed(sdf: &[f32], dims: Extent, low: Extent, high: Extent) -> Encl
         dims,
         low,
         high,
-        max_plane: MaxPlane {
+        max_plane: EachAxis {
             x: false,
             y: false,
             z: false,
         },
     };
-    if grid::checks::bad_dimensions(dims) {
+    let fault = grid::checks::first_fault(k, sdf.len());
+    if fault != 0 {
         return Enclosed {
-            answer: 1,
-            enclosed: false,
-        };
-    }
-    if grid::checks::bad_box(k) {
-        return Enclosed {
-            answer: 2,
-            enclosed: false,
-        };
-    }
-    if grid::checks::bad_length(dims, sdf.len()) {
-        return Enclosed {
-            answer: 3,
+            answer: fault,
             enclosed: false,
         };
     }

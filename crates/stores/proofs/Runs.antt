@@ -7,7 +7,7 @@ use mathlib.Core.List.{List, [], _∷_, _++_}
 use mathlib.Core.Path.{_≡_, refl, sym, ap, _∙_}
 use lib.ListN.{length, set, drop, length-append, length-drop}
 use lib.Seq.{sets, sets-eq, take-append-seam, drop-append-add, drop-drop}
-use Rattle.rules.specs.Lists.{over}
+use Rattle.lists.specs.Lists.{over}
 
 -- ---- as the code counts
 
@@ -39,4 +39,5 @@ sets-over w old vs i e h =
     ap (λ (n : ℕ). sets (over w old) n vs) e
     ∙ sets-eq vs (over w old) (length w) (rw (length-over w old (omega arith)) h)
     ∙ ap (λ (l : _). l ++ vs ++ drop (length w + length vs) (over w old)) (take-append-seam w (drop (length w) old))
-    ∙ ap (λ (l : _). w ++ vs ++ l) (drop-append-add w (drop (length w) old) (length vs) ∙ drop-drop (length vs) (length w) old ∙ ap (λ (n : ℕ). drop n old) (sym (length-append w vs)))
+    ∙ ap (λ (l : _). w ++ vs ++ l) (drop-append-add w (drop (length w) old) (length vs) ∙ drop-drop (length vs) (length w) old ∙ ap (λ (n : ℕ). drop n old)
+    (sym (length-append w vs)))

@@ -11,7 +11,7 @@ use Rattle.grid.specs.declared.Block.{Block}
 use Rattle.grid.specs.Block.{boxOf, flagsOf, fieldOf, callOf}
 use Rattle.grid.specs.Inside.{Inside}
 use Rattle.judge.proofs.Judging.{done-enough}
-use Rattle.whole_box.specs.Reading.{Roomy}
+use Rattle.whole_box.specs.LentLists.{Roomy}
 
 module _ (grid : List Float) (k : Block) (s : Buffers) (e : answer (callOf grid k) (room s) .number ≡ 0) where
   pub done-inside : Inside grid k

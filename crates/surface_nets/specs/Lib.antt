@@ -1,2 +1,2 @@
 -- How the call's structs render document 01's answer and buffers.
-pub mod Reading
+pub mod AsRules

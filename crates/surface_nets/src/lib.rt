@@ -1,13 +1,14 @@
 // The bed mesher: document 01's call. The conditions 1 to 7 are tried in their order before anything is written; then each layer of cells is
 // written, its vertices first and then its faces.
 ghost use mathlib.Core.Path.{_≡_};
+ghost use Rattle.lists.specs.Floats.{Binary32};
 ghost use Rattle.rules.specs.Call.{answer, afterwards, room};
-ghost use Rattle.judge.specs.Reading.{answerOf};
-ghost use Rattle.whole_box.specs.Reading.{buffersBefore, buffersAfter};
-ghost use Rattle.surface_nets.specs.Reading.{callMade, Binary32};
+ghost use Rattle.judge.specs.AsRules.{answerOf};
+ghost use Rattle.whole_box.specs.LentLists.{buffersBefore, buffersAfter};
+ghost use Rattle.surface_nets.specs.AsRules.{callMade};
 use grid::Block;
+use grid::EachAxis;
 use grid::Extent;
-use grid::MaxPlane;
 pub use judge::Answer;
 use judge::Lengths;
 
@@ -18,7 +19,7 @@ pub fn surface_nets(
     dims: Extent,
     low: Extent,
     high: Extent,
-    max_plane: MaxPlane,
+    max_plane: EachAxis,
     positions: &mut [f32],
     normals: &mut [f32],
     cells: &mut [u32],

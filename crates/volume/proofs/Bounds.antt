@@ -11,7 +11,7 @@ use lib.IntN.{ℤ, pos, negsuc, negℤ, natAbs, subℕ, _+ℤ_, _-ℤ_}
 use lib.Signed.{mag}
 use mir.Syntax.{w64}
 use mir.Val.{SFits}
-use Rattle.rules.proofs.Tests.{less-or-not}
+use Rattle.lists.proofs.Tests.{less-or-not}
 use Rattle.volume.specs.declared.Corner.{Corner}
 use Rattle.volume.specs.Volume.{Near, falling, rising, determinant}
 

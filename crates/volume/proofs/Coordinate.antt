@@ -1,7 +1,26 @@
 -- One coordinate: the test by comparisons of floats is the definition's, and the steps worked out on the bits are the whole part of 256·x.
 -- Assumes nothing.
 use Prim.Native.Nat.{ℕ, zero, suc, _+_, _-_, _*_, _/_, _%_, _^_, _≤_, _<_}
-use native.Mathlib.Nat.{le-trans, le-of-eq, lt-of-lt-of-le, not-le-of-lt, zero-mul, mul-one, mul-assoc, mul-comm, mul-left-comm, mul-right-comm, mul-le-mul, mul-le-mul-left, mul-le-mul-right, le-of-mul-le-mul-right, mul-pos, div-eq-of-lt, mod-lt, le-refl}
+use native.Mathlib.Nat.{
+  le-trans,
+  le-of-eq,
+  lt-of-lt-of-le,
+  not-le-of-lt,
+  zero-mul,
+  mul-one,
+  mul-assoc,
+  mul-comm,
+  mul-left-comm,
+  mul-right-comm,
+  mul-le-mul,
+  mul-le-mul-left,
+  mul-le-mul-right,
+  le-of-mul-le-mul-right,
+  mul-pos,
+  div-eq-of-lt,
+  mod-lt,
+  le-refl,
+}
 use native.Mathlib.Omega.{arith}
 use mathlib.Core.Bool.{Bool, true, false, not, _&&_, _||_, cond, true≢false}
 use mathlib.Core.Logic.{inl, inr}
@@ -15,7 +34,7 @@ use lib.Ieee.Bits.{is-true, ofBits-toBits}
 use lib.Ieee.Exact.{HasValue, odd-sign}
 use lib.Ieee.Fits.{up-pos, down-pos}
 use lib.Ieee.Nearest.{div-mono, div-same}
-use Rattle.rules.proofs.Tests.{same-test, nor-left, nor-right, nor-both, less-or-not}
+use Rattle.lists.proofs.Tests.{same-test, nor-left, nor-right, nor-both, less-or-not}
 use Rattle.volume.specs.Steps.{outside, steps}
 
 -- ---- permitted: 0 ≤ x and x ≤ 128, as floats compare

@@ -7,7 +7,7 @@ use mathlib.Core.Path.{_≡_, refl}
 use lib.Count.{trailingZeros}
 use lib.IntN.{pos, negsuc}
 use lib.Ieee.{Float, fin, binary32, odd, ofFields, ofBits}
-use Rattle.rules.specs.Lists.{some}
+use Rattle.lists.specs.Lists.{some}
 use Rattle.volume.specs.Steps.{outside, steps}
 use Rattle.volume.specs.Volume.{determinant, sumOver}
 use Rattle.volume.specs.Answers.{weighed, weighing}

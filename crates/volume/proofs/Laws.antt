@@ -7,8 +7,8 @@ use mathlib.Core.List.{List, [], _∷_, _++_}
 use mathlib.Core.Path.{_≡_, refl, sym, ap, ap₂, _∙_}
 use lib.IntN.{ℤ, pos, negℤ, _+ℤ_, _-ℤ_, +ℤ-assoc, +ℤ-comm, +ℤ-idl, negℤ-+ℤ}
 use lib.ListN.{length}
-use Rattle.rules.specs.Lists.{some}
-use Rattle.rules.proofs.Permutation.{Perm, nil, skip, swap, trans}
+use Rattle.lists.specs.Lists.{some}
+use Rattle.lists.proofs.Permutation.{Perm, nil, skip, swap, trans}
 use Rattle.volume.specs.declared.Corner.{Corner}
 use Rattle.volume.specs.Volume.{falling, rising, determinant, sumOver}
 use Rattle.volume.specs.Triangles.{turnedRound, Rolled, same, kept, rolled, Triangle, triangles}

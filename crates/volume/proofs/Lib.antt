@@ -2,7 +2,6 @@
 pub mod Coordinate
 pub mod Whole
 pub mod Bounds
-pub mod Scanning
 pub mod Summing
 pub mod Answering
 pub mod Laws

@@ -8,9 +8,9 @@ use borrow.Author.Tests.{eq-eqb, le-ltb}
 use lib.IntN.{ℤ, pos, negℤ, _+ℤ_}
 use lib.ListN.{length, length-append}
 use lib.Ieee.{Float}
-use Rattle.rules.specs.Lists.{some}
-use Rattle.rules.proofs.Permutation.{Perm, nil, skip, swap, trans, perm-length}
-use Rattle.rules.proofs.Some.{some-append}
+use Rattle.lists.specs.Lists.{some}
+use Rattle.lists.proofs.Permutation.{Perm, nil, skip, swap, trans, perm-length}
+use Rattle.lists.proofs.Some.{some-append}
 use Rattle.volume.specs.declared.Weighed.{Weighed}
 use Rattle.volume.specs.Volume.{cornerAt, sixfold}
 use Rattle.volume.specs.Answers.{notThrees, tooMany, someOutside, noVertex, someWithout, weighed, weighing}
@@ -183,7 +183,8 @@ pub joined-weighs : (p : List Float) (i j : List ℕ) → weighing p i .answer �
 joined-weighs p i j g h few =
     weighs p (i ++ j)
     (record {
-      threes = or-no (notThrees (length p)) (notThrees (length (i ++ j))) (or-left (notThrees (length p)) (notThrees (length i)) (a .threes)) (three-is (length (i ++ j)) (omega (arith, length-append i j, u, v)));
+      threes = or-no (notThrees (length p)) (notThrees (length (i ++ j))) (or-left (notThrees (length p)) (notThrees (length i)) (a .threes))
+          (three-is (length (i ++ j)) (omega (arith, length-append i j, u, v)));
       few = le-ltb 16384 (length (i ++ j) / 3) few;
       inside = a .inside;
       vertices = some-append (noVertex (length p / 3)) i j ∙ or-no (someWithout p i) (someWithout p j) (a .vertices) (b .vertices);

@@ -7,7 +7,7 @@ use lib.Dec.{leb, ltb, eqb}
 use lib.IntN.{ℤ, pos}
 use lib.ListN.{length}
 use lib.Ieee.{Float}
-use Rattle.rules.specs.Lists.{some}
+use Rattle.lists.specs.Lists.{some}
 use Rattle.volume.specs.Steps.{outside}
 use Rattle.volume.specs.Volume.{sixfold}
 use Rattle.volume.specs.declared.Weighed.{Weighed}

@@ -3,7 +3,7 @@ ghost use mathlib.Core.Path.{_≡_};
 ghost use mathlib.Core.Bool.{not};
 ghost use lib.Dec.{T};
 ghost use lib.ListN.{length};
-ghost use Rattle.rules.specs.Lists.{some};
+ghost use Rattle.lists.specs.Lists.{some};
 ghost use Rattle.volume.specs.Steps.{outside, steps};
 
 // A comparison of floats is exact, and none holds of a not-a-number.

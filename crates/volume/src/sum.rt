@@ -4,7 +4,7 @@ ghost use mathlib.Core.Bool.{false};
 ghost use Prim.Native.Nat.{_+_, _*_, _/_, _%_, _^_, _≤_};
 ghost use lib.IntN.{natAbs};
 ghost use lib.ListN.{length};
-ghost use Rattle.rules.specs.Lists.{some};
+ghost use Rattle.lists.specs.Lists.{some};
 ghost use Rattle.volume.specs.Steps.{outside};
 ghost use Rattle.volume.specs.Volume.{Near, cornerAt, falling, rising, determinant, sixfold};
 ghost use Rattle.volume.specs.Answers.{noVertex};

@@ -9,9 +9,9 @@ use lib.Dec.{T}
 use lib.IntN.{ℤ, negℤ, natAbs, _+ℤ_}
 use lib.ListN.{length, getD}
 use lib.Ieee.{Float, nan}
-use Rattle.rules.specs.Lists.{some}
-use Rattle.rules.proofs.Lists.{All, none, more, all-then}
-use Rattle.rules.proofs.Permutation.{Perm}
+use Rattle.lists.specs.Lists.{some}
+use Rattle.lists.proofs.Lists.{All, none, more, all-then}
+use Rattle.lists.proofs.Permutation.{Perm}
 use Rattle.skin.specs.Links.{links}
 use Rattle.volume.specs.declared.Corner.{Corner}
 use Rattle.volume.specs.declared.Weighed.{Weighed}
@@ -22,7 +22,7 @@ use Rattle.volume.specs.Triangles.{turnedRound, Rolled, triangles}
 use Rattle.volume.proofs.Answering.{in-threes, few-enough}
 use Rattle.volume.proofs.Bounds.{sum-most, determinant-most}
 use Rattle.volume.proofs.Coordinate.{steps-near}
-use Rattle.volume.proofs.Scanning.{none-at}
+use Rattle.lists.proofs.Searching.{none-at}
 use Rattle.volume.proofs.Weighing.{Accepted, accepted, weighs, round-weighs, rolled-weighs, order-weighs, joined-weighs}
 use Rattle.weighed_mesh.specs.Told.{Told}
 use Rattle.weighed_mesh.proofs.Sides.{Even}
@@ -42,7 +42,8 @@ pub told-rolled : (t u : Told) → u .positions ≡ t .positions → Rolled (t .
 told-rolled t u p r = says-of u p refl ∙ rolled-weighs (t .positions) r ∙ sym (t .told)
 
 -- the triangles in another order
-pub told-order : (t u : Told) → u .positions ≡ t .positions → length (t .indices) % 3 ≡ 0 → length (u .indices) % 3 ≡ 0 → Perm (triangles (t .indices)) (triangles (u .indices)) → u .says ≡ t .says
+pub told-order : (t u : Told) → u .positions ≡ t .positions → length (t .indices) % 3 ≡ 0 → length (u .indices) % 3 ≡ 0 → Perm (triangles (t .indices)) (triangles (u .indices)) →
+    u .says ≡ t .says
 told-order t u p h k q = says-of u p refl ∙ order-weighs (t .positions) (t .indices) (u .indices) h k q ∙ sym (t .told)
 
 -- "For two triangle lists over the same positions, the answer for one after the other is the sum of the two, where the joined list is within

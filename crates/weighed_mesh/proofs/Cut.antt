@@ -6,7 +6,7 @@ use lib.IntN.{ℤ, pos, _+ℤ_}
 use Rattle.rules.specs.Grid.{Field}
 use Rattle.rules.specs.Faces.{edges}
 use Rattle.rules.specs.Cutting.{Piece, Cuts, pieces, Fits, Plan}
-use Rattle.rules.proofs.Lists.{All, none, more}
+use Rattle.lists.proofs.Lists.{All, none, more}
 use Rattle.rules.proofs.Cutting.{cuts-plan, edge-law}
 use Rattle.volume.specs.declared.Weighed.{Weighed}
 use Rattle.volume.specs.Volume.{sixfold}
@@ -68,7 +68,8 @@ pub record Weighs (g : Field) (q : Piece) : Type 0 where
 says-weight : (g : Field) (q : Piece) (c : Weighs g q) → c .call .says .volume ≡ weightOf (c .made .served)
 says-weight g q c =
     let t = c .call in
-    ap (λ (w : Weighed). w .volume) (t .told ∙ weighs (t .positions) (t .indices) (accepted (t .positions) (t .indices) (ap (λ (w : Weighed). w .answer) (sym (t .told)) ∙ c .done)))
+    ap (λ (w : Weighed). w .volume) (t .told ∙ weighs (t .positions) (t .indices)
+    (accepted (t .positions) (t .indices) (ap (λ (w : Weighed). w .answer) (sym (t .told)) ∙ c .done)))
     ∙ ap₂ sixfold (c .positions) (c .indices)
 
 unfoldable pub volumes : (g : Field) (ps : List Piece) → All (Weighs g) ps → ℤ

@@ -8,14 +8,14 @@ use lib.Dec.{T}
 use lib.IntN.{ℤ, pos, _+ℤ_, +ℤ-assoc, +ℤ-comm, +ℤ-idl}
 use lib.ListN.{length, getD, length-map, List·getD-map}
 use lib.Ieee.{Float, nan}
-use Rattle.rules.specs.Lists.{joined, place}
+use Rattle.lists.specs.Lists.{joined, place}
 use Rattle.rules.specs.Grid.{GridPoint, Box, Field, samePoint, isCell}
 use Rattle.rules.specs.Cell.{Vector}
 use Rattle.rules.specs.Vertices.{surfaceCell, vertices, vertexPosition}
 use Rattle.rules.specs.Faces.{Edge, Flags, gives, edges, faceCells, indices}
 use Rattle.rules.specs.Call.{flatVectors}
-use Rattle.rules.proofs.Lists.{All, none, more, all-then, map-same}
-use Rattle.rules.proofs.Permutation.{Perm, nil, skip, swap, trans}
+use Rattle.lists.proofs.Lists.{All, none, more, all-then, map-same}
+use Rattle.lists.proofs.Permutation.{Perm, nil, skip, swap, trans}
 use Rattle.rules.proofs.Edges.{edges-all, faceCells-length}
 use Rattle.rules.proofs.Numbers.{four-each, face-all, faceNumbers, indices-are, number-below, vertex-at}
 use Rattle.rules.proofs.Seen.{ThreeAt, flatVectors-at}
@@ -101,7 +101,8 @@ module _ (g : Field) (b : Box) (m : Flags) where
   faces-sum none = refl
   faces-sum (more {x = e} {xs = es} h k) =
       joined-sum (cornerAt xs) (faceNumbers g b e) (joined (faceNumbers g b) es) six-long
-      ∙ ap₂ _+ℤ_ (sum-corners (cornerAt xs) (faceNumbers g b e) ∙ ap cornersSum (map-map (cornerAt xs) (λ (c : GridPoint). place (samePoint c) vs) (faceCells g e) ∙ map-same h)) (faces-sum k)
+      ∙ ap₂ _+ℤ_ (sum-corners (cornerAt xs) (faceNumbers g b e) ∙ ap cornersSum (map-map (cornerAt xs) (λ (c : GridPoint). place (samePoint c) vs) (faceCells g e) ∙ map-same h))
+      (faces-sum k)
     where
       six-long : length (faceNumbers g b e) % 3 ≡ 0
       six-long = ap (λ (n : ℕ). n % 3) (length-map (faceCells g e) (λ (c : GridPoint). place (samePoint c) vs) ∙ faceCells-length g e)

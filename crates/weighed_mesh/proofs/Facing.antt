@@ -19,7 +19,7 @@ use Rattle.rules.specs.Vertices.{vertexPosition}
 use Rattle.rules.specs.Faces.{Edge, Flags, axisB, axisC, gives, six, shorter, faceCells, cell1, cell2, cell3, cell4}
 use Rattle.rules.specs.Call.{Call, room, badDimensions, badBox, badDistance}
 use Rattle.rules.specs.Cutting.{faceOf, cornerAt, Corner as Seen}
-use Rattle.rules.proofs.Lists.{All, all-then, all-map}
+use Rattle.lists.proofs.Lists.{All, all-then, all-map}
 use Rattle.rules.proofs.Accepted.{Accepted}
 use Rattle.rules.proofs.Indexes.{index-below}
 use Rattle.rules.proofs.FourCells.{Four, Owned, owned-says, gives-owned}

@@ -9,7 +9,7 @@ use lib.Dec.{eqb}
 use lib.IntN.{ℤ, pos, negsuc}
 use lib.ListN.{getD, take, drop}
 use lib.Ieee.{Float, nan, fin, binary32, add, sub, mul, div, lt, ofInt, round, size, units, odd, neg, sum, span, climb}
-use Rattle.rules.specs.Lists.{run, upTo, keep, many, some, joined, place}
+use Rattle.lists.specs.Lists.{run, upTo, keep, many, some, joined, place}
 use Rattle.rules.specs.Grid.{GridPoint, axisX, Box, Field, index}
 use Rattle.rules.specs.Cell.{one32, float, fraction, pointBetween, crossingPoint, crossingPoints, summed, crossings, centroid, position}
 use Rattle.rules.specs.Vertices.{rowCells, layerCells, layerVertices, vertices, firstVertex, vertexPosition}
@@ -24,7 +24,9 @@ abbrev point : ℕ → ℕ → ℕ → GridPoint
 point x y z = record { x = x; y = y; z = z }
 
 opened : Unit {0}
-unfolding run upTo keep many some joined place fraction pointBetween crossingPoint crossingPoints summed crossings centroid position rowCells layerCells layerVertices vertices firstVertex owned changes cellEdges layerEdges edges shorter faceCells layerIndices indices add sub mul div lt ofInt round size units odd neg sum span climb trailingZeros steps determinant sumOver areas
+unfolding run upTo keep many some joined place fraction pointBetween crossingPoint crossingPoints summed crossings centroid position rowCells layerCells layerVertices vertices
+    firstVertex owned changes cellEdges layerEdges edges shorter faceCells layerIndices indices add sub mul div lt ofInt round size units odd neg sum span climb trailingZeros
+    steps determinant sumOver areas
 opened = tt
 
 -- ---- one point: dimensions 4, 4, 4, 1.0 but for -1.0 at (1,1,1), box to (3,3,3)

@@ -9,7 +9,7 @@ use mathlib.Core.List.{List, [], _∷_}
 use mathlib.Core.Path.{_≡_, refl, sym, ap, ap₂, _∙_}
 use lib.Dec.{T, ltb, nltb→le}
 use lib.IntN.{ℤ, pos, negsuc, natAbs, _+ℤ_, _-ℤ_, pos-ne-negsuc}
-use Rattle.rules.proofs.Lists.{All, none, more, all-then, total}
+use Rattle.lists.proofs.Lists.{All, none, more, all-then, total}
 use Rattle.skin.specs.Links.{Link, link, links}
 use Rattle.volume.specs.declared.Corner.{Corner}
 use Rattle.volume.specs.Volume.{corner, falling, rising, determinant, sumOver}

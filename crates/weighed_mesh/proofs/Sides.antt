@@ -6,9 +6,9 @@ use mathlib.Core.Bool.{Bool, true, false, _&&_}
 use mathlib.Core.List.{List, [], _∷_, map}
 use mathlib.Core.Path.{_≡_, refl, sym, ap, _∙_}
 use lib.Dec.{eqb}
-use Rattle.rules.specs.Lists.{many}
-use Rattle.rules.proofs.Lists.{total, many-map, many-same, all-each}
-use Rattle.rules.proofs.Permutation.{Perm, nil, skip, swap, trans, perm-counts}
+use Rattle.lists.specs.Lists.{many}
+use Rattle.lists.proofs.Lists.{total, many-map, many-same, all-each}
+use Rattle.lists.proofs.Permutation.{Perm, nil, skip, swap, trans, perm-counts}
 use Rattle.skin.specs.Links.{Link, link, reverse, sameLink, links}
 use Rattle.skin.proofs.Closed.{sameLink-sound, sameLink-itself}
 

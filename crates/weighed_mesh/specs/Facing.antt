@@ -66,6 +66,7 @@ vertexSteps g c = stepsOf (vertexPosition g c)
 
 -- a face that faces out of the sludge, or has no area as seen along its edge: from p1 to p2 if p1 is negative, and else from p2 to p1
 pub record FacesOut (g : Field) (f : Face) : Type 0 where
-  pub round : GoesRound (f .edge .axis) (f .edge .from) (vertexSteps g (cell1 (f .edge))) (vertexSteps g (cell2 (f .edge))) (vertexSteps g (cell3 (f .edge))) (vertexSteps g (cell4 (f .edge)))
+  pub round : GoesRound (f .edge .axis) (f .edge .from) (vertexSteps g (cell1 (f .edge))) (vertexSteps g (cell2 (f .edge))) (vertexSteps g (cell3 (f .edge)))
+      (vertexSteps g (cell4 (f .edge)))
   pub up : T (negative (value g (f .edge .from))) → pos 0 ≤ℤ faceArea f
   pub down : T (not (negative (value g (f .edge .from)))) → faceArea f ≤ℤ pos 0

@@ -6,7 +6,7 @@ use mathlib.Core.List.{List, _++_}
 use mathlib.Core.Path.{_≡_, ap, _∙_}
 use lib.Ieee.{Float, nan}
 use lib.ListN.{length, take, drop, replicate}
-use Rattle.rules.specs.Lists.{placed}
+use Rattle.lists.specs.Lists.{placed}
 use Rattle.rules.specs.Grid.{GridPoint}
 use Rattle.rules.proofs.Indexes.{BoxFits, box-fits, right-length}
 use Rattle.grid.specs.declared.Block.{Block}
@@ -18,7 +18,7 @@ use Rattle.grid.proofs.Layers.{in-plane, in-some-grid}
 use Rattle.layer_vertices.specs.Marked.{lastEntry, InPart}
 use Rattle.whole_box.specs.Layers.{lastAt, InMap}
 use Rattle.whole_box.proofs.Map.{part-back}
-use Rattle.whole_box.proofs.Parts.{part, length-part, layer-under}
+use Rattle.grid.proofs.Parts.{part, length-part, layer-under}
 use Rattle.whole_box.proofs.Lent.{plane-up}
 
 -- a map as long as the grid

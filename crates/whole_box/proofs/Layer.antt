@@ -9,21 +9,21 @@ use mathlib.Core.Path.{_≡_, refl, sym, ap, ap₂, subst, _∙_}
 use lib.Ieee.{Float}
 use lib.ListN.{length, length-append}
 use lib.Seq.{sets}
-use Rattle.rules.specs.Lists.{upTo, joined}
+use Rattle.lists.specs.Lists.{upTo, joined}
 use Rattle.rules.specs.Grid.{GridPoint, Box, Field}
 use Rattle.rules.specs.Vertices.{vertices, layerVertices, firstVertex}
 use Rattle.rules.specs.Faces.{Flags, layerIndices}
 use Rattle.rules.specs.Call.{Call, Buffers}
-use Rattle.rules.proofs.Tests.{less-or-not}
-use Rattle.rules.proofs.Lists.{length-placed}
-use Rattle.rules.proofs.Runs.{upTo-none}
+use Rattle.lists.proofs.Tests.{less-or-not}
+use Rattle.lists.proofs.Lists.{length-placed}
+use Rattle.lists.proofs.Runs.{upTo-none}
 use Rattle.grid.specs.declared.Block.{Block}
 use Rattle.grid.specs.Block.{point, boxOf, flagsOf, fieldOf, callOf}
 use Rattle.grid.specs.Inside.{Inside}
 use Rattle.grid.proofs.Bounds.{fits}
 use Rattle.layer_vertices.specs.Marked.{Lists}
 use Rattle.whole_box.specs.declared.Made.{Made}
-use Rattle.whole_box.specs.Reading.{listsOf, withIndices}
+use Rattle.whole_box.specs.LentLists.{listsOf, withIndices}
 use Rattle.whole_box.specs.Layers.{entryAt, indicesTo, layerMarked, madeTo, Written, layerWritten, layerMade, Stands}
 use Rattle.whole_box.proofs.Steps.{indices-more, indices-within, vertices-within, first-is, first-more, written-more, SameLengths, written-lengths}
 use Rattle.whole_box.proofs.Looks.{stands}
@@ -77,7 +77,8 @@ module _ (sdf : List Float) (k : Block) (i : Inside sdf k) (z : ℕ) (zs : (k .l
     unfolding layerMarked layerWritten
     stands-marked {l} e =
         subst (λ (u : Lists). Stands g b z (made .vertices) (made .below) (u .cells) (u .map) (u .positions)) (sym e)
-        (subst (λ (n : Made). Stands g b z (n .vertices) (n .below) (layerWritten call z made s .cells) (layerWritten call z made s .map) (layerWritten call z made s .positions)) (sym (w .on)) (stands sdf k i z zs grown))
+        (subst (λ (n : Made). Stands g b z (n .vertices) (n .below) (layerWritten call z made s .cells) (layerWritten call z made s .map) (layerWritten call z made s .positions))
+        (sym (w .on)) (stands sdf k i z zs grown))
 
     pub map-still : {l : Lists} → l ≡ layerMarked (fieldOf sdf k) (boxOf k) z (made .vertices) (listsOf s) → length sdf ≤ length (l .map)
     unfolding layerMarked

@@ -12,7 +12,7 @@ use lib.Seq.{sets}
 use Rattle.rules.specs.Grid.{GridPoint, Box, Field}
 use Rattle.rules.specs.Vertices.{cells, surfaceCell, vertices, layerVertices, firstVertex}
 use Rattle.rules.specs.Call.{Buffers}
-use Rattle.rules.proofs.Lists.{many-most}
+use Rattle.lists.proofs.Lists.{many-most}
 use Rattle.rules.proofs.Counting.{cell-count}
 use Rattle.grid.specs.declared.Block.{Block}
 use Rattle.grid.specs.Block.{point, boxOf, flagsOf, fieldOf, callOf}
@@ -26,21 +26,29 @@ use Rattle.layer_vertices.specs.declared.Next.{Next}
 use Rattle.layer_vertices.specs.Marked.{Lists, lists, listed, layerEntry, marked, Room}
 use Rattle.layer_vertices.proofs.Alike.{marked-alike}
 use Rattle.whole_box.specs.declared.Made.{Made}
-use Rattle.whole_box.specs.Reading.{listsOf}
+use Rattle.whole_box.specs.LentLists.{listsOf}
 use Rattle.whole_box.specs.Layers.{layerMarked, Written}
 use Rattle.whole_box.proofs.Map.{part-back}
-use Rattle.whole_box.proofs.Parts.{part, rest, layers-agree, layer-end}
+use Rattle.grid.proofs.Parts.{part, rest, layers-agree, layer-end}
 use Rattle.whole_box.proofs.Steps.{vertices-within, first-is, first-more, SameLengths, written-lengths}
 
 module _ (sdf : List Float) (k : Block) (i : Inside sdf k) where
   -- there are few vertices
   pub vertices-few : length (vertices (fieldOf sdf k) (boxOf k)) ≤ 1073741824
   vertices-few =
-      omega (arith, cell-count (fieldOf sdf k) (boxOf k), many-most (surfaceCell (fieldOf sdf k)) (cells (boxOf k)), ap length (box-ends (boxOf k)), box-short sdf k i (k .high .z) (omega arith))
+      omega (
+        arith,
+        cell-count (fieldOf sdf k) (boxOf k),
+        many-most (surfaceCell (fieldOf sdf k)) (cells (boxOf k)),
+        ap length (box-ends (boxOf k)),
+        box-short sdf k i
+            (k .high .z) (omega arith),
+      )
 
   -- a layer of the grid has distances
   pub plane-up : 0 < k .dims .x * k .dims .y
-  plane-up = let f = fits sdf k i in let h : 1 ≤ k .dims .y = omega arith in let w : 1 ≤ k .dims .x = omega arith in omega (arith, mul-le-mul-left (k .dims .x) h, mul-one (k .dims .x))
+  plane-up = let f = fits sdf k i in let h : 1 ≤ k .dims .y = omega arith in let w : 1 ≤ k .dims .x = omega arith in omega
+      (arith, mul-le-mul-left (k .dims .x) h, mul-one (k .dims .x))
 
   module _ (z : ℕ) (zs : (k .low .z ≤ z) × (z < k .high .z)) where
     abbrev g : Field
@@ -50,14 +58,17 @@ module _ (sdf : List Float) (k : Block) (i : Inside sdf k) where
     b = boxOf k
 
     abbrev two : ℕ → Float
-    two = layerDist (part (k .dims .x * k .dims .y * z) (k .dims .x * k .dims .y) sdf) (rest (k .dims .x * k .dims .y * z + k .dims .x * k .dims .y) sdf) (k .dims .x * k .dims .y) z
+    two = layerDist (part (k .dims .x * k .dims .y * z) (k .dims .x * k .dims .y) sdf) (rest (k .dims .x * k .dims .y * z + k .dims .x * k .dims .y) sdf)
+        (k .dims .x * k .dims .y) z
 
-    pub layer-same : layerVertices (twoLayers (part (k .dims .x * k .dims .y * z) (k .dims .x * k .dims .y) sdf) (rest (k .dims .x * k .dims .y * z + k .dims .x * k .dims .y) sdf) k z) (boxOf k) z ≡ layerVertices (fieldOf sdf k) (boxOf k) z
+    pub layer-same : layerVertices (twoLayers (part (k .dims .x * k .dims .y * z) (k .dims .x * k .dims .y) sdf)
+        (rest (k .dims .x * k .dims .y * z + k .dims .x * k .dims .y) sdf) k z) (boxOf k) z ≡ layerVertices (fieldOf sdf k) (boxOf k) z
     layer-same = layer-alike (point (k .dims)) two (g .dist) b z (layers-agree sdf k i z zs)
 
     -- the room of the whole lists is that of what is lent
     pub room-lent : {next : Next} {p n : List Float} {cs st xs mp mp' : List ℕ} → Room next (length (layerVertices (fieldOf sdf k) (boxOf k) z)) (lists p n cs st xs mp)
-        → Room next (length (layerVertices (twoLayers (part (k .dims .x * k .dims .y * z) (k .dims .x * k .dims .y) sdf) (rest (k .dims .x * k .dims .y * z + k .dims .x * k .dims .y) sdf) k z) (boxOf k) z))
+        → Room next (length (layerVertices (twoLayers (part (k .dims .x * k .dims .y * z) (k .dims .x * k .dims .y) sdf)
+        (rest (k .dims .x * k .dims .y * z + k .dims .x * k .dims .y) sdf) k z) (boxOf k) z))
         (lists p n cs st xs mp')
     room-lent r =
         let e = ap length layer-same in
@@ -72,7 +83,8 @@ module _ (sdf : List Float) (k : Block) (i : Inside sdf k) where
 
     -- what comes back
     pub marked-back : (first : ℕ) {p n : List Float} {cs st xs q : List ℕ} (p₀ n₀ : List Float) (cs₀ st₀ xs₀ mp₀ : List ℕ) → length sdf ≤ length mp₀
-        → lists p n cs st xs q ≡ marked (twoLayers (part (k .dims .x * k .dims .y * z) (k .dims .x * k .dims .y) sdf) (rest (k .dims .x * k .dims .y * z + k .dims .x * k .dims .y) sdf) k z) (boxOf k) z (record { place = first; number = first })
+        → lists p n cs st xs q ≡ marked (twoLayers (part (k .dims .x * k .dims .y * z) (k .dims .x * k .dims .y) sdf)
+        (rest (k .dims .x * k .dims .y * z + k .dims .x * k .dims .y) sdf) k z) (boxOf k) z (record { place = first; number = first })
         (lists p₀ n₀ cs₀ st₀ xs₀ (part (k .dims .x * k .dims .y * z) (k .dims .x * k .dims .y) mp₀))
         → lists p n cs st xs (take (k .dims .x * k .dims .y * z) mp₀
         ++ (q ++ drop (k .dims .x * k .dims .y * z + k .dims .x * k .dims .y - k .dims .x * k .dims .y * z) (drop (k .dims .x * k .dims .y * z) mp₀)))
@@ -96,7 +108,14 @@ module _ (sdf : List Float) (k : Block) (i : Inside sdf k) where
       first-at = ap (λ (m : Made). m .vertices) (w .on)
 
       pub layer-within : made .vertices + length (layerVertices (fieldOf sdf k) (boxOf k) z) ≤ length (vertices (fieldOf sdf k) (boxOf k))
-      layer-within = omega (arith, first-at, first-more g b (flagsOf k) z (zs .0), first-is g b (flagsOf k) (z + 1), vertices-within g b (flagsOf k) (z + 1) (omega arith) (omega arith))
+      layer-within = omega (
+        arith,
+        first-at,
+        first-more g b (flagsOf k) z (zs .0),
+        first-is g b (flagsOf k) (z + 1),
+        vertices-within g b (flagsOf k) (z + 1) (omega arith)
+            (omega arith),
+      )
 
       pub written-room : Room (record { place = made .vertices; number = made .vertices }) (length (layerVertices (fieldOf sdf k) (boxOf k) z)) (listsOf s)
       written-room =

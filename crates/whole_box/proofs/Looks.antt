@@ -11,7 +11,7 @@ use lib.Ieee.{Float}
 use lib.Ieee.Bits.{is-true}
 use lib.ListN.{length, getD, take, drop, length-append, length-drop}
 use lib.Seq.{getD-take, getD-drop, length-take-le}
-use Rattle.rules.specs.Lists.{over}
+use Rattle.lists.specs.Lists.{over}
 use Rattle.rules.specs.Grid.{GridPoint, Box, Field, index, isCell, value}
 use Rattle.rules.specs.Cell.{Vector}
 use Rattle.rules.specs.Vertices.{surfaceCell, layerVertices, firstVertex, vertexNumber, vertexPosition, nullVertex, cellEntry}
@@ -27,14 +27,14 @@ use Rattle.grid.specs.Inside.{Inside}
 use Rattle.grid.specs.Layers.{inLayer, layerDist, twoLayers}
 use Rattle.grid.proofs.Bounds.{fits, below-length}
 use Rattle.grid.proofs.Layers.{in-plane}
-use Rattle.grid.proofs.Slab.{layer-alike, positions-alike, surface-alike, number-alike}
+use Rattle.grid.proofs.Slab.{layer-alike, edges-alike, positions-alike, surface-alike, number-alike}
 use Rattle.layer_vertices.proofs.Passing.{vectors-append, points-append}
 use Rattle.layer_faces.specs.Below.{Kept, indicesOver, Standing}
-use Rattle.layer_faces.proofs.Alike.{Right, edges-alike, indices-are}
+use Rattle.layer_faces.proofs.Alike.{Right, indices-are}
 use Rattle.whole_box.specs.declared.Made.{Made}
 use Rattle.whole_box.specs.Layers.{verticesTo, writtenTo, Written, Stands}
 use Rattle.whole_box.proofs.Map.{map-number}
-use Rattle.whole_box.proofs.Parts.{part, rest, length-part, part-at, layers-agree, layer-end, corner-in}
+use Rattle.grid.proofs.Parts.{part, rest, length-part, part-at, layers-agree, layer-end, corner-in}
 use Rattle.whole_box.proofs.Steps.{vertices-more, vertices-within, first-is, part-of, SameLengths, written-lengths}
 
 -- ---- a part of what is written
@@ -51,17 +51,23 @@ over-middle s t u old w e i n f h =
 
 -- ---- the lists that the layers up to z leave
 
-module _ (sdf : List Float) (k : Block) (i : Inside sdf k) (z : ℕ) (zs : (k .low .z ≤ z) × (z < k .high .z)) {t s : Buffers} {made : Made} (w : Written (callOf sdf k) (z + 1) t made s) where
+module _ (sdf : List Float) (k : Block) (i : Inside sdf k) (z : ℕ) (zs : (k .low .z ≤ z) × (z < k .high .z)) {t s : Buffers} {made : Made}
+    (w : Written (callOf sdf k) (z + 1) t made s) where
   pub stands : Stands (fieldOf sdf k) (boxOf k) z (firstVertex (fieldOf sdf k) (boxOf k) z) (firstVertex (fieldOf sdf k) (boxOf k) (z - 1)) (s .cells) (s .map) (s .positions)
   unfolding writtenTo
   stands =
       record {
-        cells = ap (λ (u : Buffers). take (3 * length L) (drop (3 * firstVertex g b z) (u .cells))) (w .same) ∙ over-part (flatPoints before) (flatPoints L) (t .cells) (flatPoints (verticesTo g b (z + 1))) (ap flatPoints grown ∙ sym (points-append before L)) (3 * firstVertex g b z) (3 * length L) (length-points before ∙ ap (λ (n : ℕ). 3 * n) (sym (first-is g b m z))) (length-points L);
+        cells = ap (λ (u : Buffers). take (3 * length L) (drop (3 * firstVertex g b z) (u .cells))) (w .same) ∙ over-part (flatPoints before) (flatPoints L) (t .cells)
+            (flatPoints (verticesTo g b (z + 1))) (ap flatPoints grown ∙ sym (points-append before L)) (3 * firstVertex g b z) (3 * length L)
+            (length-points before ∙ ap (λ (n : ℕ). 3 * n) (sym (first-is g b m z))) (length-points L);
         cellsHold = omega (arith, all, same .cells, w .roomy .cells);
-        positions = ap (λ (u : Buffers). take (3 * length L) (drop (3 * firstVertex g b z) (u .positions))) (w .same) ∙ over-part (flat before) (flat L) (t .positions) (flat (verticesTo g b (z + 1))) (ap flat grown ∙ sym (vectors-append (vertexPosition g) before L)) (3 * firstVertex g b z) (3 * length L) (length-vectors (vertexPosition g) before ∙ ap (λ (n : ℕ). 3 * n) (sym (first-is g b m z))) (length-vectors (vertexPosition g) L);
+        positions = ap (λ (u : Buffers). take (3 * length L) (drop (3 * firstVertex g b z) (u .positions))) (w .same) ∙ over-part (flat before) (flat L) (t .positions)
+            (flat (verticesTo g b (z + 1))) (ap flat grown ∙ sym (vectors-append (vertexPosition g) before L)) (3 * firstVertex g b z) (3 * length L)
+            (length-vectors (vertexPosition g) before ∙ ap (λ (n : ℕ). 3 * n) (sym (first-is g b m z))) (length-vectors (vertexPosition g) L);
         positionsHold = omega (arith, all, same .positions, w .roomy .positions);
         under = under;
-        numbers = λ c u h. ap (λ (v : Buffers). getD (v .map) (index (g .dims) c) 0) (w .same) ∙ map-number g b (fits sdf k i) z (t .map) c u h (omega (arith, below-length sdf k i c (cell-in-box b c u), w .roomy .map));
+        numbers = λ c u h. ap (λ (v : Buffers). getD (v .map) (index (g .dims) c) 0) (w .same) ∙ map-number g b (fits sdf k i) z (t .map) c u h
+            (omega (arith, below-length sdf k i c (cell-in-box b c u), w .roomy .map));
         here = refl;
         before = refl;
       }
@@ -98,12 +104,15 @@ module _ (sdf : List Float) (k : Block) (i : Inside sdf k) (z : ℕ) (zs : (k .l
           let y = z - 1 in
           let up : y + 1 ≡ z = omega arith in
           let below : verticesTo g b z ≡ verticesTo g b y ++ layerVertices g b y = ap (verticesTo g b) (sym up) ∙ vertices-more g b m y (omega arith) in
-          let size : firstVertex g b z - firstVertex g b y ≡ length (layerVertices g b y) = omega (arith, first-is g b m z, first-is g b m y, ap length below, length-append (verticesTo g b y) (layerVertices g b y)) in
+          let size : firstVertex g b z - firstVertex g b y ≡ length (layerVertices g b y) = omega
+          (arith, first-is g b m z, first-is g b m y, ap length below, length-append (verticesTo g b y) (layerVertices g b y)) in
           ap (λ (u : Buffers). take (3 * (firstVertex g b z - firstVertex g b y)) (drop (3 * firstVertex g b y) (u .positions))) (w .same)
           ∙ ap (λ (n : ℕ). take (3 * n) (drop (3 * firstVertex g b y) (over (flat (verticesTo g b (z + 1))) (t .positions)))) size
           ∙ over-middle (flat (verticesTo g b y)) (flat (layerVertices g b y)) (flat L) (t .positions) (flat (verticesTo g b (z + 1)))
-          (ap flat (grown ∙ ap (λ (l : List GridPoint). l ++ L) below) ∙ sym (vectors-append (vertexPosition g) (verticesTo g b y ++ layerVertices g b y) L) ∙ ap (λ (l : List Float). l ++ flat L) (sym (vectors-append (vertexPosition g) (verticesTo g b y) (layerVertices g b y))))
-          (3 * firstVertex g b y) (3 * length (layerVertices g b y)) (length-vectors (vertexPosition g) (verticesTo g b y) ∙ ap (λ (n : ℕ). 3 * n) (sym (first-is g b m y))) (length-vectors (vertexPosition g) (layerVertices g b y))
+          (ap flat (grown ∙ ap (λ (l : List GridPoint). l ++ L) below) ∙ sym (vectors-append (vertexPosition g) (verticesTo g b y ++ layerVertices g b y) L) ∙ ap
+          (λ (l : List Float). l ++ flat L) (sym (vectors-append (vertexPosition g) (verticesTo g b y) (layerVertices g b y))))
+          (3 * firstVertex g b y) (3 * length (layerVertices g b y)) (length-vectors (vertexPosition g) (verticesTo g b y) ∙ ap (λ (n : ℕ). 3 * n) (sym (first-is g b m y)))
+          (length-vectors (vertexPosition g) (layerVertices g b y))
 
 -- ---- what is lent for the layer's faces
 
@@ -141,7 +150,8 @@ module _ (sdf : List Float) (k : Block) (i : Inside sdf k) (z : ℕ) (zs : (k .l
   number-of c t on h = s .numbers c t h ∙ ap (λ (y : Bool). cond y (vertexNumber g b (firstVertex g b (c .z)) c) nullVertex) (is-true (surfaceCell g c) on)
 
   pub standing : (count : ℕ) → count ≡ length (layerVertices (fieldOf sdf k) (boxOf k) z)
-      → Standing (twoLayers (part (k .dims .x * k .dims .y * z) (k .dims .x * k .dims .y) sdf) (rest (k .dims .x * k .dims .y * z + k .dims .x * k .dims .y) sdf) k z) (boxOf k) first z
+      → Standing (twoLayers (part (k .dims .x * k .dims .y * z) (k .dims .x * k .dims .y) sdf) (rest (k .dims .x * k .dims .y * z + k .dims .x * k .dims .y) sdf) k z) (boxOf k)
+      first z
       (part (3 * first) (3 * count) cs) (part (k .dims .x * k .dims .y * z) (k .dims .x * k .dims .y) mp) (part (3 * first) (3 * count) ps)
   standing count e =
       let n : 3 * first + 3 * count - 3 * first ≡ 3 * length (layerVertices g b z) = omega arith in
@@ -152,7 +162,8 @@ module _ (sdf : List Float) (k : Block) (i : Inside sdf k) (z : ℕ) (zs : (k .l
         holds = omega (arith, corner-in sdf k i z zs, length-part (plane * z) plane mp (omega (arith, layer-end sdf k i z zs)));
       }
     where
-      numbers : (c : GridPoint) → T (isCell b c) → c .z ≡ z → T (surfaceCell (record { dims = d; dist = two }) c) → getD (part (plane * z) plane mp) (inLayer d c) 0 ≡ vertexNumber (record { dims = d; dist = two }) b first c
+      numbers : (c : GridPoint) → T (isCell b c) → c .z ≡ z → T (surfaceCell (record { dims = d; dist = two }) c) → getD (part (plane * z) plane mp) (inLayer d c) 0 ≡
+          vertexNumber (record { dims = d; dist = two }) b first c
       numbers c t ez on =
           let same : plane * z ≡ plane * c .z = ap (λ (n : ℕ). plane * n) (sym ez) in
           let at : plane * z + inLayer d c ≡ index d c = omega arith in
@@ -176,7 +187,15 @@ module _ (sdf : List Float) (k : Block) (i : Inside sdf k) (z : ℕ) (zs : (k .l
     pub below-long : k .low .z < z → inLayer (point (k .dims)) (point (k .high)) < length (take (k .dims .x * k .dims .y * z - under) (drop under mp))
     below-long h =
         let f = from (z - 1) (omega arith) (omega arith) in
-        omega (arith, f .0, f .1, corner-in sdf k i z zs, layer-end sdf k i z zs, length-take-le (plane * z - under) (drop under mp) (omega (arith, f .0, f .1, layer-end sdf k i z zs, length-drop under mp)))
+        omega (
+          arith,
+          f .0,
+          f .1,
+          corner-in sdf k i z zs,
+          layer-end sdf k i z zs,
+          length-take-le (plane * z - under) (drop under mp)
+              (omega (arith, f .0, f .1, layer-end sdf k i z zs, length-drop under mp)),
+        )
 
     right : Right g b first z kept
     right =
@@ -189,7 +208,8 @@ module _ (sdf : List Float) (k : Block) (i : Inside sdf k) (z : ℕ) (zs : (k .l
         pred : (y : ℕ) → suc y ≡ z → z - 1 ≡ y
         pred y e = omega arith
 
-        numbers : (c : GridPoint) → T (isCell b c) → suc (c .z) ≡ z → T (surfaceCell g c) → getD (take (plane * z - under) (drop under mp)) (inLayer d c) 0 ≡ vertexNumber g b below c
+        numbers : (c : GridPoint) → T (isCell b c) → suc (c .z) ≡ z → T (surfaceCell g c) → getD (take (plane * z - under) (drop under mp)) (inLayer d c) 0 ≡ vertexNumber g b
+            below c
         numbers c t e on =
             let w = cell-within b c t in
             let f = from (c .z) (w .z .0) e in
@@ -209,11 +229,13 @@ module _ (sdf : List Float) (k : Block) (i : Inside sdf k) (z : ℕ) (zs : (k .l
         before y l e = omega (arith, s .here, s .before ∙ ap (firstVertex g b) (pred y e), firstVertex-next g b y l, ap (firstVertex g b) e)
 
     -- the indices that are put are the rules'
-    pub faces-are : indicesOver (twoLayers (part (k .dims .x * k .dims .y * z) (k .dims .x * k .dims .y) sdf) (rest (k .dims .x * k .dims .y * z + k .dims .x * k .dims .y) sdf) k z) (boxOf k) (flagsOf k) first z
+    pub faces-are : indicesOver (twoLayers (part (k .dims .x * k .dims .y * z) (k .dims .x * k .dims .y) sdf) (rest (k .dims .x * k .dims .y * z + k .dims .x * k .dims .y) sdf) k
+        z) (boxOf k) (flagsOf k) first z
         (record { map = take (k .dims .x * k .dims .y * z - under) (drop under mp); positions = take (3 * first - 3 * below) (drop (3 * below) ps); first = below })
         ≡ layerIndices (fieldOf sdf k) (boxOf k) (flagsOf k) first z
     faces-are = indices-are d two whole b m first z (layers-agree sdf k i z zs) kept right
 
-  pub edges-count : 6 * length (layerEdges (twoLayers (part (k .dims .x * k .dims .y * z) (k .dims .x * k .dims .y) sdf) (rest (k .dims .x * k .dims .y * z + k .dims .x * k .dims .y) sdf) k z) (boxOf k) (flagsOf k) z)
+  pub edges-count : 6 * length (layerEdges (twoLayers (part (k .dims .x * k .dims .y * z) (k .dims .x * k .dims .y) sdf)
+      (rest (k .dims .x * k .dims .y * z + k .dims .x * k .dims .y) sdf) k z) (boxOf k) (flagsOf k) z)
       ≡ length (layerIndices (fieldOf sdf k) (boxOf k) (flagsOf k) first z)
-  edges-count = ap (λ (n : ℕ). 6 * n) (ap length (edges-alike d two whole b m first z (layers-agree sdf k i z zs))) ∙ sym (layer-index-count g b m first z)
+  edges-count = ap (λ (n : ℕ). 6 * n) (ap length (edges-alike d two whole b z (layers-agree sdf k i z zs) m)) ∙ sym (layer-index-count g b m first z)

@@ -1,7 +1,21 @@
 -- The map of the whole box, layer by layer: the layer's part is put back as the layer's entries of the whole, the layers up to z and the layer z
 -- are the layers up to z + 1, and at the end each entry is the one that document 01 says. Assumes nothing.
 use Prim.Native.Nat.{ℕ, suc, _+_, _-_, _*_, _/_, _%_, _≤_, _<_}
-use native.Mathlib.Nat.{zero-add, mul-one, mul-add, mul-assoc, mul-comm, mul-le-mul-left, div-eq-of-lt, mod-eq-of-lt, add-mul-div-left, add-mul-mod-self-left, div-div-eq-div-mul, mod-add-div, mod-lt}
+use native.Mathlib.Nat.{
+  zero-add,
+  mul-one,
+  mul-add,
+  mul-assoc,
+  mul-comm,
+  mul-le-mul-left,
+  div-eq-of-lt,
+  mod-eq-of-lt,
+  add-mul-div-left,
+  add-mul-mod-self-left,
+  div-div-eq-div-mul,
+  mod-add-div,
+  mod-lt,
+}
 use native.Mathlib.Omega.{arith}
 use mathlib.Core.Bool.{Bool, true, false, cond}
 use mathlib.Core.List.{List, _++_}
@@ -12,11 +26,11 @@ use lib.Dec.{T, eqb, ltb}
 use lib.Ieee.Bits.{is-true}
 use lib.ListN.{length, getD, take, drop, length-take, length-drop, take-append-drop}
 use lib.Seq.{length-take-le}
-use Rattle.rules.specs.Lists.{placed}
+use Rattle.lists.specs.Lists.{placed}
 use Rattle.rules.specs.Grid.{GridPoint, Box, Field, index, pointAt, isCell, inBox}
 use Rattle.rules.specs.Vertices.{surfaceCell, vertexNumber, firstVertex, nullVertex, cellEntry, edgeEntry, mapEntry}
-use Rattle.rules.proofs.Tests.{is-false, less-or-not}
-use Rattle.rules.proofs.Lists.{getD-placed, length-placed}
+use Rattle.lists.proofs.Tests.{is-false, less-or-not}
+use Rattle.lists.proofs.Lists.{getD-placed, length-placed}
 use Rattle.rules.proofs.Indexes.{BoxFits, same-point, cell-within, cell-in-box, within, point-back}
 use Rattle.layer_vertices.specs.Marked.{layerPoint, layerEntry}
 use Rattle.layer_vertices.proofs.Points.{last-is}
@@ -70,7 +84,8 @@ module _ (d : GridPoint) (up : 0 < d .x * d .y) (z : ℕ) (e : ℕ → ℕ → �
       ++ (placed e 0 (take (d .x * d .y * z + d .x * d .y - d .x * d .y * z) (drop (d .x * d .y * z) l))
       ++ drop (d .x * d .y * z + d .x * d .y - d .x * d .y * z) (drop (d .x * d .y * z) l))
       ≡ placed (atLayer d z e) 0 l
-  part-back l h = sym (ap (placed f 0) whole ∙ placed-append f 0 A (B ++ C) ∙ ap₂ (λ (s t : List ℕ). s ++ t) lower (placed-append f (0 + length A) B C ∙ ap₂ (λ (s t : List ℕ). s ++ t) here upper))
+  part-back l h = sym (ap (placed f 0) whole ∙ placed-append f 0 A (B ++ C) ∙ ap₂ (λ (s t : List ℕ). s ++ t) lower
+      (placed-append f (0 + length A) B C ∙ ap₂ (λ (s t : List ℕ). s ++ t) here upper))
     where
       n : ℕ
       n = plane * z + plane - plane * z
@@ -162,7 +177,8 @@ module _ (g : Field) (b : Box) (xs : 0 < g .dims .x) (ys : 0 < g .dims .y) (up :
       at : ℕ → ℕ
       at x = layerEntry g b z (firstVertex g b z) (j - g .dims .x * g .dims .y * z) x
 
-      go : (y < z) ⊎ (z ≤ y) → (z < y) ⊎ (y ≤ z) → cond (eqb y z) (at (cond (ltb y z) (mapEntry g b j old) old)) (cond (ltb y z) (mapEntry g b j old) old) ≡ cond (ltb y (z + 1)) (mapEntry g b j old) old
+      go : (y < z) ⊎ (z ≤ y) → (z < y) ⊎ (y ≤ z) → cond (eqb y z) (at (cond (ltb y z) (mapEntry g b j old) old)) (cond (ltb y z) (mapEntry g b j old) old) ≡ cond (ltb y (z + 1))
+          (mapEntry g b j old) old
       go (inl h) q =
           ap (λ (t : Bool). cond t (at (cond (ltb y z) (mapEntry g b j old) old)) (cond (ltb y z) (mapEntry g b j old) old)) (ne-eqb y z (λ (e : y ≡ z). omega arith))
           ∙ ap (λ (t : Bool). cond t (mapEntry g b j old) old) (lt-ltb y z h ∙ sym (lt-ltb y (z + 1) (omega arith)))

@@ -5,7 +5,7 @@ use native.Mathlib.Omega.{arith}
 use mathlib.Core.List.{List, [], _∷_, _++_}
 use mathlib.Core.Path.{_≡_, refl, sym, ap, ap₂, subst, _∙_}
 use lib.ListN.{length}
-use Rattle.rules.specs.Lists.{placed}
+use Rattle.lists.specs.Lists.{placed}
 
 module _ {A : Type 0} where
   pub placed-append : (f : ℕ → A → A) (n : ℕ) (s t : List A) → placed f n (s ++ t) ≡ placed f n s ++ placed f (n + length s) t

@@ -10,14 +10,14 @@ use lib.Dec.{T}
 use lib.Ieee.{Float}
 use lib.ListN.{length, getD, take, drop, length-append, length-map}
 use lib.Seq.{sets, drop-at, take-at}
-use Rattle.rules.specs.Lists.{upTo, joined, placed, over}
+use Rattle.lists.specs.Lists.{upTo, joined, placed, over}
 use Rattle.rules.specs.Grid.{GridPoint, Box, Field, index, isCell}
 use Rattle.rules.specs.Cell.{Vector}
 use Rattle.rules.specs.Vertices.{cells, surfaceCell, layerVertices, vertices, firstVertex, vertexPosition, vertexNormal, vertexCrossings, cellEntry}
 use Rattle.rules.specs.Faces.{Flags, layerIndices, indices}
 use Rattle.rules.specs.Call.{Call, Buffers, flatVectors, flatPoints, written}
-use Rattle.rules.proofs.Lists.{joined-append, many-most, length-placed}
-use Rattle.rules.proofs.Runs.{upTo-none, upTo-split, joined-last}
+use Rattle.lists.proofs.Lists.{joined-append, many-most, length-placed}
+use Rattle.lists.proofs.Runs.{upTo-none, upTo-split, joined-last}
 use Rattle.rules.proofs.Counting.{cell-count}
 use Rattle.rules.proofs.Numbers.{firstVertex-low, firstVertex-next}
 use Rattle.rules.proofs.Indexes.{BoxFits, cell-in-box}
@@ -32,7 +32,7 @@ use Rattle.stores.proofs.Runs.{length-over, sets-over}
 use Rattle.layer_vertices.specs.Marked.{Lists, withMap, Room}
 use Rattle.layer_vertices.proofs.Passing.{vectors-append, points-append}
 use Rattle.whole_box.specs.declared.Made.{Made}
-use Rattle.whole_box.specs.Reading.{listsOf, withIndices, Roomy}
+use Rattle.whole_box.specs.LentLists.{listsOf, withIndices, Roomy}
 use Rattle.whole_box.specs.Layers.{entryAt, lastAt, verticesTo, indicesTo, entryTo, layerMarked, laid, writtenTo, madeTo, Written, layerWritten, layerMade, Stands}
 use Rattle.whole_box.proofs.Map.{map-more, map-none, map-last, map-number}
 
@@ -48,13 +48,23 @@ module _ (g : Field) (b : Box) (m : Flags) (z : ℕ) where
   pub vertices-within : b .low .z ≤ z → z ≤ b .high .z → length (verticesTo g b z) ≤ length (vertices g b)
   unfolding vertices
   vertices-within l h =
-      omega (arith, ap length (ap (joined (layerVertices g b)) (upTo-split (b .low .z) z (b .high .z) l h) ∙ joined-append (layerVertices g b) (upTo (b .low .z) z) (upTo z (b .high .z))), length-append (verticesTo g b z) (joined (layerVertices g b) (upTo z (b .high .z))))
+      omega (
+        arith,
+        ap length (ap (joined (layerVertices g b)) (upTo-split (b .low .z) z (b .high .z) l h) ∙ joined-append (layerVertices g b) (upTo (b .low .z) z)
+            (upTo z (b .high .z))),
+        length-append (verticesTo g b z) (joined (layerVertices g b) (upTo z (b .high .z))),
+      )
 
   pub indices-within : b .low .z ≤ z → z ≤ b .high .z → length (indicesTo g b m z) ≤ length (indices g b m)
   unfolding indices
   indices-within l h =
       let f : ℕ → List ℕ = λ y. layerIndices g b m (firstVertex g b y) y in
-      omega (arith, ap length (ap (joined f) (upTo-split (b .low .z) z (b .high .z) l h) ∙ joined-append f (upTo (b .low .z) z) (upTo z (b .high .z))), length-append (indicesTo g b m z) (joined f (upTo z (b .high .z))))
+      omega (
+        arith,
+        ap length (ap (joined f) (upTo-split (b .low .z) z (b .high .z) l h) ∙ joined-append f (upTo (b .low .z) z) (upTo z (b .high .z))),
+        length-append
+            (indicesTo g b m z) (joined f (upTo z (b .high .z))),
+      )
 
   pub first-is : firstVertex g b z ≡ length (verticesTo g b z)
   unfolding firstVertex
@@ -69,7 +79,8 @@ part-of s t r i n e f = ap (λ (l : List _). take n (drop i l)) (append-assoc s 
 
 -- ---- one layer more
 
-module _ (c : Call) (z : ℕ) (l : c .box .low .z ≤ z) (h : z < c .box .high .z) (xs : 0 < c .grid .dims .x) (ys : 0 < c .grid .dims .y) (up : 0 < c .grid .dims .x * c .grid .dims .y) where
+module _ (c : Call) (z : ℕ) (l : c .box .low .z ≤ z) (h : z < c .box .high .z) (xs : 0 < c .grid .dims .x) (ys : 0 < c .grid .dims .y)
+    (up : 0 < c .grid .dims .x * c .grid .dims .y) where
   abbrev g : Field
   g = c .grid
 
@@ -106,12 +117,14 @@ module _ (c : Call) (z : ℕ) (l : c .box .low .z ≤ z) (h : z < c .box .high .
       vectors : (f : GridPoint → Vector) (old : List Float) → 3 * length (vertices g b) ≤ length old
           → sets (over (flatVectors (map f before)) old) (3 * firstVertex g b z) (flatVectors (map f L)) ≡ over (flatVectors (map f (before ++ L))) old
       vectors f old room =
-          sets-over (flatVectors (map f before)) old (flatVectors (map f L)) (3 * firstVertex g b z) (omega (arith, first-is g b m z, length-vectors f before)) (omega (arith, grows, length-vectors f before, length-vectors f L))
+          sets-over (flatVectors (map f before)) old (flatVectors (map f L)) (3 * firstVertex g b z) (omega (arith, first-is g b m z, length-vectors f before))
+          (omega (arith, grows, length-vectors f before, length-vectors f L))
           ∙ ap (λ (s : List Float). over s old) (vectors-append f before L)
 
       cells' : sets (over (flatPoints before) (t .cells)) (3 * firstVertex g b z) (flatPoints L) ≡ over (flatPoints (before ++ L)) (t .cells)
       cells' =
-          sets-over (flatPoints before) (t .cells) (flatPoints L) (3 * firstVertex g b z) (omega (arith, first-is g b m z, length-points before)) (omega (arith, grows, r .cells, length-points before, length-points L))
+          sets-over (flatPoints before) (t .cells) (flatPoints L) (3 * firstVertex g b z) (omega (arith, first-is g b m z, length-points before))
+          (omega (arith, grows, r .cells, length-points before, length-points L))
           ∙ ap (λ (s : List ℕ). over s (t .cells)) (points-append before L)
 
       ones : (f : GridPoint → ℕ) (old : List ℕ) → length (vertices g b) ≤ length old → sets (over (map f before) old) (firstVertex g b z) (map f L) ≡ over (map f (before ++ L)) old
@@ -124,7 +137,8 @@ module _ (c : Call) (z : ℕ) (l : c .box .low .z ≤ z) (h : z < c .box .high .
 
       indices' : sets (over (indicesTo g b m z) (t .indices)) (length (indicesTo g b m z)) more ≡ over (indicesTo g b m (z + 1)) (t .indices)
       indices' =
-          sets-over (indicesTo g b m z) (t .indices) more (length (indicesTo g b m z)) refl (omega (arith, r .indices, indices-within g b m (z + 1) (omega arith) (omega arith), ap length (indices-more g b m z l), length-append (indicesTo g b m z) more))
+          sets-over (indicesTo g b m z) (t .indices) more (length (indicesTo g b m z)) refl
+          (omega (arith, r .indices, indices-within g b m (z + 1) (omega arith) (omega arith), ap length (indices-more g b m z l), length-append (indicesTo g b m z) more))
           ∙ ap (λ (s : List ℕ). over s (t .indices)) (sym (indices-more g b m z l))
 
   made-more : layerMade c z (madeTo c z) ≡ madeTo c (z + 1)
@@ -202,10 +216,13 @@ written-lengths c z l h {t} w =
     let r = w .roomy in
     let e = w .same in
     record {
-      positions = ap (λ (b : Buffers). length (b .positions)) e ∙ length-over (flatVectors (map (vertexPosition (c .grid)) vs)) (t .positions) (omega (arith, r .positions, length-vectors (vertexPosition (c .grid)) vs));
-      normals = ap (λ (b : Buffers). length (b .normals)) e ∙ length-over (flatVectors (map (vertexNormal (c .grid)) vs)) (t .normals) (omega (arith, r .normals, length-vectors (vertexNormal (c .grid)) vs));
+      positions = ap (λ (b : Buffers). length (b .positions)) e ∙ length-over (flatVectors (map (vertexPosition (c .grid)) vs)) (t .positions)
+          (omega (arith, r .positions, length-vectors (vertexPosition (c .grid)) vs));
+      normals = ap (λ (b : Buffers). length (b .normals)) e ∙ length-over (flatVectors (map (vertexNormal (c .grid)) vs)) (t .normals)
+          (omega (arith, r .normals, length-vectors (vertexNormal (c .grid)) vs));
       cells = ap (λ (b : Buffers). length (b .cells)) e ∙ length-over (flatPoints vs) (t .cells) (omega (arith, r .cells, length-points vs));
-      strides = ap (λ (b : Buffers). length (b .strides)) e ∙ length-over (map (index (c .grid .dims)) vs) (t .strides) (omega (arith, r .strides, length-map vs (index (c .grid .dims))));
+      strides = ap (λ (b : Buffers). length (b .strides)) e ∙ length-over (map (index (c .grid .dims)) vs) (t .strides)
+          (omega (arith, r .strides, length-map vs (index (c .grid .dims))));
       crossings =
           ap (λ (b : Buffers). length (b .crossings)) e
           ∙ length-over (map (vertexCrossings (c .grid)) vs) (t .crossings) (omega (arith, r .crossings, length-map vs (vertexCrossings (c .grid))));

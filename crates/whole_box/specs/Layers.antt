@@ -8,7 +8,7 @@ use lib.Dec.{T, ltb, eqb}
 use lib.ListN.{length, getD, take, drop}
 use lib.Seq.{sets}
 use lib.Ieee.{Float}
-use Rattle.rules.specs.Lists.{upTo, joined, placed, over}
+use Rattle.lists.specs.Lists.{upTo, joined, placed, over}
 use Rattle.rules.specs.Grid.{GridPoint, Box, Field, index, pointAt, isCell}
 use Rattle.rules.specs.Vertices.{layerVertices, firstVertex, vertexPosition, vertexNormal, vertexCrossings, cellEntry, mapEntry}
 use Rattle.rules.specs.Faces.{Flags, layerIndices}
@@ -17,7 +17,7 @@ use Rattle.grid.specs.declared.Block.{Block}
 use Rattle.grid.specs.Block.{point, boxOf}
 use Rattle.layer_vertices.specs.Marked.{Lists, listed, layerEntry, lastEntry}
 use Rattle.whole_box.specs.declared.Made.{Made}
-use Rattle.whole_box.specs.Reading.{listsOf, withIndices, Roomy}
+use Rattle.whole_box.specs.LentLists.{listsOf, withIndices, Roomy}
 
 -- ---- the layer z, whose first vertex has the number `first`
 

@@ -1,3 +1,3 @@
 -- How the lent lists render document 01's buffers, and what the layers of a box leave of them.
-pub mod Reading
+pub mod LentLists
 pub mod Layers

@@ -4,7 +4,7 @@ use mathlib.Core.Path.{_≡_, refl, ap, ap₂, _∙_}
 use native.Mathlib.Omega.{arith}
 use mathlib.Core.Bool.{Bool}
 use lib.Ieee.{unlike}
-use Rattle.rules.specs.Lists.{one}
+use Rattle.lists.specs.Lists.{one}
 use Rattle.count.specs.Runs.{changesAt, changesRun}
 use Rattle.count.proofs.Runs.{none-counted, one-more}
 use borrow.Author.Needs.{needs}
@@ -12,14 +12,13 @@ use Rattle.count.proofs.changes.Statement.{statement}
 use Rattle.count.proofs.changes.Tie as tie
 
 abbrev Inv-loop : tie.InvT-loop
-Inv-loop sdf p q n count₀ j₀ count j =
-    (j ≤ n) × (count ≤ j) × (count ≡ changesRun sdf p q j)
+Inv-loop a p b q n count₀ j₀ count j = (j ≤ n) × (count ≤ j) × (count ≡ changesRun a p b q j)
 
 abbrev μ-loop : tie.MeasureT-loop
-μ-loop sdf p q n count₀ j₀ count j = n - j
+μ-loop a p b q n count₀ j₀ count j = n - j
 
 loop-holds : tie.Need-loop-holds Inv-loop μ-loop
-loop-holds c = let a = c .before .args in (omega arith, omega arith, none-counted (changesAt (a .sdf .now) (a .p) (a .q)))
+loop-holds c = let a = c .before .before .args in (omega arith, omega arith, none-counted (changesAt (a .a .now) (a .p) (a .b .now) (a .q)))
 
 add-negative : tie.Need-add-negative Inv-loop μ-loop
 add-negative c = search needs
@@ -59,17 +58,17 @@ loop-less c = search needs
 
 loop-again : tie.Need-loop-again Inv-loop μ-loop
 loop-again c =
-    let a = c .before .before .before .before .before .before .before .before .args in
+    let a = c .before .before .before .before .before .before .before .before .before .args in
     let w = c .before .before .before .before .before .before .loop in
     let more = c .counted .ensures .0 ∙ ap₂ (λ (s t : Bool). one (unlike s t)) (c .before .before .before .negative .ensures) (c .before .negative2 .ensures) in
-    (omega arith, omega arith, one-more (changesAt (a .sdf .now) (a .p) (a .q)) (w .j) (w .inv .2) more refl)
+    (omega arith, omega arith, one-more (changesAt (a .a .now) (a .p) (a .b .now) (a .q)) (w .j) (w .inv .2) more refl)
 
 returns : tie.Need-returns Inv-loop μ-loop
 returns c =
-    let a = c .before .before .before .args in
+    let a = c .before .before .before .before .args in
     let w = c .before .loop in
     let end : w .j ≡ a .n = omega arith in
-    w .inv .2 ∙ ap (changesRun (a .sdf .now) (a .p) (a .q)) end
+    w .inv .2 ∙ ap (changesRun (a .a .now) (a .p) (a .b .now) (a .q)) end
 
 pub changes-spec : {M : Type 1} → statement M
 changes-spec =

@@ -1,39 +1,41 @@
 -- The invariant: the counts are those of the cells before the row y. Assumes nothing.
 use Prim.Native.Nat.{_+_, _-_}
 use Rattle.grid.specs.Block.{boxOf}
+use Rattle.grid.specs.Layers.{twoLayers}
 use Rattle.grid.specs.Order.{layerTo}
-use Rattle.grid.proofs.Walks.{Counting, begun, cell-spans, AtRow, at-row, layer-done}
+use Rattle.grid.proofs.Walks.{Counting, AtRow, layer-done}
 use Rattle.grid.proofs.Order.{layer-begins}
+use Rattle.grid.proofs.LayerWalks.{row-of, layer-begun}
 use Rattle.count.proofs.Tallies.{Counts, counts-none, counts-all, Step, step}
 use Rattle.count.proofs.count_layer.Statement.{statement}
 use Rattle.count.proofs.count_layer.Tie as tie
 
 abbrev Inv-loop : tie.InvT-loop
-Inv-loop sdf k z from end vertices₀ indices₀ y₀ vertices indices y = Counting from end y × Counts sdf k (layerTo (boxOf k) z y) vertices indices
+Inv-loop lower upper k z from end vertices₀ indices₀ y₀ vertices indices y = Counting from end y × Counts (twoLayers lower upper k z) k (layerTo (boxOf k) z y) vertices indices
 
 abbrev μ-loop : tie.MeasureT-loop
-μ-loop sdf k z from end vertices₀ indices₀ y₀ vertices indices y = end - y
+μ-loop lower upper k z from end vertices₀ indices₀ y₀ vertices indices y = end - y
 
 -- the places that a later one leads back to
 abbrev entry-of : tie.At-loop Inv-loop μ-loop → tie.Start Inv-loop μ-loop
-entry-of c = c .before .before
+entry-of c = c .before .before .before
 
 abbrev turn-of : tie.After-count-row Inv-loop μ-loop → tie.In-loop Inv-loop μ-loop
 turn-of c = c .before
 
 -- the row of a turn, and what it adds
 here : (c : tie.In-loop Inv-loop μ-loop) → let a = entry-of (c .before) .args in AtRow (a .k) (a .z) (c .before .loop .y)
-here c = at-row (entry-of (c .before) .pre .0) (c .before .loop .inv .0) (c .loop-test .taken)
+here c = row-of (entry-of (c .before) .pre) (c .before .loop .inv .0) (c .loop-test .taken)
 
 more : (c : tie.After-count-row Inv-loop μ-loop) → let a = entry-of (turn-of c .before) .args in let w = turn-of c .before .loop in let r = c .count-row .result in
-    Step (a .sdf .now) (a .k) (layerTo (boxOf (a .k)) (a .z) (w .y + 1)) (w .vertices) (w .indices) (r .vertices) (r .indices)
+    Step (twoLayers (a .lower .now) (a .upper .now) (a .k) (a .z)) (a .k) (layerTo (boxOf (a .k)) (a .z) (w .y + 1)) (w .vertices) (w .indices) (r .vertices) (r .indices)
 more c = let h = here (turn-of c) in step (turn-of c .before .loop .inv .1) (record { same = c .count-row .ensures }) (h .grows) (h .short)
 
 loop-holds : tie.Need-loop-holds Inv-loop μ-loop
-loop-holds c = let s = c .before in (begun (cell-spans (s .pre .0) .y), counts-none (layer-begins (boxOf (s .args .k)) (s .args .z)))
+loop-holds c = let s = c .before .before in (layer-begun (s .pre), counts-none (layer-begins (boxOf (s .args .k)) (s .args .z)))
 
 count-row-requires : tie.Need-count-row-requires Inv-loop μ-loop
-count-row-requires c κs = let s = entry-of (c .before) in (s .pre .0, (here c .turn .here, s .pre .1))
+count-row-requires c κs = let s = entry-of (c .before) in (s .pre, here c .turn .here)
 
 add-vertices : tie.Need-add-vertices Inv-loop μ-loop
 add-vertices c = more (c .before) .vertices-fit

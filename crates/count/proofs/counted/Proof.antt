@@ -4,7 +4,7 @@ use native.Mathlib.Omega.{arith}
 use mathlib.Core.Bool.{Bool, true, false}
 use mathlib.Core.Path.{_≡_, refl}
 use mir.Val.{boolByte}
-use Rattle.rules.specs.Lists.{one}
+use Rattle.lists.specs.Lists.{one}
 use borrow.Author.Needs.{needs}
 use Rattle.count.proofs.counted.Statement.{statement}
 use Rattle.count.proofs.counted.Tie as tie

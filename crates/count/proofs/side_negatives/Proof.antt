@@ -1,15 +1,15 @@
 -- The four corners of the side, each counted by its sign. Assumes nothing.
 use mathlib.Core.Path.{ap, _∙_}
 use native.Mathlib.Omega.{arith}
-use Rattle.rules.specs.Lists.{one}
+use Rattle.lists.specs.Lists.{one}
 use Rattle.rules.specs.Cell.{negative}
 use Rattle.grid.specs.declared.corners.Side.{Side}
 use borrow.Author.Needs.{needs}
 use Rattle.count.proofs.side_negatives.Statement.{statement}
 use Rattle.count.proofs.side_negatives.Tie as tie
 
-side-at-requires : tie.Need-side-at-requires
-side-at-requires c κs = search needs
+side-between-requires : tie.Need-side-between-requires
+side-between-requires c κs = search needs
 
 negative-requires : tie.Need-negative-requires
 negative-requires c κs = search needs
@@ -46,7 +46,7 @@ add-result-3 c = search needs
 
 returns : tie.Need-returns
 returns c =
-    let side = c .before .before .before .before .before .before .before .before .side-at .ensures in
+    let side = c .before .before .before .before .before .before .before .before .side-between .ensures in
     let first = c .before .before .before .before .before .before in
     let second = c .before .before .before .before in
     let third = c .before .before in
@@ -60,7 +60,7 @@ pub side-negatives-spec : {M : Type 1} → statement M
 side-negatives-spec =
     tie.close
     (tie.spec
-    side-at-requires
+    side-between-requires
     negative-requires
     counted-requires
     negative-requires-2

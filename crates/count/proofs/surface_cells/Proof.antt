@@ -3,7 +3,7 @@ use Prim.Native.Nat.{ℕ, _≤_, _-_, _+_}
 use native.Mathlib.Nat.{add-zero, add-assoc}
 use mathlib.Core.Path.{_≡_, refl, sym, ap, _∙_}
 use native.Mathlib.Omega.{arith}
-use Rattle.grid.specs.Corners.{sideAt}
+use Rattle.grid.specs.Corners.{sideBetween}
 use Rattle.count.specs.Runs.{sideNegatives, surfaceAt, surfaceRun}
 use Rattle.count.proofs.Runs.{none-counted, one-more}
 use Rattle.count.proofs.Rows.{surface-by-sides}
@@ -12,23 +12,23 @@ use Rattle.count.proofs.surface_cells.Statement.{statement}
 use Rattle.count.proofs.surface_cells.Tie as tie
 
 abbrev Inv-loop : tie.InvT-loop
-Inv-loop sdf at row layer n low₀ count₀ j₀ low count j =
-    (j ≤ n) × (count ≤ j) × (low ≤ 4) × (low ≡ sideNegatives (sideAt sdf (at + j) row layer)) × (count ≡ surfaceRun sdf at row layer j)
+Inv-loop lower upper at row n low₀ count₀ j₀ low count j =
+    (j ≤ n) × (count ≤ j) × (low ≤ 4) × (low ≡ sideNegatives (sideBetween lower upper (at + j) row)) × (count ≡ surfaceRun lower upper at row j)
 
 abbrev μ-loop : tie.MeasureT-loop
-μ-loop sdf at row layer n low₀ count₀ j₀ low count j = n - j
+μ-loop lower upper at row n low₀ count₀ j₀ low count j = n - j
 
 side-negatives-requires : tie.Need-side-negatives-requires Inv-loop μ-loop
 side-negatives-requires c κs = search needs
 
 loop-holds : tie.Need-loop-holds Inv-loop μ-loop
 loop-holds c =
-    let a = c .before .before .args in (
+    let a = c .before .before .before .args in (
       omega arith,
       omega arith,
       c .side-negatives .ensures .1,
-      c .side-negatives .ensures .0 ∙ ap (λ (i : ℕ). sideNegatives (sideAt (a .sdf .now) i (a .row) (a .layer))) (sym (add-zero (a .at))),
-      none-counted (surfaceAt (a .sdf .now) (a .at) (a .row) (a .layer)),
+      c .side-negatives .ensures .0 ∙ ap (λ (i : ℕ). sideNegatives (sideBetween (a .lower .now) (a .upper .now) i (a .row))) (sym (add-zero (a .at))),
+      none-counted (surfaceAt (a .lower .now) (a .upper .now) (a .at) (a .row)),
     )
 
 add-side-negatives : tie.Need-add-side-negatives Inv-loop μ-loop
@@ -57,23 +57,23 @@ loop-less c = search needs
 
 loop-again : tie.Need-loop-again Inv-loop μ-loop
 loop-again c =
-    let a = c .before .before .before .before .before .before .args in
+    let a = c .before .before .before .before .before .before .before .args in
     let w = c .before .before .before .loop in
     let high = c .before .side-negatives2 .ensures in
-    let more = surface-by-sides (a .sdf .now) (a .at) (a .row) (a .layer) (w .j) (w .inv .3) (high .0) (c .surface-count .ensures .0) in (
+    let more = surface-by-sides (a .lower .now) (a .upper .now) (a .at) (a .row) (w .j) (w .inv .3) (high .0) (c .surface-count .ensures .0) in (
       omega arith,
       omega arith,
       high .1,
-      high .0 ∙ ap (λ (i : ℕ). sideNegatives (sideAt (a .sdf .now) i (a .row) (a .layer))) (add-assoc (a .at) (w .j) 1),
-      one-more (surfaceAt (a .sdf .now) (a .at) (a .row) (a .layer)) (w .j) (w .inv .4) more refl,
+      high .0 ∙ ap (λ (i : ℕ). sideNegatives (sideBetween (a .lower .now) (a .upper .now) i (a .row))) (add-assoc (a .at) (w .j) 1),
+      one-more (surfaceAt (a .lower .now) (a .upper .now) (a .at) (a .row)) (w .j) (w .inv .4) more refl,
     )
 
 returns : tie.Need-returns Inv-loop μ-loop
 returns c =
-    let a = c .before .before .before .before .args in
+    let a = c .before .before .before .before .before .args in
     let w = c .before .loop in
     let end : w .j ≡ a .n = omega arith in
-    w .inv .4 ∙ ap (surfaceRun (a .sdf .now) (a .at) (a .row) (a .layer)) end
+    w .inv .4 ∙ ap (surfaceRun (a .lower .now) (a .upper .now) (a .at) (a .row)) end
 
 pub surface-cells-spec : {M : Type 1} → statement M
 surface-cells-spec =

@@ -17,7 +17,8 @@ use Rattle.layer_faces.proofs.face_layer.Tie as tie
 
 abbrev Inv-loop : tie.InvT-loop
 Inv-loop lower upper k z first cells map positions map-below positions-below indices₀ at n used₀ i₀ indices used i =
-    (i ≤ n) × Faced (twoLayers lower upper k z) (boxOf k) (flagsOf k) (first .here) z (record { map = map-below; positions = positions-below; first = first .below }) indices₀ at i used indices
+    (i ≤ n) × Faced (twoLayers lower upper k z) (boxOf k) (flagsOf k) (first .here) z (record { map = map-below; positions = positions-below; first = first .below }) indices₀ at
+    i used indices
 
 abbrev μ-loop : tie.MeasureT-loop
 μ-loop lower upper k z first cells map positions map-below positions-below indices₀ at n used₀ i₀ indices used i = n - i
@@ -97,8 +98,20 @@ make-all-quads-requires c κs =
     let t = turn-of c in
     let s = entry-of (t .before) in
     let a = s .args in
-    let w = t .before .loop in
-    (s .pre .0, (here t .cell, (s .pre .1 .0 .holds, (s .pre .1 .1 .0, faced-room (grid-of s) (boxOf (a .k)) (flagsOf (a .k)) (a .first .here) (a .z) (kept-of s) (w .inv .1) (cell-of t) (within t) (here t .is) (s .pre .1 .1 .1)))))
+    let w = t .before .loop in (
+      s .pre .0,
+      (
+        here t .cell,
+        (
+          s .pre .1 .0 .holds,
+          (
+            s .pre .1 .1 .0,
+            faced-room (grid-of s) (boxOf (a .k)) (flagsOf (a .k)) (a .first .here) (a .z) (kept-of s) (w .inv .1)
+                (cell-of t) (within t) (here t .is) (s .pre .1 .1 .1),
+          ),
+        ),
+      ),
+    )
 
 add-i : tie.Need-add-i Inv-loop μ-loop
 add-i c =
@@ -116,9 +129,13 @@ loop-again c =
     let s = entry-of (t .before) in
     let a = s .args in
     let w = t .before .loop in
-    let e = cell-faces (grid-of s) (boxOf (a .k)) (flagsOf (a .k)) (a .z) (a .first) (a .cells .now) (a .map .now) (a .positions .now) (a .map-below .now) (a .positions-below .now) (s .pre .1 .0) (cell-of t) refl in
-    let h = t .loop-test .taken in
-    (omega arith, faced-more (grid-of s) (boxOf (a .k)) (flagsOf (a .k)) (a .first .here) (a .z) (kept-of s) (w .inv .1) (cell-of t) (within t) (here t .is) (m .make-all-quads .ensures .0 ∙ ap (sets (w .indices) (w .used)) e) (m .make-all-quads .ensures .1))
+    let e = cell-faces (grid-of s) (boxOf (a .k)) (flagsOf (a .k)) (a .z) (a .first) (a .cells .now) (a .map .now) (a .positions .now) (a .map-below .now)
+    (a .positions-below .now) (s .pre .1 .0) (cell-of t) refl in
+    let h = t .loop-test .taken in (
+      omega arith,
+      faced-more (grid-of s) (boxOf (a .k)) (flagsOf (a .k)) (a .first .here) (a .z) (kept-of s) (w .inv .1) (cell-of t) (within t) (here t .is)
+          (m .make-all-quads .ensures .0 ∙ ap (sets (w .indices) (w .used)) e) (m .make-all-quads .ensures .1),
+    )
 
 sub-result : tie.Need-sub-result Inv-loop μ-loop
 sub-result c =

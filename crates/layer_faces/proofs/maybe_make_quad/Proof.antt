@@ -8,7 +8,7 @@ use borrow.Author.Tests.{not-true, not-false}
 use lib.Ieee.{unlike}
 use lib.ListN.{length}
 use lib.Seq.{sets}
-use Rattle.rules.proofs.Tests.{is-test}
+use Rattle.lists.proofs.Tests.{is-test}
 use Rattle.layer_faces.specs.Quads.{Seen, seen, looked, quadOf, QuadReady}
 use Rattle.layer_faces.proofs.Puts.{no-face, a-face, not-owned, not-changing, both-true}
 use borrow.Author.Needs.{needs}
@@ -23,13 +23,15 @@ start-of c = c .before .before .before .before .before .before .before .before .
 there : (c : tie.Else2) → let a = start-of c .args in (a .own && unlike (a .n1) (a .n2)) ≡ true
 there c = both-true (not-false (start-of c .args .own) (c .before .if1 .left)) (ap not (c .if2 .left))
 
-ready : (c : tie.Else2) → let a = start-of c .args in QuadReady (a .map1 .now) (a .map2 .now) (a .map3 .now) (a .map4 .now) (a .cell) (a .s1) (a .s2) (a .s3) (a .s4) (length (a .indices .now)) (a .at)
+ready : (c : tie.Else2) → let a = start-of c .args in QuadReady (a .map1 .now) (a .map2 .now) (a .map3 .now) (a .map4 .now) (a .cell) (a .s1) (a .s2) (a .s3) (a .s4)
+    (length (a .indices .now)) (a .at)
 ready c = let a = start-of c .args in start-of c .pre (is-test (a .own && unlike (a .n1) (a .n2)) (there c))
 
 abbrev quad-at : tie.Start → List ℕ
 quad-at s =
     let a = s .args in
-    quadOf (a .n1) (looked (a .map1 .now) (a .positions1 .now) (a .cell) (a .s1)) (looked (a .map2 .now) (a .positions2 .now) (a .cell) (a .s2)) (looked (a .map3 .now) (a .positions3 .now) (a .cell) (a .s3)) (looked (a .map4 .now) (a .positions4 .now) (a .cell) (a .s4))
+    quadOf (a .n1) (looked (a .map1 .now) (a .positions1 .now) (a .cell) (a .s1)) (looked (a .map2 .now) (a .positions2 .now) (a .cell) (a .s2))
+    (looked (a .map3 .now) (a .positions3 .now) (a .cell) (a .s3)) (looked (a .map4 .now) (a .positions4 .now) (a .cell) (a .s4))
 
 -- ---- the needs
 
@@ -78,7 +80,8 @@ returns-3 c =
     let v2 = c .before .before .before .before .before .before .vertex-back2 .ensures in
     let v3 = c .before .before .before .before .before .vertex-back3 .ensures in
     let v4 = c .before .before .before .before .vertex-back4 .ensures in
-    a-face (a .indices .now) (a .at) (quad-at s) (there e) (c .before .before .make-quad .ensures ∙ (λ i. sets (a .indices .now) (a .at) (quadOf (a .n1) (v1 i) (v2 i) (v3 i) (v4 i))))
+    a-face (a .indices .now) (a .at) (quad-at s) (there e)
+    (c .before .before .make-quad .ensures ∙ (λ i. sets (a .indices .now) (a .at) (quadOf (a .n1) (v1 i) (v2 i) (v3 i) (v4 i))))
 
 pub maybe-make-quad-spec : {M : Type 1} → statement M
 maybe-make-quad-spec =

@@ -7,7 +7,7 @@ use native.Mathlib.Omega.{arith}
 use lib.ListN.{length-set}
 use Rattle.rules.specs.Grid.{GridPoint}
 use Rattle.rules.specs.Cell.{values}
-use Rattle.rules.proofs.Lists.{none, more}
+use Rattle.lists.proofs.Lists.{none, more}
 use Rattle.grid.specs.Block.{point, boxOf}
 use Rattle.grid.specs.Corners.{sideBetween}
 use Rattle.grid.specs.Layers.{twoLayers}
@@ -64,7 +64,8 @@ read c =
     let t = turn-of c in
     let s = entry-of (t .before) in
     let w = t .before .loop in
-    corners-between (s .pre .0) (record { x = w .x; y = s .args .y; z = s .args .z }) (here t .cell) refl (here t .place) (w .inv .1 .0) (c .before .side-between2 .ensures) (c .corners .ensures)
+    corners-between (s .pre .0) (record { x = w .x; y = s .args .y; z = s .args .z }) (here t .cell) refl (here t .place) (w .inv .1 .0) (c .before .side-between2 .ensures)
+    (c .corners .ensures)
 
 -- ---- the needs
 

@@ -1,4 +1,5 @@
--- `mesh_file::check_all` meets its contract. The invariant is `SoFar`: so many vertices and triangles and no fault yet. A record that is not refused is whole, so the place stays inside the file.
+-- `mesh_file::check_all` meets its contract. The invariant is `SoFar`: so many vertices and triangles and no fault yet. A record that is not refused
+-- is whole, so the place stays inside the file.
 -- Assumes nothing.
 use borrow.Author.Needs.{needs}
 use native.Mathlib.Omega.{arith}
@@ -49,7 +50,9 @@ refusal-requires : tie.Need-refusal-requires Inv-loop μ-loop
 refusal-requires c κs = search needs
 
 returns-2 : tie.Need-returns-2 Inv-loop μ-loop
-returns-2 c = c .refusal .ensures ∙ ap checked (sym (refused-read _ _ _ _ _ (c .before .before .before .before .before .loop .inv) (sym (ap numbersOf (c .before .before .n .given .1)) ∙ c .before .before .before .before .step-at .ensures)))
+returns-2 c = c .refusal .ensures ∙ ap checked (sym
+    (refused-read _ _ _ _ _ (c .before .before .before .before .before .loop .inv)
+    (sym (ap numbersOf (c .before .before .n .given .1)) ∙ c .before .before .before .before .step-at .ensures)))
 
 add-at : tie.Need-add-at Inv-loop μ-loop
 add-at c = omega arith
@@ -59,14 +62,16 @@ loop-less c =
     let s = c .before .step-at .ensures in
     let a = c .before .before .before .before .args .src .now in
     let l = c .before .before .loop in
-    let h : l .at + 32 ≤ length a = ⊎-elim (λ w. good-whole _ _ _ _ 0 (sym (ap numbersOf (w .1 .given .1)) ∙ s)) (λ w. good-whole _ _ _ _ 1 (sym (ap numbersOf (w .1 .given .1)) ∙ s)) (c .match .came) in
+    let h : l .at + 32 ≤ length a = ⊎-elim (λ w. good-whole _ _ _ _ 0 (sym (ap numbersOf (w .1 .given .1)) ∙ s))
+    (λ w. good-whole _ _ _ _ 1 (sym (ap numbersOf (w .1 .given .1)) ∙ s)) (c .match .came) in
     omega arith
 
 loop-again : tie.Need-loop-again Inv-loop μ-loop
 loop-again c =
     let s = c .before .step-at .ensures in
     let i = c .before .before .loop .inv in
-    ⊎-elim (λ w. rw (w .2, w .3) (vertex-next _ _ _ _ i (sym (ap numbersOf (w .1 .given .1)) ∙ s))) (λ w. rw (w .2, w .3) (triangle-next _ _ _ _ i (sym (ap numbersOf (w .1 .given .1)) ∙ s))) (c .match .came)
+    ⊎-elim (λ w. rw (w .2, w .3) (vertex-next _ _ _ _ i (sym (ap numbersOf (w .1 .given .1)) ∙ s)))
+    (λ w. rw (w .2, w .3) (triangle-next _ _ _ _ i (sym (ap numbersOf (w .1 .given .1)) ∙ s))) (c .match .came)
 
 pub check-all-spec : {M : Type 1} → statement M
 check-all-spec =

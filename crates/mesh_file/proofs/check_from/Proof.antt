@@ -1,4 +1,5 @@
--- `mesh_file::check_from` meets its contract. A place past the end leaves nothing, which is a cut file; the part of the slice from the place on is the list without what stands before it.
+-- `mesh_file::check_from` meets its contract. A place past the end leaves nothing, which is a cut file; the part of the slice from the place on is
+-- the list without what stands before it.
 -- Assumes nothing.
 use native.Mathlib.Omega.{arith}
 use Rattle.mesh_file.specs.Reading.{readOf}
@@ -30,7 +31,8 @@ check-all-requires : tie.Need-check-all-requires
 check-all-requires c κs = search needs
 
 returns-2 : tie.Need-returns-2
-returns-2 c = c .check-all .ensures ∙ ap (λ (l : List ℕ). checked (readOf l)) (to-the-end (c .before .before .before .before .args .src .now) (c .before .before .before .before .args .at))
+returns-2 c = c .check-all .ensures ∙ ap (λ (l : List ℕ). checked (readOf l))
+    (to-the-end (c .before .before .before .before .args .src .now) (c .before .before .before .before .args .at))
 
 pub check-from-spec : {M : Type 1} → statement M
 check-from-spec =

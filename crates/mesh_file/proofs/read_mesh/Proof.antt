@@ -1,91 +1,52 @@
--- `mesh_file::read_mesh` meets its contract. A refusal of the check is the answer; an answer of 0 says that the file is whole (`accepted`), which gives its length and its finite floats, and the fills lay its lists.
--- Assumes nothing.
-use lib.Dec.{ltb}
-use Rattle.mesh_file.proofs.Accepted.{whole-length, positions-finite, normals-finite, read-refused, read-short, read-filled}
-use Rattle.mesh_file.proofs.History.{accepted}
-use Rattle.mesh_record.proofs.Either.{or-first, or-second, or-none}
-use Rattle.mesh_file.specs.Reading.{checked}
-use Rattle.mesh_file.specs.Mesh.{mesh}
-use lib.ListN.{length}
-use Prim.Native.Nat.{_*_}
-use borrow.Author.Tests.{lt-ltb, le-ltb}
-use mathlib.Core.Path.{ap, _∙_}
+-- `mesh_file::read_mesh` meets its contract: another answer than 0 leaves the lists; an answer of 0 says that the file is whole and that there is room
+-- (`read-done`), and then the lists are filled. Assumes nothing.
+use mathlib.Core.Bool.{false}
+use mathlib.Core.Path.{_≡_, sym, _∙_}
 use native.Mathlib.Omega.{arith}
+use Rattle.mesh_file.specs.Mesh.{Mesh, mesh}
+use Rattle.mesh_file.specs.Reading.{Bytes, whole, readOf, shortRoom}
+use Rattle.mesh_file.proofs.Accepted.{refused-fills-nothing}
+use Rattle.mesh_file.proofs.Settled.{not-short, read-done, room-fills}
 use borrow.Author.Needs.{needs}
 use Rattle.mesh_file.proofs.read_mesh.Statement.{statement}
 use Rattle.mesh_file.proofs.read_mesh.Tie as tie
 
-check-file-requires : tie.Need-check-file-requires
-check-file-requires c κs = search needs
+-- ---- the places that a later one leads back to
+
+abbrev start-of : tie.After-read-answer → tie.Start
+start-of c = c .before .before .before .before .before
+
+abbrev filled-of : tie.After-slice-known6 → tie.After-fill-all
+filled-of c = c .before .before .before .before .before .before
+
+abbrev passed-of : tie.After-fill-all-arg3 → tie.Else1
+passed-of c = c .before .before .before
+
+abbrev lent : tie.Start → Mesh
+lent s = mesh (s .args .positions .now) (s .args .normals .now) (s .args .indices .now)
+
+-- every number of a list of bytes is below 256
+bytes : (c : tie.After-read-answer) → Bytes (start-of c .args .file .now)
+bytes c = λ i l. omega (arith, c .before .before .before .before .shared-slice-known .given i)
+
+done : (c : tie.Else1) → let s = start-of (c .before) in let r = c .before .read-answer .result in
+    (readOf (s .args .file .now) ≡ whole (r .vertices) (r .triangles)) × (shortRoom (r .vertices) (r .triangles) (lent s) ≡ false)
+done c = let s = start-of (c .before) in read-done (s .args .file .now) (lent s) _ (c .before .read-answer .ensures) (c .if1 .left)
+
+-- ---- the needs
+
+read-answer-requires : tie.Need-read-answer-requires
+read-answer-requires c κs = search needs
 
 returns : tie.Need-returns
 returns c =
-    let s = c .before .before .before .before .before in
-    let a = s .before .args in
-    let m = mesh (a .positions .now) (a .normals .now) (a .indices .now) in
-    let f = c .before .check-file in
-    let e = read-refused (a .file .now) m _ (f .ensures) (c .if1 .taken) in
-    (e .0, (e .1, λ i l. omega (arith, s .shared-slice-known .given i)))
+    let a = c .before in
+    let s = start-of a in
+    let e = a .read-answer .ensures in
+    (e, (refused-fills-nothing (s .args .file .now) (lent s) _ e (c .if1 .taken), bytes a))
 
-refusal-requires : tie.Need-refusal-requires
-refusal-requires c κs = search needs
-
-returns-2 : tie.Need-returns-2
-returns-2 c =
-    let s = c .before .before .before .before .before .before .before in
-    let a = s .before .args in
-    let m = mesh (a .positions .now) (a .normals .now) (a .indices .now) in
-    let f = c .before .before .before .check-file in
-    let w = accepted (a .file .now) (f .result) (f .ensures) (c .before .before .if1 .left) in
-    let e =
-    read-short (a .file .now) m _ (f .result .vertices) (f .result .triangles) w
-    (or-first (ltb (length (a .positions .now)) (3 * f .result .vertices)) _ (lt-ltb (length (a .positions .now)) (3 * f .result .vertices) (omega (arith, c .before .if2 .taken))))
-    (c .refusal .ensures) in
-    (e .0, (e .1, λ i l. omega (arith, s .shared-slice-known .given i)))
-
-refusal-requires-2 : tie.Need-refusal-requires-2
-refusal-requires-2 c κs = search needs
-
-returns-3 : tie.Need-returns-3
-returns-3 c =
-    let s = c .before .before .before .before .before .before .before .before in
-    let a = s .before .args in
-    let m = mesh (a .positions .now) (a .normals .now) (a .indices .now) in
-    let f = c .before .before .before .before .check-file in
-    let w = accepted (a .file .now) (f .result) (f .ensures) (c .before .before .before .if1 .left) in
-    let e =
-    read-short (a .file .now) m _ (f .result .vertices) (f .result .triangles) w
-    (or-second (ltb (length (a .positions .now)) (3 * f .result .vertices)) _ (or-first (ltb (length (a .normals .now)) (3 * f .result .vertices)) _ (lt-ltb (length (a .normals .now)) (3 * f .result .vertices) (omega (arith, c .before .if3 .taken)))))
-    (c .refusal2 .ensures) in
-    (e .0, (e .1, λ i l. omega (arith, s .shared-slice-known .given i)))
-
-refusal-requires-3 : tie.Need-refusal-requires-3
-refusal-requires-3 c κs = search needs
-
-returns-4 : tie.Need-returns-4
-returns-4 c =
-    let s = c .before .before .before .before .before .before .before .before .before in
-    let a = s .before .args in
-    let m = mesh (a .positions .now) (a .normals .now) (a .indices .now) in
-    let f = c .before .before .before .before .before .check-file in
-    let w = accepted (a .file .now) (f .result) (f .ensures) (c .before .before .before .before .if1 .left) in
-    let e =
-    read-short (a .file .now) m _ (f .result .vertices) (f .result .triangles) w
-    (or-second (ltb (length (a .positions .now)) (3 * f .result .vertices)) _ (or-second (ltb (length (a .normals .now)) (3 * f .result .vertices)) _ (lt-ltb (length (a .indices .now)) (3 * f .result .triangles) (omega (arith, c .before .if4 .taken)))))
-    (c .refusal3 .ensures) in
-    (e .0, (e .1, λ i l. omega (arith, s .shared-slice-known .given i)))
-
-fill-floats-requires : tie.Need-fill-floats-requires
-fill-floats-requires c κs = let l = whole-length (c .before .before .before .before .before .before .before .before .before .before .args .file .now) (c .before .before .before .before .before .check-file .result .vertices) (c .before .before .before .before .before .check-file .result .triangles) (accepted (c .before .before .before .before .before .before .before .before .before .before .args .file .now) (c .before .before .before .before .before .check-file .result) (c .before .before .before .before .before .check-file .ensures) (c .before .before .before .before .if1 .left)) in
-    (omega arith, (omega arith, (omega (arith, c .before .before .before .if2 .left), positions-finite (c .before .before .before .before .before .before .before .before .before .before .args .file .now) (c .before .before .before .before .before .check-file .result .vertices) (c .before .before .before .before .before .check-file .result .triangles) (accepted (c .before .before .before .before .before .before .before .before .before .before .args .file .now) (c .before .before .before .before .before .check-file .result) (c .before .before .before .before .before .check-file .ensures) (c .before .before .before .before .if1 .left)))))
-
-fill-floats-requires-2 : tie.Need-fill-floats-requires-2
-fill-floats-requires-2 c κs = let l = whole-length (c .before .before .before .before .before .before .before .before .before .before .before .before .before .before .args .file .now) (c .before .before .before .before .before .before .before .before .before .check-file .result .vertices) (c .before .before .before .before .before .before .before .before .before .check-file .result .triangles) (accepted (c .before .before .before .before .before .before .before .before .before .before .before .before .before .before .args .file .now) (c .before .before .before .before .before .before .before .before .before .check-file .result) (c .before .before .before .before .before .before .before .before .before .check-file .ensures) (c .before .before .before .before .before .before .before .before .if1 .left)) in
-    (omega arith, (omega arith, (omega (arith, c .before .before .before .before .before .before .if3 .left), normals-finite (c .before .before .before .before .before .before .before .before .before .before .before .before .before .before .args .file .now) (c .before .before .before .before .before .before .before .before .before .check-file .result .vertices) (c .before .before .before .before .before .before .before .before .before .check-file .result .triangles) (accepted (c .before .before .before .before .before .before .before .before .before .before .before .before .before .before .args .file .now) (c .before .before .before .before .before .before .before .before .before .check-file .result) (c .before .before .before .before .before .before .before .before .before .check-file .ensures) (c .before .before .before .before .before .before .before .before .if1 .left)))))
-
-fill-indices-requires : tie.Need-fill-indices-requires
-fill-indices-requires c κs = let l = whole-length (c .before .before .before .before .before .before .before .before .before .before .before .before .before .before .before .before .before .before .args .file .now) (c .before .before .before .before .before .before .before .before .before .before .before .before .before .check-file .result .vertices) (c .before .before .before .before .before .before .before .before .before .before .before .before .before .check-file .result .triangles) (accepted (c .before .before .before .before .before .before .before .before .before .before .before .before .before .before .before .before .before .before .args .file .now) (c .before .before .before .before .before .before .before .before .before .before .before .before .before .check-file .result) (c .before .before .before .before .before .before .before .before .before .before .before .before .before .check-file .ensures) (c .before .before .before .before .before .before .before .before .before .before .before .before .if1 .left)) in
-    (omega arith, omega (arith, c .before .before .before .before .before .before .before .before .before .if4 .left))
+fill-all-requires : tie.Need-fill-all-requires
+fill-all-requires c κs = let d = done (passed-of c) in (d .0, not-short _ _ _ _ _ (d .1))
 
 same-length : tie.Need-same-length
 same-length c = search needs
@@ -96,36 +57,14 @@ same-length-2 c = search needs
 same-length-3 : tie.Need-same-length-3
 same-length-3 c = search needs
 
-returns-5 : tie.Need-returns-5
-returns-5 c =
-    let s = c .before .before .before .before .before .before .before .before .before .before .before .before .before .before .before .before .before .before .before .before in
-    let a = s .before .args in
-    let m = mesh (a .positions .now) (a .normals .now) (a .indices .now) in
-    let f = c .before .before .before .before .before .before .before .before .before .before .before .before .before .before .before .before .check-file in
-    let w = accepted (a .file .now) (f .result) (f .ensures) (c .before .before .before .before .before .before .before .before .before .before .before .before .before .before .before .if1 .left) in
-    let e =
-    read-filled (a .file .now) m (f .result) _ _ _ (f .result .vertices) (f .result .triangles) w
-    (or-none _ _ (le-ltb (length (a .positions .now)) (3 * f .result .vertices) (omega (arith, c .before .before .before .before .before .before .before .before .before .before .before .before .before .before .if2 .left))) (or-none _ _ (le-ltb (length (a .normals .now)) (3 * f .result .vertices) (omega (arith, c .before .before .before .before .before .before .before .before .before .before .before .before .before .if3 .left))) (le-ltb (length (a .indices .now)) (3 * f .result .triangles) (omega (arith, c .before .before .before .before .before .before .before .before .before .before .before .before .if4 .left)))))
-    (f .ensures ∙ ap checked w) (c .before .before .before .before .before .before .before .before .before .before .fill-floats .ensures)
-    (c .before .before .before .before .before .before .fill-floats2 .ensures) (c .before .before .fill-indices .ensures) in
-    (e .0, (e .1, λ i l. omega (arith, s .shared-slice-known .given i)))
+returns-2 : tie.Need-returns-2
+returns-2 c =
+    let w = filled-of c in
+    let p = passed-of (w .before) in
+    let a = p .before in
+    let s = start-of a in
+    let d = done p in
+    (a .read-answer .ensures, (w .fill-all .ensures ∙ sym (room-fills (s .args .file .now) _ _ (lent s) (d .0) (d .1)), bytes a))
 
 pub read-mesh-spec : {M : Type 1} → statement M
-read-mesh-spec =
-    tie.close
-    (tie.spec
-    check-file-requires
-    returns
-    refusal-requires
-    returns-2
-    refusal-requires-2
-    returns-3
-    refusal-requires-3
-    returns-4
-    fill-floats-requires
-    fill-floats-requires-2
-    fill-indices-requires
-    same-length
-    same-length-2
-    same-length-3
-    returns-5)
+read-mesh-spec = tie.close (tie.spec read-answer-requires returns fill-all-requires same-length same-length-2 same-length-3 returns-2)

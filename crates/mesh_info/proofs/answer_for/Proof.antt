@@ -19,7 +19,10 @@ read-mesh-requires : tie.Need-read-mesh-requires
 read-mesh-requires c κs = search needs
 
 returns : tie.Need-returns
-returns c = c .before .before .before .read-mesh .ensures .0 ∙ enough _ _ (c .before .before .before .before .before .before .before .before .pre) (search needs) (search needs) (search needs)
+returns c =
+    let r = c .before .before .before in
+    let s = r .before .before .before .before .before in
+    r .read-mesh .ensures .0 ∙ enough _ _ _ _ (s .pre) (search needs) (search needs) (search needs)
 
 pub answer-for-spec : {M : Type 1} → statement M
 answer-for-spec =

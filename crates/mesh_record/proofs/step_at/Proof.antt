@@ -1,4 +1,5 @@
--- `mesh_record::step_at` meets its contract. The tests say that the record is whole, and the calls' contracts are the definition's parts (`found-whole`); a record without a fault is of a known kind.
+-- `mesh_record::step_at` meets its contract. The tests say that the record is whole, and the calls' contracts are the definition's parts
+-- (`found-whole`); a record without a fault is of a known kind.
 -- Assumes nothing.
 use Rattle.mesh_record.proofs.OneStep.{found-cut, found-whole}
 use Rattle.mesh_record.proofs.Told.{no-fault, known-kind}

@@ -33,8 +33,12 @@ same-length : tie.Need-same-length
 same-length c = search needs
 
 returns : tie.Need-returns
-returns c = let h : c .before .before .before .before .before .before .before .before .before .before .before .before .before .before .before .before .before .args .at ≤ length (c .before .before .before .before .before .before .before .before .before .before .before .before .before .before .before .before .before .args .file .now) = omega (arith, c .before .before .before .before .before .before .before .before .before .before .before .before .before .before .before .before .before .pre) in
-    four-words _ _ _ _ _ _ _ _ _ _ h (c .before .before .before .before .before .before .before .before .before .before .before .before .before .before .write-word .ensures) (c .before .before .before .before .before .before .before .before .before .before .write-word2 .ensures) (c .before .before .before .before .before .before .write-word3 .ensures) (c .before .before .write-word4 .ensures)
+returns c = let h : c .before .before .before .before .before .before .before .before .before .before .before .before .before .before .before .before .before .args .at ≤ length
+    (c .before .before .before .before .before .before .before .before .before .before .before .before .before .before .before .before .before .args .file .now) = omega
+    (arith, c .before .before .before .before .before .before .before .before .before .before .before .before .before .before .before .before .before .pre) in
+    four-words _ _ _ _ _ _ _ _ _ _ h (c .before .before .before .before .before .before .before .before .before .before .before .before .before .before .write-word .ensures)
+    (c .before .before .before .before .before .before .before .before .before .before .write-word2 .ensures)
+    (c .before .before .before .before .before .before .write-word3 .ensures) (c .before .before .write-word4 .ensures)
 
 pub write-four-spec : {M : Type 1} → statement M
 write-four-spec =

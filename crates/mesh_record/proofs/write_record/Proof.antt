@@ -24,8 +24,11 @@ same-length : tie.Need-same-length
 same-length c = search needs
 
 returns : tie.Need-returns
-returns c = let h : c .before .before .before .before .before .before .before .before .before .before .args .at ≤ length (c .before .before .before .before .before .before .before .before .before .before .args .file .now) = omega (arith, c .before .before .before .before .before .before .before .before .before .before .pre) in
-    eight-words _ _ _ _ _ _ _ _ _ _ _ _ h (c .before .before .before .before .sum-of .ensures) (c .before .before .before .before .before .before .before .write-four .ensures) (c .before .before .write-four2 .ensures)
+returns c = let h : c .before .before .before .before .before .before .before .before .before .before .args .at ≤ length
+    (c .before .before .before .before .before .before .before .before .before .before .args .file .now) = omega
+    (arith, c .before .before .before .before .before .before .before .before .before .before .pre) in
+    eight-words _ _ _ _ _ _ _ _ _ _ _ _ h (c .before .before .before .before .sum-of .ensures) (c .before .before .before .before .before .before .before .write-four .ensures)
+    (c .before .before .write-four2 .ensures)
 
 pub write-record-spec : {M : Type 1} → statement M
 write-record-spec =

@@ -23,9 +23,75 @@ use prog.Wp.{Heap, Out, Env, Calls, Loops, Wp, WpFn, Tables, afterSeq, afterBloc
 use ghost.Atoms.{Atoms, sem}
 use contract.Monad.{Fun, fact}
 use contract.Running.{givenOf, tables, tablesOf}
-use types.Kit.{Given, Item, Sq, runs, ‵, raw, _⊛_, some, later, ⋆, anyQ, atRet, _$_, _∵_, !, qed, by, move, keep, drop, use0, use1, split, join, pick, rewrite, fsplit, fjoin, feqI, fltI, suffices, frame, await, done}
+use types.Kit.{
+  Given,
+  Item,
+  Sq,
+  runs,
+  ‵,
+  raw,
+  _⊛_,
+  some,
+  later,
+  ⋆,
+  anyQ,
+  atRet,
+  _$_,
+  _∵_,
+  !,
+  qed,
+  by,
+  move,
+  keep,
+  drop,
+  use0,
+  use1,
+  split,
+  join,
+  pick,
+  rewrite,
+  fsplit,
+  fjoin,
+  feqI,
+  fltI,
+  suffices,
+  frame,
+  await,
+  done,
+}
 use types.Part.{whole, sub, look-in}
-use types.Run.{look, look-raw, store, init, forget, stop, hop, fld, from, load, lit, of-opd, bin, and-then, no-more, assigns, land, land-last, stays, leaves-loop, exec, returns, enter, alloc1, alloc0, params1, pass1, pass0, free1, free0}
+use types.Run.{
+  look,
+  look-raw,
+  store,
+  init,
+  forget,
+  stop,
+  hop,
+  fld,
+  from,
+  load,
+  lit,
+  of-opd,
+  bin,
+  and-then,
+  no-more,
+  assigns,
+  land,
+  land-last,
+  stays,
+  leaves-loop,
+  exec,
+  returns,
+  enter,
+  alloc1,
+  alloc0,
+  params1,
+  pass1,
+  pass0,
+  free1,
+  free0,
+}
 use types.Share.{arr-parts}
 use sound.Loop.{loop-rule}
 use sound.WpLaws.{FmC, fmOf, WpFn-mono}
@@ -48,7 +114,7 @@ use denote.Triple.Entry.{Vals, onEntry}
 use denote.Triple.Spec.{Meets, tripleOf}
 use denote.Triple.Table.{entered, cited}
 use denote.Triple.Walked.{says, Stays, stay-none-slice, stay-none, walkOf, goes-none-slice, goes-none, Walks, ends-at, walked, walk-meets}
-use Rattle.rules.proofs.Tests.{less-or-not}
+use Rattle.lists.proofs.Tests.{less-or-not}
 use Rattle.plan.specs.declared.Block.{Block}
 use Rattle.plan.specs.declared.PlanAnswer.{PlanAnswer}
 use Rattle.plan.specs.declared.progress.Progress.{Progress}
@@ -140,7 +206,8 @@ module _ {M : Type 1} (𝓤 : URA M) (H : Heap 𝓤) (A : Atoms 𝓤) (W : Given
   says-finish : (p : Progress) (r : PlanAnswer) → ent 𝓤 (ensured 𝓤 H A finish.ended (finish.clauses 𝓤 H A mem run) tt (p, tt) tt r) (fact 𝓤 (r ≡ finishOf p))
   says-finish p r = exE 𝓤 _ (λ ws. snd∗ 𝓤 (sem 𝓤 H A (lasts finish.ended tt (p, tt) ws)) (fact 𝓤 (r ≡ finishOf p)))
 
-module _ {M : Type 1} (𝓤 : URA M) (H : Heap 𝓤) (A : Atoms 𝓤) (W : Given 𝓤 H A) (mem : Memory → SProp 𝓤) (run : Routine → Fun 𝓤) (κ : Lft) (q : Share) (b o : ℕ) (γ : GName) (ys : List Block) (w : Block) where
+module _ {M : Type 1} (𝓤 : URA M) (H : Heap 𝓤) (A : Atoms 𝓤) (W : Given 𝓤 H A) (mem : Memory → SProp 𝓤) (run : Routine → Fun 𝓤) (κ : Lft) (q : Share) (b o : ℕ) (γ : GName)
+    (ys : List Block) (w : Block) where
   abbrev n : ℕ
   n = length ys
 
@@ -199,7 +266,8 @@ module _ {M : Type 1} (𝓤 : URA M) (H : Heap 𝓤) (A : Atoms 𝓤) (W : Given
       abbrev Frame : List (Item 𝓤)
       Frame =
           ‵ (fat fullShare slice l₁ 0 (sliceVal (b, o) n)) ∷ ‵ (fat fullShare (B′.mir) l₂ 0 (mB w)) ∷ ‵ (fat fullShare word l₄ 0 (vint w64 n)) ∷ ‵ (froom (R′.mir) l₀ 0) ∷ ‵ named'
-          ∷ ‵ (fdies (R′.mir) l₀) ∷ ‵ (fdies slice l₁) ∷ ‵ (fdies (B′.mir) l₂) ∷ ‵ (fdies (P′.mir) l₃) ∷ ‵ (fdies word l₄) ∷ ‵ (fdies tyBool l₅) ∷ ‵ (fdies word l₆) ∷ ‵ (fdies tyPtr l₇)
+          ∷ ‵ (fdies (R′.mir) l₀) ∷ ‵ (fdies slice l₁) ∷ ‵ (fdies (B′.mir) l₂) ∷ ‵ (fdies (P′.mir) l₃) ∷ ‵ (fdies word l₄) ∷ ‵ (fdies tyBool l₅) ∷ ‵ (fdies word l₆) ∷ ‵
+          (fdies tyPtr l₇)
           ∷ ‵ (fdies (B′.mir) l₈) ∷ ‵ (fdies word l₉) ∷ ‵ (fdies tyPtr l₁₀) ∷ ‵ (fdies (B′.mir) l₁₁) ∷ []
 
       -- before a turn: the token, the lent list, and where the check stands
@@ -234,31 +302,45 @@ module _ {M : Type 1} (𝓤 : URA M) (H : Heap 𝓤) (A : Atoms 𝓤) (W : Given
       unfolding afterTurn
       more p X h ip small k =
           qed W (At p) ∵ exec ! C Λ En mir.turn-1 (anyQ (afterTurn 𝓤 H X Left)) $
-          assigns ! (bin ! (load ! (from ! (fld ! refl (stop !))) (look-in ! 2 (sub ! 2 refl (whole !)))) (load ! (from ! (fld ! refl (stop !))) (look-in ! 2 (sub ! 1 refl (whole !)))) tt) (from ! (stop !)) (init ! 3 refl (tt, tt)) $
+          assigns ! (bin ! (load ! (from ! (fld ! refl (stop !))) (look-in ! 2 (sub ! 2 refl (whole !))))
+          (load ! (from ! (fld ! refl (stop !))) (look-in ! 2 (sub ! 1 refl (whole !)))) tt) (from ! (stop !)) (init ! 3 refl (tt, tt)) $
           rewrite ! 3 (λ (t : Bool). ‵ (fat fullShare tyBool l₅ 0 (vbool t))) (lt-ltb (p .at) (p .count) small) refl $
           stays ! (load ! (from ! (stop !)) (look ! 3 refl)) $
-          assigns ! (bin ! (load ! (from ! (fld ! refl (stop !))) (look-in ! 2 (sub ! 2 refl (whole !)))) (lit ! tt) (record { fits = fits-i })) (from ! (stop !)) (init ! 4 refl (tt, record { fits = fits-i })) $
-          assigns ! (bin ! (load ! (from ! (fld ! refl (stop !))) (look-in ! 10 (sub ! 0 refl (whole !)))) (load ! (from ! (stop !)) (look ! 4 refl)) tt) (from ! (stop !)) (init ! 5 refl (tt, tt)) $
+          assigns ! (bin ! (load ! (from ! (fld ! refl (stop !))) (look-in ! 2 (sub ! 2 refl (whole !)))) (lit ! tt) (record { fits = fits-i })) (from ! (stop !))
+          (init ! 4 refl (tt, record { fits = fits-i })) $
+          assigns ! (bin ! (load ! (from ! (fld ! refl (stop !))) (look-in ! 10 (sub ! 0 refl (whole !)))) (load ! (from ! (stop !)) (look ! 4 refl)) tt) (from ! (stop !))
+          (init ! 5 refl (tt, tt)) $
           rewrite ! 5 (λ (o′ : ℕ). ‵ (fat fullShare tyPtr l₇ 0 (vptr b o′))) (sym (place-is 28 o (p .at))) refl $
           move ! (1 ∷ 0 ∷ []) $
-          looks-slice ! tt B.the-row (Is B.the-row) (shows 𝓤 H A B.the-row) (LL.vals B.the-type B′.the-laws) (LL.tells B.the-type B′.the-laws) (LL.copy B.the-type B′.the-copy 𝓤 H A W) ys b o (λ q′.
-          elem-out ! B.the-row (Is B.the-row) (shows 𝓤 H A B.the-row) (LL.vals B.the-type B′.the-laws) (LL.tells B.the-type B′.the-laws) q′ ys (p .at) blank b o (inside .0) (λ is-i.
+          looks-slice ! tt B.the-row (Is B.the-row) (shows 𝓤 H A B.the-row) (LL.vals B.the-type B′.the-laws) (LL.tells B.the-type B′.the-laws)
+          (LL.copy B.the-type B′.the-copy 𝓤 H A W) ys b o (λ q′.
+          elem-out ! B.the-row (Is B.the-row) (shows 𝓤 H A B.the-row) (LL.vals B.the-type B′.the-laws) (LL.tells B.the-type B′.the-laws) q′ ys (p .at) blank b o (inside .0)
+          (λ is-i.
           -- [blocks[at]; what it owns; the others; what shuts; the lent list; _3; _5; _6; _7; _8; _9; _10; _11; …]
-          assigns ! (of-opd ! (load ! (from ! (hop ! (look ! 8 refl) (stop !))) (look-raw ! 0 refl))) (from ! (stop !)) (init ! 9 refl (LL.lawful B.the-type B′.the-laws 𝓤 H A W .typed (at-i p) _ is-i .0)) $
+          assigns ! (of-opd ! (load ! (from ! (hop ! (look ! 8 refl) (stop !))) (look-raw ! 0 refl))) (from ! (stop !))
+          (init ! 9 refl (LL.lawful B.the-type B′.the-laws 𝓤 H A W .typed (at-i p) _ is-i .0)) $
           elem-back ! B.the-row q′ ys (p .at) blank (mB (at-i p) ∷ []) b o (inside .0) $
           -- [the row; what shuts; the lent list; _3; _5; _6; _7; _8; _9; _10; _11; _1; …]
-          assigns ! (bin ! (load ! (from ! (fld ! refl (stop !))) (look-in ! 3 (sub ! 3 refl (whole !)))) (lit ! tt) (record { fits = fits-j })) (from ! (stop !)) (init ! 8 refl (tt, record { fits = fits-j })) $
-          assigns ! (bin ! (load ! (from ! (fld ! refl (stop !))) (look-in ! 11 (sub ! 0 refl (whole !)))) (load ! (from ! (stop !)) (look ! 8 refl)) tt) (from ! (stop !)) (init ! 9 refl (tt, tt)) $
+          assigns ! (bin ! (load ! (from ! (fld ! refl (stop !))) (look-in ! 3 (sub ! 3 refl (whole !)))) (lit ! tt) (record { fits = fits-j })) (from ! (stop !))
+          (init ! 8 refl (tt, record { fits = fits-j })) $
+          assigns ! (bin ! (load ! (from ! (fld ! refl (stop !))) (look-in ! 11 (sub ! 0 refl (whole !)))) (load ! (from ! (stop !)) (look ! 8 refl)) tt) (from ! (stop !))
+          (init ! 9 refl (tt, tt)) $
           rewrite ! 9 (λ (o′ : ℕ). ‵ (fat fullShare tyPtr l₁₀ 0 (vptr b o′))) (sym (place-is 28 o (p .with))) refl $
-          elem-out ! B.the-row (Is B.the-row) (shows 𝓤 H A B.the-row) (LL.vals B.the-type B′.the-laws) (LL.tells B.the-type B′.the-laws) q′ ys (p .with) blank b o (inside .1) (λ is-j.
-          assigns ! (of-opd ! (load ! (from ! (hop ! (look ! 11 refl) (stop !))) (look-raw ! 0 refl))) (from ! (stop !)) (init ! 12 refl (LL.lawful B.the-type B′.the-laws 𝓤 H A W .typed (at-j p) _ is-j .0)) $
+          elem-out ! B.the-row (Is B.the-row) (shows 𝓤 H A B.the-row) (LL.vals B.the-type B′.the-laws) (LL.tells B.the-type B′.the-laws) q′ ys (p .with) blank b o (inside .1)
+          (λ is-j.
+          assigns ! (of-opd ! (load ! (from ! (hop ! (look ! 11 refl) (stop !))) (look-raw ! 0 refl))) (from ! (stop !))
+          (init ! 12 refl (LL.lawful B.the-type B′.the-laws 𝓤 H A W .typed (at-j p) _ is-j .0)) $
           elem-back ! B.the-row q′ ys (p .with) blank (mB (at-j p) ∷ []) b o (inside .1) $ shuts-slice ! tt B.the-row q′ ys b o $
           -- [the token; the lent list; _3; _5; _6; _7; _8; _9; _10; _11; …]
-          use0 W (raw (Turn 𝓤 H A mem run .pre (to-turn 𝓤 H A W mem run (at-i p) (at-j p) p))) (asks-turn 𝓤 H A W mem run (at-i p) (at-j p) p is-i is-j ip (turn-bounded ys w p h small)) $
+          use0 W (raw (Turn 𝓤 H A mem run .pre (to-turn 𝓤 H A W mem run (at-i p) (at-j p) p)))
+          (asks-turn 𝓤 H A W mem run (at-i p) (at-j p) p is-i is-j ip (turn-bounded ys w p h small)) $
           calls-at-last ! fm (Turn 𝓤 H A mem run) known-turn (to-turn 𝓤 H A W mem run (at-i p) (at-j p) p)
-          (and-then ! (load ! (from ! (stop !)) (look ! 7 refl)) (and-then ! (load ! (from ! (stop !)) (look ! 10 refl)) (and-then ! (load ! (from ! (stop !)) (look ! 3 refl)) (no-more !)))) (λ u.
-          use1 W (later (some (λ (r : Progress). (‵ ftrue ⊛ ‵ (P.the-row .own r (u ∷ []))) ⊛ raw (ensured 𝓤 H A turn.ended (turn.clauses 𝓤 H A mem run) tt (at-i p, (at-j p, (p, tt))) tt r)))) (id⊢ 𝓤 _) $ await ! tt $ pick ! (λ r.
-          split ! $ move ! (1 ∷ []) $ use1 W (raw (fact 𝓤 (r ≡ turnOf (at-i p) (at-j p) p))) (says-turn 𝓤 H A W mem run (at-i p) (at-j p) p r) $ heard ! (r ≡ turnOf (at-i p) (at-j p) p) (λ e. split ! $ drop ! $
+          (and-then ! (load ! (from ! (stop !)) (look ! 7 refl))
+          (and-then ! (load ! (from ! (stop !)) (look ! 10 refl)) (and-then ! (load ! (from ! (stop !)) (look ! 3 refl)) (no-more !)))) (λ u.
+          use1 W (later (some (λ (r : Progress). (‵ ftrue ⊛ ‵ (P.the-row .own r (u ∷ []))) ⊛ raw
+          (ensured 𝓤 H A turn.ended (turn.clauses 𝓤 H A mem run) tt (at-i p, (at-j p, (p, tt))) tt r)))) (id⊢ 𝓤 _) $ await ! tt $ pick ! (λ r.
+          split ! $ move ! (1 ∷ []) $ use1 W (raw (fact 𝓤 (r ≡ turnOf (at-i p) (at-j p) p))) (says-turn 𝓤 H A W mem run (at-i p) (at-j p) p r) $ heard !
+          (r ≡ turnOf (at-i p) (at-j p) p) (λ e. split ! $ drop ! $
           facts ! P.the-row (Is P.the-row) (shows 𝓤 H A P.the-row) r (u ∷ []) (λ ir.
           land-last ! (from ! (stop !)) (store ! 2 refl (LL.lawful P.the-type P′.the-laws 𝓤 H A W .typed r _ ir .0)) $
           rewrite ! 2 (λ (v : Val). ‵ (fat fullShare (P′.mir) l₃ 0 v)) (ap only (LL.tells P.the-type P′.the-laws r (u ∷ []) ir)) refl $
@@ -279,12 +361,14 @@ module _ {M : Type 1} (𝓤 : URA M) (H : Heap 𝓤) (A : Atoms 𝓤) (W : Given
       unfolding afterTurn
       ends p X h ip big =
           qed W (At p) ∵ exec ! C Λ En mir.turn-1 (anyQ (afterTurn 𝓤 H X Left)) $
-          assigns ! (bin ! (load ! (from ! (fld ! refl (stop !))) (look-in ! 2 (sub ! 2 refl (whole !)))) (load ! (from ! (fld ! refl (stop !))) (look-in ! 2 (sub ! 1 refl (whole !)))) tt) (from ! (stop !)) (init ! 3 refl (tt, tt)) $
+          assigns ! (bin ! (load ! (from ! (fld ! refl (stop !))) (look-in ! 2 (sub ! 2 refl (whole !))))
+          (load ! (from ! (fld ! refl (stop !))) (look-in ! 2 (sub ! 1 refl (whole !)))) tt) (from ! (stop !)) (init ! 3 refl (tt, tt)) $
           rewrite ! 3 (λ (t : Bool). ‵ (fat fullShare tyBool l₅ 0 (vbool t))) (le-ltb (p .at) (p .count) big) refl $
           leaves-loop ! (load ! (from ! (stop !)) (look ! 3 refl)) $ exec ! C Λ En mir.t-4 (atRet En Post) $
           use0 W (raw (Finish 𝓤 H A mem run .pre (to-finish 𝓤 H A W mem run p))) (asks-finish 𝓤 H A W mem run p ip (end-closing ys w p h)) $
           calls-at ! fm (Finish 𝓤 H A mem run) known-finish (to-finish 𝓤 H A W mem run p) (and-then ! (load ! (from ! (stop !)) (look ! 3 refl)) (no-more !)) (λ u.
-          use1 W (later (some (λ (r : PlanAnswer). (‵ ftrue ⊛ ‵ (R.the-row .own r (u ∷ []))) ⊛ raw (ensured 𝓤 H A finish.ended (finish.clauses 𝓤 H A mem run) tt (p, tt) tt r)))) (id⊢ 𝓤 _) $ await ! tt $ pick ! (λ r.
+          use1 W (later (some (λ (r : PlanAnswer). (‵ ftrue ⊛ ‵ (R.the-row .own r (u ∷ []))) ⊛ raw (ensured 𝓤 H A finish.ended (finish.clauses 𝓤 H A mem run) tt (p, tt) tt r))))
+          (id⊢ 𝓤 _) $ await ! tt $ pick ! (λ r.
           split ! $ move ! (1 ∷ []) $ use1 W (raw (fact 𝓤 (r ≡ finishOf p))) (says-finish 𝓤 H A W mem run p r) $ heard ! (r ≡ finishOf p) (λ e. split ! $ drop ! $
           facts ! R.the-row (Is R.the-row) (shows 𝓤 H A R.the-row) r (u ∷ []) (λ ir.
           land ! (from ! (stop !)) (init ! 13 refl (LL.lawful R.the-type R′.the-laws 𝓤 H A W .typed r _ ir .0)) $
@@ -296,7 +380,8 @@ module _ {M : Type 1} (𝓤 : URA M) (H : Heap 𝓤) (A : Atoms 𝓤) (W : Given
       below : (t : ℕ) (p r : Progress) → left ys w p ≡ t → Held ys w p → p .at < p .count → r ≡ turnOf (at-i p) (at-j p) p → IsP r → ent 𝓤 (⋆ 𝓤 H A (At r)) (Below t)
       below t p r e h small is ir =
           via 𝓤 (Inv (left ys w r))
-          (via 𝓤 (guard 𝓤 (Facts (left ys w r) r) (⋆ 𝓤 H A (At r))) (guardI 𝓤 (Facts (left ys w r) r) (⋆ 𝓤 H A (At r)) (refl, subst (Held ys w) (sym is) (turn-held ys w p h small), ir))
+          (via 𝓤 (guard 𝓤 (Facts (left ys w r) r) (⋆ 𝓤 H A (At r)))
+          (guardI 𝓤 (Facts (left ys w r) r) (⋆ 𝓤 H A (At r)) (refl, subst (Held ys w) (sym is) (turn-held ys w p h small), ir))
           (exI 𝓤 (λ (p′ : Progress). guard 𝓤 (Facts (left ys w r) p′) (⋆ 𝓤 H A (At p′))) r))
           (via 𝓤 (guard 𝓤 (left ys w r < t) (Inv (left ys w r))) (guardI 𝓤 (left ys w r < t) (Inv (left ys w r)) less) (exI 𝓤 (λ (u : ℕ). guard 𝓤 (u < t) (Inv u)) (left ys w r)))
         where
@@ -339,8 +424,10 @@ module _ {M : Type 1} (𝓤 : URA M) (H : Heap 𝓤) (A : Atoms 𝓤) (W : Given
       begins : Sq W (Locals (‵ (froom (P′.mir) l₃ 0))) (runs C Λ En mir.t-2 (atRet En Post))
       begins =
           use0 W (raw (Start 𝓤 H A mem run .pre (to-start 𝓤 H A W mem run n w))) (asks-start 𝓤 H A W mem run n w (g .0) iw) $
-          calls-at ! fm (Start 𝓤 H A mem run) known-start (to-start 𝓤 H A W mem run n w) (and-then ! (load ! (from ! (stop !)) (look ! 15 refl)) (and-then ! (load ! (from ! (stop !)) (look ! 19 refl)) (no-more !))) (λ u.
-          use1 W (later (some (λ (r : Progress). (‵ ftrue ⊛ ‵ (P.the-row .own r (u ∷ []))) ⊛ raw (ensured 𝓤 H A start.ended (start.clauses 𝓤 H A mem run) tt (n, (w, tt)) tt r)))) (id⊢ 𝓤 _) $ await ! tt $ pick ! (λ r.
+          calls-at ! fm (Start 𝓤 H A mem run) known-start (to-start 𝓤 H A W mem run n w)
+          (and-then ! (load ! (from ! (stop !)) (look ! 15 refl)) (and-then ! (load ! (from ! (stop !)) (look ! 19 refl)) (no-more !))) (λ u.
+          use1 W (later (some (λ (r : Progress). (‵ ftrue ⊛ ‵ (P.the-row .own r (u ∷ []))) ⊛ raw (ensured 𝓤 H A start.ended (start.clauses 𝓤 H A mem run) tt (n, (w, tt)) tt r))))
+          (id⊢ 𝓤 _) $ await ! tt $ pick ! (λ r.
           split ! $ move ! (1 ∷ []) $ use1 W (raw (fact 𝓤 (r ≡ startOf n w))) (says-start 𝓤 H A W mem run n w r) $ heard ! (r ≡ startOf n w) (λ e. split ! $ drop ! $
           facts ! P.the-row (Is P.the-row) (shows 𝓤 H A P.the-row) r (u ∷ []) (λ ir.
           land ! (from ! (stop !)) (init ! 16 refl (LL.lawful P.the-type P′.the-laws 𝓤 H A W .typed r _ ir .0)) $
@@ -350,8 +437,10 @@ module _ {M : Type 1} (𝓤 : URA M) (H : Heap 𝓤) (A : Atoms 𝓤) (W : Given
     -- the MIR: the parameters are stored, and the list's count
     walk : ent 𝓤 (onEntry 𝓤 H A check.signature (κ, tt) (q, tt) (x, (w, tt)) at) (WpFn 𝓤 H C Λ code.function (sliceVal (b, o) n ∷ mB w ∷ []) Post)
     walk =
-        qed W ((‵ (flft κ q) ⊛ ‵ ftrue) ∷ ‵ (owns (ShrSlice (named 0) κ B.the-row ∷ B.the-row ∷ []) (x, (w, tt)) at) ∷ []) ∵ enter ! C Λ code.function (sliceVal (b, o) n ∷ mB w ∷ []) _ $
-        alloc1 ! (λ l₀. alloc1 ! (λ l₁. alloc1 ! (λ l₂. alloc1 ! (λ l₃. alloc1 ! (λ l₄. alloc1 ! (λ l₅. alloc1 ! (λ l₆. alloc1 ! (λ l₇. alloc1 ! (λ l₈. alloc1 ! (λ l₉. alloc1 ! (λ l₁₀. alloc1 ! (λ l₁₁. alloc0 ! $ params1 ! $
+        qed W ((‵ (flft κ q) ⊛ ‵ ftrue) ∷ ‵ (owns (ShrSlice (named 0) κ B.the-row ∷ B.the-row ∷ []) (x, (w, tt)) at) ∷ []) ∵ enter ! C Λ code.function
+        (sliceVal (b, o) n ∷ mB w ∷ []) _ $
+        alloc1 ! (λ l₀. alloc1 ! (λ l₁. alloc1 ! (λ l₂. alloc1 !
+        (λ l₃. alloc1 ! (λ l₄. alloc1 ! (λ l₅. alloc1 ! (λ l₆. alloc1 ! (λ l₇. alloc1 ! (λ l₈. alloc1 ! (λ l₉. alloc1 ! (λ l₁₀. alloc1 ! (λ l₁₁. alloc0 ! $ params1 ! $
         pass1 ! (init ! 20 refl (tt, (tt, (record { fits = g .0 }, tt)))) $ pass1 ! (init ! 18 refl (LL.lawful B.the-type B′.the-laws 𝓤 H A W .typed w _ iw .0)) $ pass0 ! $
         assigns ! (of-opd ! (load ! (from ! (fld ! refl (stop !))) (look-in ! 20 (sub ! 1 refl (whole !))))) (from ! (stop !)) (init ! 14 refl (tt, record { fits = g .0 })) $
         begins l₀ l₁ l₂ l₃ l₄ l₅ l₆ l₇ l₈ l₉ l₁₀ l₁₁))))))))))))
@@ -363,14 +452,16 @@ module _ {M : Type 1} (𝓤 : URA M) (H : Heap 𝓤) (A : Atoms 𝓤) (W : Given
       walked 𝓤 H A check.ended stayed (check.clauses 𝓤 H A mem run) (WpFn 𝓤 H (𝓣 .C) (𝓣 .Λ) code.function) (λ κs. (slice-vals, (LL.vals B.the-type B′.the-laws, tt)))
       (λ κs. (shr-slice-tells (named 0) (κs .0) B.the-row, (LL.tells B.the-type B′.the-laws, tt)))
       (λ κs qs bounds a _ are. via 𝓤 _ (fst∗ 𝓤 _ (emp 𝓤))
-      (walk 𝓤 H A W mem run (κs .0) (qs .0) (a .0 .ptr .0) (a .0 .ptr .1) (a .0 .name) (a .0 .now) (a .1 .0) 𝓣 (fmOf 𝓤 H (W .laws) 𝓣) known-start known-turn known-finish (are .0 .0 .1) (are .1 .0)))
+      (walk 𝓤 H A W mem run (κs .0) (qs .0) (a .0 .ptr .0) (a .0 .ptr .1) (a .0 .name) (a .0 .now) (a .1 .0) 𝓣 (fmOf 𝓤 H (W .laws) 𝓣) known-start known-turn known-finish
+      (are .0 .0 .1) (are .1 .0)))
 
 check-plan-meets : {M : Type 1} (𝓤 : URA M) (H : Heap 𝓤) (A : Atoms 𝓤) (W : Given 𝓤 H A) (mem : Memory → SProp 𝓤) (run : Routine → Fun 𝓤) (𝓣 : Tables 𝓤 H)
     → Triple 𝓤 (𝓣 .C #start) (Start 𝓤 H A mem run) → Triple 𝓤 (𝓣 .C #turn) (Turn 𝓤 H A mem run) → Triple 𝓤 (𝓣 .C #finish) (Finish 𝓤 H A mem run)
     → Meets 𝓤 H A check.signature (WpFn 𝓤 H (𝓣 .C) (𝓣 .Λ) code.function) (check.spec 𝓤 H A mem run)
 check-plan-meets 𝓤 H A W mem run 𝓣 known-start known-turn known-finish =
     walk-meets 𝓤 H A check.ended stayed W (goes-none-slice 𝓤 H A W 1 (0 ∷ []) tt (plain (λ _. B.the-row)) yes, (goes-none 𝓤 H A W 1 (λ _. B.the-row) yes (λ κs x f. refl), tt))
-    (check.clauses 𝓤 H A mem run) (WpFn 𝓤 H (𝓣 .C) (𝓣 .Λ) code.function) (WpFn-mono 𝓤 H (W .laws) 𝓣 code.function) (check-plan-walks 𝓤 H A W mem run 𝓣 known-start known-turn known-finish)
+    (check.clauses 𝓤 H A mem run) (WpFn 𝓤 H (𝓣 .C) (𝓣 .Λ) code.function) (WpFn-mono 𝓤 H (W .laws) 𝓣 code.function)
+    (check-plan-walks 𝓤 H A W mem run 𝓣 known-start known-turn known-finish)
 
 pub check-plan-spec : {M : Type 1} → stated.statement M
 unfolding code.routine tablesOf

@@ -4,8 +4,9 @@ use mathlib.Core.Path.{_≡_, ap, sym, refl, _∙_}
 use native.Mathlib.Omega.{arith}
 use Rattle.rules.specs.Call.{Call, Buffers, Answer, answer, room}
 use Rattle.rules.proofs.Locality.{when-done, when-refused}
-use Rattle.whole_box.specs.Reading.{buffersGiven}
-use Rattle.surface_nets.specs.Reading.{blockOf, callMade, Binary32}
+use Rattle.whole_box.specs.LentLists.{buffersGiven}
+use Rattle.lists.specs.Floats.{Binary32}
+use Rattle.surface_nets.specs.AsRules.{blockOf, callMade}
 use Rattle.surface_nets.proofs.Done.{done-inside, done-roomy}
 use borrow.Author.Needs.{needs}
 use Rattle.surface_nets.proofs.surface_nets.Statement.{statement}

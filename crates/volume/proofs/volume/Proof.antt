@@ -1,15 +1,46 @@
 -- `volume::volume` meets its contract: each answer by the tests that led to it. Assumes nothing.
+use mathlib.Core.Bool.{false}
 use mathlib.Core.Path.{_≡_, sym, ap, _∙_}
-use denote.Ref.{now}
 use lib.IntN.{ℤ}
+use lib.ListN.{length}
 use mir.Syntax.{w64}
 use mir.Val.{toZ, ofZ}
 use mir.Facts.{toZ-ofZ}
-use Rattle.volume.specs.Answers.{weighed}
-use Rattle.volume.proofs.Answering.{said-61, said-62, said-63, said-64, said-0, in-threes, few-enough}
+use Rattle.volume.specs.Answers.{tooMany, someOutside, someWithout, weighed}
+use Rattle.volume.proofs.Answering.{badThrees, said-61, said-62, said-63, said-64, said-0, in-threes, few-enough}
 use borrow.Author.Needs.{needs, sfits-of}
 use Rattle.volume.proofs.volume.Statement.{statement}
 use Rattle.volume.proofs.volume.Tie as tie
+
+-- ---- the start, from behind each test that failed
+
+abbrev start-1 : tie.Else1 → tie.Start
+start-1 c = c .before .before .before .before
+
+abbrev start-2 : tie.Else2 → tie.Start
+start-2 c = start-1 (c .before .before)
+
+abbrev start-3 : tie.Else3 → tie.Start
+start-3 c = start-2 (c .before .before)
+
+abbrev start-4 : tie.Else4 → tie.Start
+start-4 c = start-3 (c .before .before)
+
+-- ---- what each says
+
+threes : (c : tie.Else1) → badThrees (start-1 c .args .positions .now) (start-1 c .args .indices .now) ≡ false
+threes c = sym (c .before .bad-lengths .ensures) ∙ c .if1 .left
+
+few : (c : tie.Else2) → tooMany (length (start-2 c .args .indices .now)) ≡ false
+few c = sym (c .before .too-many .ensures) ∙ c .if2 .left
+
+inside : (c : tie.Else3) → someOutside (start-3 c .args .positions .now) ≡ false
+inside c = sym (c .before .some-outside .ensures) ∙ c .if3 .left
+
+with-vertices : (c : tie.Else4) → someWithout (start-4 c .args .positions .now) (start-4 c .args .indices .now) ≡ false
+with-vertices c = sym (c .before .some-without-vertex .ensures) ∙ c .if4 .left
+
+-- ---- the needs
 
 bad-lengths-requires : tie.Need-bad-lengths-requires
 bad-lengths-requires c κs = search needs
@@ -18,7 +49,7 @@ refused-requires : tie.Need-refused-requires
 refused-requires c κs = search needs
 
 returns : tie.Need-returns
-returns c = c .refused .ensures ∙ sym (said-61 _ _ (sym (c .before .before .bad-lengths .ensures) ∙ c .before .if1 .taken))
+returns c = let t = c .before in c .refused .ensures ∙ sym (said-61 _ _ (sym (t .before .bad-lengths .ensures) ∙ t .if1 .taken))
 
 too-many-requires : tie.Need-too-many-requires
 too-many-requires c κs = search needs
@@ -28,8 +59,8 @@ refused-requires-2 c κs = search needs
 
 returns-2 : tie.Need-returns-2
 returns-2 c =
-    let threes = sym (c .before .before .before .before .bad-lengths .ensures) ∙ c .before .before .before .if1 .left in
-    c .refused2 .ensures ∙ sym (said-62 _ _ threes (sym (c .before .before .too-many .ensures) ∙ c .before .if2 .taken))
+    let t = c .before in
+    c .refused2 .ensures ∙ sym (said-62 _ _ (threes (t .before .before)) (sym (t .before .too-many .ensures) ∙ t .if2 .taken))
 
 some-outside-requires : tie.Need-some-outside-requires
 some-outside-requires c κs = search needs
@@ -39,9 +70,9 @@ refused-requires-3 c κs = search needs
 
 returns-3 : tie.Need-returns-3
 returns-3 c =
-    let threes = sym (c .before .before .before .before .before .before .bad-lengths .ensures) ∙ c .before .before .before .before .before .if1 .left in
-    let few = sym (c .before .before .before .before .too-many .ensures) ∙ c .before .before .before .if2 .left in
-    c .refused3 .ensures ∙ sym (said-63 _ _ threes few (sym (c .before .before .some-outside .ensures) ∙ c .before .if3 .taken))
+    let t = c .before in
+    let e = t .before .before in
+    c .refused3 .ensures ∙ sym (said-63 _ _ (threes (e .before .before)) (few e) (sym (t .before .some-outside .ensures) ∙ t .if3 .taken))
 
 some-without-vertex-requires : tie.Need-some-without-vertex-requires
 some-without-vertex-requires c κs = search needs
@@ -51,31 +82,27 @@ refused-requires-4 c κs = search needs
 
 returns-4 : tie.Need-returns-4
 returns-4 c =
-    let threes = sym (c .before .before .before .before .before .before .before .before .bad-lengths .ensures) ∙ c .before .before .before .before .before .before .before .if1 .left in
-    let few = sym (c .before .before .before .before .before .before .too-many .ensures) ∙ c .before .before .before .before .before .if2 .left in
-    let inside = sym (c .before .before .before .before .some-outside .ensures) ∙ c .before .before .before .if3 .left in
-    c .refused4 .ensures ∙ sym (said-64 _ _ threes few inside (sym (c .before .before .some-without-vertex .ensures) ∙ c .before .if4 .taken))
+    let t = c .before in
+    let e3 = t .before .before in
+    let e2 = e3 .before .before in
+    let bad = sym (t .before .some-without-vertex .ensures) ∙ t .if4 .taken in
+    c .refused4 .ensures ∙ sym (said-64 _ _ (threes (e2 .before .before)) (few e2) (inside e3) bad)
 
 sum-over-requires : tie.Need-sum-over-requires
 sum-over-requires c κs =
-    let s = c .before .before .before .before .before .before .before .before .before .before in
-    let threes = sym (c .before .before .before .before .before .before .before .bad-lengths .ensures) ∙ c .before .before .before .before .before .before .if1 .left in
-    let few = sym (c .before .before .before .before .before .too-many .ensures) ∙ c .before .before .before .before .if2 .left in (
-      in-threes (now (s .args .positions)) (now (s .args .indices)) threes,
-      (
-        few-enough (now (s .args .indices)) few,
-        (sym (c .before .before .before .some-outside .ensures) ∙ c .before .before .if3 .left, sym (c .before .some-without-vertex .ensures) ∙ c .if4 .left),
-      ),
-    )
+    let e3 = c .before .before in
+    let e2 = e3 .before .before in
+    let a = start-4 c .args in
+    (in-threes (a .positions .now) (a .indices .now) (threes (e2 .before .before)), (few-enough (a .indices .now) (few e2), (inside e3, with-vertices c)))
 
 returns-5 : tie.Need-returns-5
 returns-5 c =
-    let threes = sym (c .before .before .before .before .before .before .before .before .bad-lengths .ensures) ∙ c .before .before .before .before .before .before .before .if1 .left in
-    let few = sym (c .before .before .before .before .before .before .too-many .ensures) ∙ c .before .before .before .before .before .if2 .left in
-    let inside = sym (c .before .before .before .before .some-outside .ensures) ∙ c .before .before .before .if3 .left in
-    let read-back : toZ w64 (ofZ w64 (c .sum-over .result)) ≡ c .sum-over .result = toZ-ofZ {w = w64} {z = c .sum-over .result} (sfits-of {w = w64} {z = c .sum-over .result} (c .sum-over .ok)) in
-    ap (λ (z : ℤ). weighed 0 z) (read-back ∙ c .sum-over .ensures)
-    ∙ sym (said-0 _ _ threes few inside (sym (c .before .before .some-without-vertex .ensures) ∙ c .before .if4 .left))
+    let e4 = c .before in
+    let e3 = e4 .before .before in
+    let e2 = e3 .before .before in
+    let n = c .sum-over .result in
+    let read-back : toZ w64 (ofZ w64 n) ≡ n = toZ-ofZ {w = w64} {z = n} (sfits-of {w = w64} {z = n} (c .sum-over .ok)) in
+    ap (λ (z : ℤ). weighed 0 z) (read-back ∙ c .sum-over .ensures) ∙ sym (said-0 _ _ (threes (e2 .before .before)) (few e2) (inside e3) (with-vertices e4))
 
 pub volume-spec : {M : Type 1} → statement M
 volume-spec =

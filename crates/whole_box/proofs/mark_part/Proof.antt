@@ -2,11 +2,28 @@
 use mathlib.Core.Path.{ap, _∙_}
 use native.Mathlib.Omega.{arith}
 use lib.ListN.{length}
-use Rattle.whole_box.proofs.Parts.{layer-end, layer-few, in-layers, corner-lent}
+use Rattle.grid.proofs.Parts.{layer-end, layer-few, in-layers, corner-lent}
 use Rattle.whole_box.proofs.Lent.{layer-same, room-lent, marked-back}
 use borrow.Author.Needs.{needs}
 use Rattle.whole_box.proofs.mark_part.Statement.{statement}
 use Rattle.whole_box.proofs.mark_part.Tie as tie
+
+-- ---- places, by the one that each is looked for from
+
+abbrev mark-layer-from-slice-known12 : tie.After-slice-known12 → tie.After-mark-layer
+mark-layer-from-slice-known12 c = c .before .before .before .before .before .before .before .before .before .before .before .before
+
+abbrev start-from-struct-known2 : tie.After-struct-known2 → tie.Start
+start-from-struct-known2 c = c .before .before .before .before .before .before .before .before .before
+
+abbrev start-from-mark-layer-arg : tie.After-mark-layer-arg → tie.Start
+start-from-mark-layer-arg c = start-from-struct-known2 (c .before)
+
+abbrev start-from-mark-layer-arg7 : tie.After-mark-layer-arg7 → tie.Start
+start-from-mark-layer-arg7 c = start-from-mark-layer-arg (c .before .before .before .before .before .before)
+
+abbrev start-from-mark-layer-arg8 : tie.After-mark-layer-arg8 → tie.Start
+start-from-mark-layer-arg8 c = start-from-mark-layer-arg7 (c .before)
 
 cast-plane : tie.Need-cast-plane
 cast-plane c = search needs
@@ -16,89 +33,174 @@ cast-plane-2 c = search needs
 
 mul-plane : tie.Need-mul-plane
 mul-plane c =
-    let s = c .before .before .before .before .before .before .before .before .before in
-    omega (arith, layer-few (s .args .sdf .now) (s .args .k) (s .pre .0) (s .args .z) (s .pre .1 .0), layer-end (s .args .sdf .now) (s .args .k) (s .pre .0) (s .args .z) (s .pre .1 .0))
+    let s = start-from-struct-known2 c in
+    omega (
+      arith,
+      layer-few (s .args .sdf .now) (s .args .k) (s .pre .0) (s .args .z) (s .pre .1 .0),
+      layer-end (s .args .sdf .now) (s .args .k) (s .pre .0) (s .args .z)
+          (s .pre .1 .0),
+    )
 
 mul-start : tie.Need-mul-start
 mul-start c =
-    let s = c .before .before .before .before .before .before .before .before .before in
-    omega (arith, layer-few (s .args .sdf .now) (s .args .k) (s .pre .0) (s .args .z) (s .pre .1 .0), layer-end (s .args .sdf .now) (s .args .k) (s .pre .0) (s .args .z) (s .pre .1 .0))
+    let s = start-from-struct-known2 c in
+    omega (
+      arith,
+      layer-few (s .args .sdf .now) (s .args .k) (s .pre .0) (s .args .z) (s .pre .1 .0),
+      layer-end (s .args .sdf .now) (s .args .k) (s .pre .0) (s .args .z)
+          (s .pre .1 .0),
+    )
 
 add-end : tie.Need-add-end
 add-end c =
-    let s = c .before .before .before .before .before .before .before .before .before in
-    omega (arith, layer-few (s .args .sdf .now) (s .args .k) (s .pre .0) (s .args .z) (s .pre .1 .0), layer-end (s .args .sdf .now) (s .args .k) (s .pre .0) (s .args .z) (s .pre .1 .0))
+    let s = start-from-struct-known2 c in
+    omega (
+      arith,
+      layer-few (s .args .sdf .now) (s .args .k) (s .pre .0) (s .args .z) (s .pre .1 .0),
+      layer-end (s .args .sdf .now) (s .args .k) (s .pre .0) (s .args .z)
+          (s .pre .1 .0),
+    )
 
 cast-t17 : tie.Need-cast-t17
-cast-t17 c = let r = c .before .before .before .before .before .before .before .before .before .pre .1 .1 .1 in omega arith
+cast-t17 c = let r = start-from-struct-known2 c .pre .1 .1 .1 in omega arith
 
 mul-mark-layer : tie.Need-mul-mark-layer
 mul-mark-layer c =
-    let s = c .before .before .before .before .before .before .before .before .before in
-    omega (arith, layer-few (s .args .sdf .now) (s .args .k) (s .pre .0) (s .args .z) (s .pre .1 .0), layer-end (s .args .sdf .now) (s .args .k) (s .pre .0) (s .args .z) (s .pre .1 .0))
+    let s = start-from-struct-known2 c in
+    omega (
+      arith,
+      layer-few (s .args .sdf .now) (s .args .k) (s .pre .0) (s .args .z) (s .pre .1 .0),
+      layer-end (s .args .sdf .now) (s .args .k) (s .pre .0) (s .args .z)
+          (s .pre .1 .0),
+    )
 
 sub-mark-layer : tie.Need-sub-mark-layer
 sub-mark-layer c =
-    let s = c .before .before .before .before .before .before .before .before .before in
-    omega (arith, layer-few (s .args .sdf .now) (s .args .k) (s .pre .0) (s .args .z) (s .pre .1 .0), layer-end (s .args .sdf .now) (s .args .k) (s .pre .0) (s .args .z) (s .pre .1 .0))
+    let s = start-from-struct-known2 c in
+    omega (
+      arith,
+      layer-few (s .args .sdf .now) (s .args .k) (s .pre .0) (s .args .z) (s .pre .1 .0),
+      layer-end (s .args .sdf .now) (s .args .k) (s .pre .0) (s .args .z)
+          (s .pre .1 .0),
+    )
 
 part-mark-layer-start : tie.Need-part-mark-layer-start
 part-mark-layer-start c =
-    let s = c .before .before .before .before .before .before .before .before .before in
-    omega (arith, layer-few (s .args .sdf .now) (s .args .k) (s .pre .0) (s .args .z) (s .pre .1 .0), layer-end (s .args .sdf .now) (s .args .k) (s .pre .0) (s .args .z) (s .pre .1 .0))
+    let s = start-from-struct-known2 c in
+    omega (
+      arith,
+      layer-few (s .args .sdf .now) (s .args .k) (s .pre .0) (s .args .z) (s .pre .1 .0),
+      layer-end (s .args .sdf .now) (s .args .k) (s .pre .0) (s .args .z)
+          (s .pre .1 .0),
+    )
 
 part-mark-layer-end : tie.Need-part-mark-layer-end
 part-mark-layer-end c =
-    let s = c .before .before .before .before .before .before .before .before .before in
-    omega (arith, layer-few (s .args .sdf .now) (s .args .k) (s .pre .0) (s .args .z) (s .pre .1 .0), layer-end (s .args .sdf .now) (s .args .k) (s .pre .0) (s .args .z) (s .pre .1 .0))
+    let s = start-from-struct-known2 c in
+    omega (
+      arith,
+      layer-few (s .args .sdf .now) (s .args .k) (s .pre .0) (s .args .z) (s .pre .1 .0),
+      layer-end (s .args .sdf .now) (s .args .k) (s .pre .0) (s .args .z)
+          (s .pre .1 .0),
+    )
 
 mul-mark-layer-2 : tie.Need-mul-mark-layer-2
 mul-mark-layer-2 c =
-    let s = c .before .before .before .before .before .before .before .before .before .before in
-    omega (arith, layer-few (s .args .sdf .now) (s .args .k) (s .pre .0) (s .args .z) (s .pre .1 .0), layer-end (s .args .sdf .now) (s .args .k) (s .pre .0) (s .args .z) (s .pre .1 .0))
+    let s = start-from-mark-layer-arg c in
+    omega (
+      arith,
+      layer-few (s .args .sdf .now) (s .args .k) (s .pre .0) (s .args .z) (s .pre .1 .0),
+      layer-end (s .args .sdf .now) (s .args .k) (s .pre .0) (s .args .z)
+          (s .pre .1 .0),
+    )
 
 sub-mark-layer-2 : tie.Need-sub-mark-layer-2
 sub-mark-layer-2 c =
-    let s = c .before .before .before .before .before .before .before .before .before .before in
-    omega (arith, layer-few (s .args .sdf .now) (s .args .k) (s .pre .0) (s .args .z) (s .pre .1 .0), layer-end (s .args .sdf .now) (s .args .k) (s .pre .0) (s .args .z) (s .pre .1 .0))
+    let s = start-from-mark-layer-arg c in
+    omega (
+      arith,
+      layer-few (s .args .sdf .now) (s .args .k) (s .pre .0) (s .args .z) (s .pre .1 .0),
+      layer-end (s .args .sdf .now) (s .args .k) (s .pre .0) (s .args .z)
+          (s .pre .1 .0),
+    )
 
 part-mark-layer-start-2 : tie.Need-part-mark-layer-start-2
 part-mark-layer-start-2 c =
-    let s = c .before .before .before .before .before .before .before .before .before .before in
-    omega (arith, layer-few (s .args .sdf .now) (s .args .k) (s .pre .0) (s .args .z) (s .pre .1 .0), layer-end (s .args .sdf .now) (s .args .k) (s .pre .0) (s .args .z) (s .pre .1 .0))
+    let s = start-from-mark-layer-arg c in
+    omega (
+      arith,
+      layer-few (s .args .sdf .now) (s .args .k) (s .pre .0) (s .args .z) (s .pre .1 .0),
+      layer-end (s .args .sdf .now) (s .args .k) (s .pre .0) (s .args .z)
+          (s .pre .1 .0),
+    )
 
 part-mark-layer-end-2 : tie.Need-part-mark-layer-end-2
 part-mark-layer-end-2 c =
-    let s = c .before .before .before .before .before .before .before .before .before .before in
-    omega (arith, layer-few (s .args .sdf .now) (s .args .k) (s .pre .0) (s .args .z) (s .pre .1 .0), layer-end (s .args .sdf .now) (s .args .k) (s .pre .0) (s .args .z) (s .pre .1 .0))
+    let s = start-from-mark-layer-arg c in
+    omega (
+      arith,
+      layer-few (s .args .sdf .now) (s .args .k) (s .pre .0) (s .args .z) (s .pre .1 .0),
+      layer-end (s .args .sdf .now) (s .args .k) (s .pre .0) (s .args .z)
+          (s .pre .1 .0),
+    )
 
 mul-mark-layer-3 : tie.Need-mul-mark-layer-3
 mul-mark-layer-3 c =
-    let s = c .before .before .before .before .before .before .before .before .before .before .before .before .before .before .before .before in
-    omega (arith, layer-few (s .args .sdf .now) (s .args .k) (s .pre .0) (s .args .z) (s .pre .1 .0), layer-end (s .args .sdf .now) (s .args .k) (s .pre .0) (s .args .z) (s .pre .1 .0), s .pre .1 .1 .0)
+    let s = start-from-mark-layer-arg7 c in
+    omega (
+      arith,
+      layer-few (s .args .sdf .now) (s .args .k) (s .pre .0) (s .args .z) (s .pre .1 .0),
+      layer-end (s .args .sdf .now) (s .args .k) (s .pre .0) (s .args .z)
+          (s .pre .1 .0),
+      s .pre .1 .1 .0,
+    )
 
 sub-mark-layer-3 : tie.Need-sub-mark-layer-3
 sub-mark-layer-3 c =
-    let s = c .before .before .before .before .before .before .before .before .before .before .before .before .before .before .before .before in
-    omega (arith, layer-few (s .args .sdf .now) (s .args .k) (s .pre .0) (s .args .z) (s .pre .1 .0), layer-end (s .args .sdf .now) (s .args .k) (s .pre .0) (s .args .z) (s .pre .1 .0), s .pre .1 .1 .0)
+    let s = start-from-mark-layer-arg7 c in
+    omega (
+      arith,
+      layer-few (s .args .sdf .now) (s .args .k) (s .pre .0) (s .args .z) (s .pre .1 .0),
+      layer-end (s .args .sdf .now) (s .args .k) (s .pre .0) (s .args .z)
+          (s .pre .1 .0),
+      s .pre .1 .1 .0,
+    )
 
 part-mark-layer-start-3 : tie.Need-part-mark-layer-start-3
 part-mark-layer-start-3 c =
-    let s = c .before .before .before .before .before .before .before .before .before .before .before .before .before .before .before .before in
-    omega (arith, layer-few (s .args .sdf .now) (s .args .k) (s .pre .0) (s .args .z) (s .pre .1 .0), layer-end (s .args .sdf .now) (s .args .k) (s .pre .0) (s .args .z) (s .pre .1 .0), s .pre .1 .1 .0)
+    let s = start-from-mark-layer-arg7 c in
+    omega (
+      arith,
+      layer-few (s .args .sdf .now) (s .args .k) (s .pre .0) (s .args .z) (s .pre .1 .0),
+      layer-end (s .args .sdf .now) (s .args .k) (s .pre .0) (s .args .z)
+          (s .pre .1 .0),
+      s .pre .1 .1 .0,
+    )
 
 part-mark-layer-end-3 : tie.Need-part-mark-layer-end-3
 part-mark-layer-end-3 c =
-    let s = c .before .before .before .before .before .before .before .before .before .before .before .before .before .before .before .before in
-    omega (arith, layer-few (s .args .sdf .now) (s .args .k) (s .pre .0) (s .args .z) (s .pre .1 .0), layer-end (s .args .sdf .now) (s .args .k) (s .pre .0) (s .args .z) (s .pre .1 .0), s .pre .1 .1 .0)
+    let s = start-from-mark-layer-arg7 c in
+    omega (
+      arith,
+      layer-few (s .args .sdf .now) (s .args .k) (s .pre .0) (s .args .z) (s .pre .1 .0),
+      layer-end (s .args .sdf .now) (s .args .k) (s .pre .0) (s .args .z)
+          (s .pre .1 .0),
+      s .pre .1 .1 .0,
+    )
 
 mark-layer-requires : tie.Need-mark-layer-requires
 mark-layer-requires c κs =
-    let s = c .before .before .before .before .before .before .before .before .before .before .before .before .before .before .before .before .before in
+    let s = start-from-mark-layer-arg8 c in
     let a = s .args in
     let i = s .pre .0 in
-    let zs = s .pre .1 .0 in
-    (in-layers (a .sdf .now) (a .k) i (a .z) zs, (corner-lent (a .sdf .now) (a .k) i (a .z) zs (a .map .now) (s .pre .1 .1 .0), room-lent (a .sdf .now) (a .k) i (a .z) zs (s .pre .1 .1 .1)))
+    let zs = s .pre .1 .0 in (
+      in-layers (a .sdf .now) (a .k) i (a .z) zs,
+      (
+        corner-lent (a .sdf .now) (a .k) i (a .z) zs (a .map .now) (s .pre .1 .1 .0),
+        room-lent (a .sdf .now) (a .k) i (a .z) zs
+            (s .pre .1 .1 .1),
+      ),
+    )
 
 same-length : tie.Need-same-length
 same-length c = search needs
@@ -120,7 +222,7 @@ same-length-6 c = search needs
 
 returns : tie.Need-returns
 returns c =
-    let e = c .before .before .before .before .before .before .before .before .before .before .before .before in
+    let e = mark-layer-from-slice-known12 c in
     let s = e .before .before .before .before .before .before .before .before .before .before .before .before .before .before .before .before .before .before in
     let a = s .args in
     let m = e .mark-layer in (

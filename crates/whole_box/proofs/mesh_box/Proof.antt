@@ -5,11 +5,11 @@ use native.Mathlib.Omega.{arith}
 use mathlib.Core.Path.{ap, _∙_}
 use lib.ListN.{length}
 use Rattle.rules.specs.Call.{Buffers}
-use Rattle.rules.proofs.Lists.{length-placed}
+use Rattle.lists.proofs.Lists.{length-placed}
 use Rattle.grid.specs.Block.{point, boxOf, callOf}
 use Rattle.grid.proofs.Bounds.{fits}
 use Rattle.grid.proofs.Walks.{Counting, begun, ended, cell-spans, AtLayer, at-layer}
-use Rattle.whole_box.specs.Reading.{buffers, buffersGiven}
+use Rattle.whole_box.specs.LentLists.{buffers, buffersGiven}
 use Rattle.whole_box.specs.Layers.{lastAt, Written, writtenTo}
 use Rattle.whole_box.proofs.Steps.{SameLengths, written-none, written-all, written-lengths}
 use Rattle.whole_box.proofs.Lent.{plane-up}

@@ -2,13 +2,27 @@
 use mathlib.Core.Path.{_∙_}
 use native.Mathlib.Omega.{arith}
 use Rattle.grid.specs.Block.{callOf}
-use Rattle.whole_box.specs.Reading.{buffersGiven}
+use Rattle.whole_box.specs.LentLists.{buffersGiven}
 use Rattle.whole_box.specs.Layers.{Written}
 use Rattle.whole_box.proofs.Lent.{written-room, map-long}
 use Rattle.whole_box.proofs.Layer.{stands-marked, map-still, indices-room, vertices-room, layer-whole}
 use borrow.Author.Needs.{needs}
 use Rattle.whole_box.proofs.mesh_layer.Statement.{statement}
 use Rattle.whole_box.proofs.mesh_layer.Tie as tie
+
+-- ---- places, by the one that each is looked for from
+
+abbrev mark-part-from-face-part-arg4 : tie.After-face-part-arg4 → tie.After-mark-part
+mark-part-from-face-part-arg4 c = c .before .before .before .before .before .before .before .before .before .before .before .before .before .before .before .before
+
+abbrev start-from-mark-part-arg6 : tie.After-mark-part-arg6 → tie.Start
+start-from-mark-part-arg6 c = c .before .before .before .before .before .before .before .before .before .before .before .before .before .before
+
+abbrev mark-part-from-struct-known : tie.After-struct-known → tie.After-mark-part
+mark-part-from-struct-known c = mark-part-from-face-part-arg4 (c .before .before .before .before)
+
+abbrev face-part-from-struct-known2 : tie.After-struct-known2 → tie.After-face-part
+face-part-from-struct-known2 c = c .before .before .before .before
 
 -- ---- the places that a later one leads back to
 
@@ -24,13 +38,22 @@ so-far s = s .pre .1 .1 .written
 
 mark-part-requires : tie.Need-mark-part-requires
 mark-part-requires c κs =
-    let s = c .before .before .before .before .before .before .before .before .before .before .before .before .before .before in
-    let a = s .args in
-    (s .pre .0, (s .pre .1 .0, (map-long (a .sdf .now) (a .k) (s .pre .0) (a .z) (s .pre .1 .0) (so-far s), written-room (a .sdf .now) (a .k) (s .pre .0) (a .z) (s .pre .1 .0) (so-far s))))
+    let s = start-from-mark-part-arg6 c in
+    let a = s .args in (
+      s .pre .0,
+      (
+        s .pre .1 .0,
+        (
+          map-long (a .sdf .now) (a .k) (s .pre .0) (a .z) (s .pre .1 .0) (so-far s),
+          written-room (a .sdf .now) (a .k) (s .pre .0) (a .z) (s .pre .1 .0)
+              (so-far s),
+        ),
+      ),
+    )
 
 face-part-requires : tie.Need-face-part-requires
 face-part-requires c κs =
-    let m = c .before .before .before .before .before .before .before .before .before .before .before .before .before .before .before .before in
+    let m = mark-part-from-face-part-arg4 c in
     let s = start-of m in
     let a = s .args in
     let e = m .mark-part .ensures in (
@@ -41,7 +64,11 @@ face-part-requires c κs =
           map-still (a .sdf .now) (a .k) (s .pre .0) (a .z) (s .pre .1 .0) (so-far s) (e .0),
           (
             e .1,
-            (stands-marked (a .sdf .now) (a .k) (s .pre .0) (a .z) (s .pre .1 .0) (so-far s) (e .0), indices-room (a .sdf .now) (a .k) (s .pre .0) (a .z) (s .pre .1 .0) (so-far s)),
+            (
+              stands-marked (a .sdf .now) (a .k) (s .pre .0) (a .z) (s .pre .1 .0) (so-far s) (e .0),
+              indices-room (a .sdf .now) (a .k) (s .pre .0) (a .z) (s .pre .1 .0)
+                  (so-far s),
+            ),
           ),
         ),
       ),
@@ -49,14 +76,14 @@ face-part-requires c κs =
 
 add-t35 : tie.Need-add-t35
 add-t35 c =
-    let m = c .before .before .before .before .before .before .before .before .before .before .before .before .before .before .before .before .before .before .before .before in
+    let m = mark-part-from-struct-known c in
     let s = start-of m in
     let a = s .args in
     omega (arith, m .mark-part .ensures .1, vertices-room (a .sdf .now) (a .k) (s .pre .0) (a .z) (s .pre .1 .0) (so-far s))
 
 add-t36 : tie.Need-add-t36
 add-t36 c =
-    let f = c .before .before .before .before in
+    let f = face-part-from-struct-known2 c in
     let m = f .before .before .before .before .before .before .before .before .before .before .before .before .before .before .before .before .before in
     let s = start-of m in
     let a = s .args in
@@ -85,7 +112,7 @@ same-length-7 c = search needs
 
 returns : tie.Need-returns
 returns c =
-    let f = c .before .before .before .before in
+    let f = face-part-from-struct-known2 c in
     let m = f .before .before .before .before .before .before .before .before .before .before .before .before .before .before .before .before .before in
     let s = start-of m in
     let a = s .args in

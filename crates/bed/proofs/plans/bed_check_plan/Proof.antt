@@ -18,7 +18,41 @@ use prog.Wp.{Heap, Env, Calls, Loops, WpFn, Tables}
 use ghost.Atoms.{Atoms, sem}
 use contract.Monad.{Fun, fact}
 use contract.Running.{givenOf, tables, tablesOf}
-use types.Kit.{Given, Item, Sq, runs, ‵, raw, _⊛_, some, later, ⋆, atRet, _$_, _∵_, !, qed, by, move, keep, drop, use1, use2, split, join, pick, rewrite, fsplit, fjoin, fjoin3, feqI, suffices, frame, await, done}
+use types.Kit.{
+  Given,
+  Item,
+  Sq,
+  runs,
+  ‵,
+  raw,
+  _⊛_,
+  some,
+  later,
+  ⋆,
+  atRet,
+  _$_,
+  _∵_,
+  !,
+  qed,
+  by,
+  move,
+  keep,
+  drop,
+  use1,
+  use2,
+  split,
+  join,
+  pick,
+  rewrite,
+  fsplit,
+  fjoin,
+  fjoin3,
+  feqI,
+  suffices,
+  frame,
+  await,
+  done,
+}
 use types.Part.{whole, sub, look-in, agg}
 use types.Run.{look, store, init, forget, stop, hop, fld, from, load, of-opd, and-then, no-more, assigns, land, returns, enter, alloc1, alloc0, params1, pass1, pass0, free1, free0}
 use types.SemTy.{Body}
@@ -96,7 +130,8 @@ module _ {M : Type 1} (𝓤 : URA M) (H : Heap 𝓤) (A : Atoms 𝓤) (mem″ : 
   abbrev Check : Contract 𝓤
   Check = tripleOf 𝓤 H A check.signature (check.spec 𝓤 H A mem″ run)
 
-module _ {M : Type 1} (𝓤 : URA M) (H : Heap 𝓤) (A : Atoms 𝓤) (W : Given 𝓤 H A) (mem″ : Memory → SProp 𝓤) (run : Routine → Fun 𝓤) (κ κ′ : Lft) (q q′ : Share) (s : RefT (List Block)) (w : Block)
+module _ {M : Type 1} (𝓤 : URA M) (H : Heap 𝓤) (A : Atoms 𝓤) (W : Given 𝓤 H A) (mem″ : Memory → SProp 𝓤) (run : Routine → Fun 𝓤) (κ κ′ : Lft) (q q′ : Share)
+    (s : RefT (List Block)) (w : Block)
     (b o : ℕ) (γ : GName) (old : Bool) where
   abbrev v : Val
   v = sliceVal (s .ptr) (length (s .now))
@@ -176,7 +211,8 @@ module _ {M : Type 1} (𝓤 : URA M) (H : Heap 𝓤) (A : Atoms 𝓤) (W : Given
       qed W (‵ (flft κ q) ∷ ‵ Own ∷ []) ∵ nothing ! $ owned ! B.the-row (Is B.the-row) (LL.makes B.the-type B′.the-plain 𝓤 H A) w (mB w ∷ []) iw $ fjoin ! $
       move ! (2 ∷ 0 ∷ []) $ fjoin ! $ nothing ! $ move ! (2 ∷ 0 ∷ []) $ join ! $ join ! $ frame ! $ done !
 
-  said : (r : PlanAnswer) → ent 𝓤 (ensured 𝓤 H A check.ended (check.clauses 𝓤 H A mem″ run) (κ, tt) (s, (w, tt)) tt r) (fact 𝓤 (Checks (map piece (s .now)) (piece w) (r .answer) (r .holds)))
+  said : (r : PlanAnswer) → ent 𝓤 (ensured 𝓤 H A check.ended (check.clauses 𝓤 H A mem″ run) (κ, tt) (s, (w, tt)) tt r)
+      (fact 𝓤 (Checks (map piece (s .now)) (piece w) (r .answer) (r .holds)))
   said r = exE 𝓤 _ (λ ws. snd∗ 𝓤 (sem 𝓤 H A (lasts check.ended (κ, tt) (s, (w, tt)) ws)) (fact 𝓤 (Checks (map piece (s .now)) (piece w) (r .answer) (r .holds))))
 
   -- at the end: the list is as it was lent, and the yes or no stands behind the reference
@@ -215,8 +251,10 @@ module _ {M : Type 1} (𝓤 : URA M) (H : Heap 𝓤) (A : Atoms 𝓤) (W : Given
       -- the locals as they are made, the last first, with i for the whole's and j for the answer's
       abbrev Locals : Item 𝓤 → Item 𝓤 → List (Item 𝓤) → List (Item 𝓤)
       Locals i j Γ =
-          j ∷ ‵ (fdies (R′.mir) l₁₃) ∷ i ∷ ‵ (fdies (B′.mir) l₁₂) ∷ ‵ (fat fullShare ref l₁₁ 0 (vptr b o)) ∷ ‵ (fdies ref l₁₁) ∷ ‵ (fat fullShare tyBool l₁₀ 0 (vbool (w .«max_plane_z»)))
-          ∷ ‵ (fdies tyBool l₁₀) ∷ ‵ (fat fullShare tyBool l₉ 0 (vbool (w .«max_plane_y»))) ∷ ‵ (fdies tyBool l₉) ∷ ‵ (fat fullShare tyBool l₈ 0 (vbool (w .«max_plane_x»))) ∷ ‵ (fdies tyBool l₈)
+          j ∷ ‵ (fdies (R′.mir) l₁₃) ∷ i ∷ ‵ (fdies (B′.mir) l₁₂) ∷ ‵ (fat fullShare ref l₁₁ 0 (vptr b o)) ∷ ‵ (fdies ref l₁₁) ∷ ‵
+          (fat fullShare tyBool l₁₀ 0 (vbool (w .«max_plane_z»)))
+          ∷ ‵ (fdies tyBool l₁₀) ∷ ‵ (fat fullShare tyBool l₉ 0 (vbool (w .«max_plane_y»))) ∷ ‵ (fdies tyBool l₉) ∷ ‵ (fat fullShare tyBool l₈ 0 (vbool (w .«max_plane_x»))) ∷ ‵
+          (fdies tyBool l₈)
           ∷ ‵ (fat fullShare word l₇ 0 (vint w32 (w .«max_z»))) ∷ ‵ (fdies word l₇) ∷ ‵ (fat fullShare word l₆ 0 (vint w32 (w .«max_y»))) ∷ ‵ (fdies word l₆)
           ∷ ‵ (fat fullShare word l₅ 0 (vint w32 (w .«max_x»))) ∷ ‵ (fdies word l₅) ∷ ‵ (fat fullShare word l₄ 0 (vint w32 (w .«min_z»))) ∷ ‵ (fdies word l₄)
           ∷ ‵ (fat fullShare word l₃ 0 (vint w32 (w .«min_y»))) ∷ ‵ (fdies word l₃) ∷ ‵ (fat fullShare word l₂ 0 (vint w32 (w .«min_x»))) ∷ ‵ (fdies word l₂)
@@ -224,7 +262,8 @@ module _ {M : Type 1} (𝓤 : URA M) (H : Heap 𝓤) (A : Atoms 𝓤) (W : Given
 
       -- what follows the call: the yes or no is stored, the number is the result, and the locals are freed
       leaves : (r : PlanAnswer) → r .answer < 2 ^ 32 → Checks (map piece (s .now)) (piece w) (r .answer) (r .holds)
-          → Sq W (Locals (‵ (fat fullShare (B′.mir) l₁₂ 0 (mB w))) (‵ (fat fullShare (R′.mir) l₁₃ 0 (R′.lowered r))) (‵ (flft κ q) ∷ ‵ (flft κ′ q′) ∷ ‵ Own ∷ ‵ (Held old) ∷ ‵ Lent ∷ []))
+          → Sq W (Locals (‵ (fat fullShare (B′.mir) l₁₂ 0 (mB w))) (‵ (fat fullShare (R′.mir) l₁₃ 0 (R′.lowered r)))
+          (‵ (flft κ q) ∷ ‵ (flft κ′ q′) ∷ ‵ Own ∷ ‵ (Held old) ∷ ‵ Lent ∷ []))
           (runs C Λ En mir.t-3 (atRet En Post))
       leaves r fits c =
           move ! (31 ∷ 32 ∷ 29 ∷ []) $ opens ! tt bool {h = old} b o (λ vs. spelt ! bool (Is bool) (shows 𝓤 H A bool) bool-vals bool-tells fullShare old vs b o $
@@ -234,21 +273,26 @@ module _ {M : Type 1} (𝓤 : URA M) (H : Heap 𝓤) (A : Atoms 𝓤) (W : Given
           move ! (1 ∷ []) $ drop ! $ owned ! bool (Is bool) (bool-makes 𝓤 H A W) (r .holds) _ refl $ move ! (1 ∷ 0 ∷ []) $ closes ! tt bool (r .holds) (vbool (r .holds) ∷ []) b o $
           -- [obs; the borrow; the token; _13; …; _0; …; the other token; what the list owns]
           returns ! (look ! 29 refl) $
-          forget ! 3 refl $ forget ! 5 refl $ forget ! 7 refl $ forget ! 9 refl $ forget ! 11 refl $ forget ! 13 refl $ forget ! 15 refl $ forget ! 17 refl $ forget ! 19 refl $ forget ! 21 refl $
+          forget ! 3 refl $ forget ! 5 refl $ forget ! 7 refl $ forget ! 9 refl $ forget ! 11 refl $ forget ! 13 refl $ forget ! 15 refl $ forget ! 17 refl $ forget ! 19 refl $
+          forget ! 21 refl $
           forget ! 23 refl $ forget ! 25 refl $ forget ! 27 refl $ forget ! 29 refl $
           move ! (29 ∷ 30 ∷ 27 ∷ 28 ∷ 25 ∷ 26 ∷ 23 ∷ 24 ∷ 21 ∷ 22 ∷ 19 ∷ 20 ∷ 17 ∷ 18 ∷ 15 ∷ 16 ∷ 13 ∷ 14 ∷ 11 ∷ 12 ∷ 9 ∷ 10 ∷ 7 ∷ 8 ∷ 5 ∷ 6 ∷ 3 ∷ 4 ∷ []) $
           free1 ! $ free1 ! $ free1 ! $ free1 ! $ free1 ! $ free1 ! $ free1 ! $ free1 ! $ free1 ! $ free1 ! $ free1 ! $ free1 ! $ free1 ! $ free1 ! $ free0 ! $
           keep ! (3 ∷ 2 ∷ 4 ∷ 0 ∷ 1 ∷ []) $ by ! (exits r g fits c))
 
       -- the call
-      calls : Sq W (Locals (‵ (fat fullShare (B′.mir) l₁₂ 0 (mB w))) (‵ (froom (R′.mir) l₁₃ 0)) (‵ (flft κ q) ∷ ‵ (flft κ′ q′) ∷ ‵ Own ∷ ‵ (Held old) ∷ ‵ Lent ∷ [])) (runs C Λ En mir.t-2 (atRet En Post))
+      calls : Sq W (Locals (‵ (fat fullShare (B′.mir) l₁₂ 0 (mB w))) (‵ (froom (R′.mir) l₁₃ 0)) (‵ (flft κ q) ∷ ‵ (flft κ′ q′) ∷ ‵ Own ∷ ‵ (Held old) ∷ ‵ Lent ∷ []))
+          (runs C Λ En mir.t-2 (atRet En Post))
       calls =
           move ! (30 ∷ []) $ use1 W (‵ Own ⊛ ‵ Own) (shr-slice-copy 𝓤 H A W (named 0) κ B.the-row .twice s (v ∷ [])) $ split ! $ move ! (30 ∷ 0 ∷ []) $
           use2 W (raw (Check 𝓤 H A mem″ run .pre to)) (asks (is-block g)) $
           -- [what is asked; what the list owns; _13; …]
-          calls-at ! fm (Check 𝓤 H A mem″ run) known to (and-then ! (load ! (from ! (stop !)) (look ! 26 refl)) (and-then ! (load ! (from ! (stop !)) (look ! 4 refl)) (no-more !))) (λ u.
-          use1 W (later (some (λ (r : PlanAnswer). ((‵ (flft κ q) ⊛ ‵ ftrue) ⊛ ‵ (R.the-row .own r (u ∷ []))) ⊛ raw (ensured 𝓤 H A check.ended (check.clauses 𝓤 H A mem″ run) (κ, tt) (s, (w, tt)) tt r)))) (id⊢ 𝓤 _) $ await ! tt $ pick ! (λ r.
-          split ! $ move ! (1 ∷ []) $ use1 W (raw (fact 𝓤 (Checks (map piece (s .now)) (piece w) (r .answer) (r .holds)))) (said r) $ heard ! (Checks (map piece (s .now)) (piece w) (r .answer) (r .holds)) (λ c. split ! $ split ! $ move ! (2 ∷ []) $
+          calls-at ! fm (Check 𝓤 H A mem″ run) known to (and-then ! (load ! (from ! (stop !)) (look ! 26 refl))
+          (and-then ! (load ! (from ! (stop !)) (look ! 4 refl)) (no-more !))) (λ u.
+          use1 W (later (some (λ (r : PlanAnswer). ((‵ (flft κ q) ⊛ ‵ ftrue) ⊛ ‵ (R.the-row .own r (u ∷ []))) ⊛ raw
+          (ensured 𝓤 H A check.ended (check.clauses 𝓤 H A mem″ run) (κ, tt) (s, (w, tt)) tt r)))) (id⊢ 𝓤 _) $ await ! tt $ pick ! (λ r.
+          split ! $ move ! (1 ∷ []) $ use1 W (raw (fact 𝓤 (Checks (map piece (s .now)) (piece w) (r .answer) (r .holds)))) (said r) $ heard !
+          (Checks (map piece (s .now)) (piece w) (r .answer) (r .holds)) (λ c. split ! $ split ! $ move ! (2 ∷ []) $
           facts ! R.the-row (Is R.the-row) (shows 𝓤 H A R.the-row) r (u ∷ []) (λ ir. move ! (1 ∷ []) $ drop ! $
           -- [the token; what the list owns; _13; …; the other token; obs; the borrow]
           land ! (from ! (stop !)) (init ! 2 refl (LL.lawful R.the-type R′.the-laws 𝓤 H A W .typed r _ ir .0)) $
@@ -257,24 +301,31 @@ module _ {M : Type 1} (𝓤 : URA M) (H : Heap 𝓤) (A : Atoms 𝓤) (W : Given
           leaves r (LL.owed R.the-type R′.the-laws r (u ∷ []) ir .0 .1) c))))
 
       -- the whole is put together
-      makes : Sq W (Locals (‵ (froom (B′.mir) l₁₂ 0)) (‵ (froom (R′.mir) l₁₃ 0)) (‵ (flft κ q) ∷ ‵ (flft κ′ q′) ∷ ‵ Own ∷ ‵ (Held old) ∷ ‵ Lent ∷ [])) (runs C Λ En mir.t-1 (atRet En Post))
+      makes : Sq W (Locals (‵ (froom (B′.mir) l₁₂ 0)) (‵ (froom (R′.mir) l₁₃ 0)) (‵ (flft κ q) ∷ ‵ (flft κ′ q′) ∷ ‵ Own ∷ ‵ (Held old) ∷ ‵ Lent ∷ []))
+          (runs C Λ En mir.t-1 (atRet En Post))
       makes =
           assigns !
-          (agg ! (and-then ! (load ! (from ! (stop !)) (look ! 22 refl)) (and-then ! (load ! (from ! (stop !)) (look ! 20 refl)) (and-then ! (load ! (from ! (stop !)) (look ! 18 refl))
+          (agg ! (and-then ! (load ! (from ! (stop !)) (look ! 22 refl))
+          (and-then ! (load ! (from ! (stop !)) (look ! 20 refl)) (and-then ! (load ! (from ! (stop !)) (look ! 18 refl))
           (and-then ! (load ! (from ! (stop !)) (look ! 16 refl)) (and-then ! (load ! (from ! (stop !)) (look ! 14 refl)) (and-then ! (load ! (from ! (stop !)) (look ! 12 refl))
-          (and-then ! (load ! (from ! (stop !)) (look ! 10 refl)) (and-then ! (load ! (from ! (stop !)) (look ! 8 refl)) (and-then ! (load ! (from ! (stop !)) (look ! 6 refl)) (no-more !)))))))))))
+          (and-then ! (load ! (from ! (stop !)) (look ! 10 refl))
+          (and-then ! (load ! (from ! (stop !)) (look ! 8 refl)) (and-then ! (load ! (from ! (stop !)) (look ! 6 refl)) (no-more !)))))))))))
           (from ! (stop !)) (init ! 2 refl (LL.lawful B.the-type B′.the-laws 𝓤 H A W .typed w _ (is-block g) .0)) $ calls
 
     -- the MIR: the parameters are stored
     walk : Is (ShrSlice (named 0) κ B.the-row) s (v ∷ []) → ent 𝓤 (onEntry 𝓤 H A f.signature (κ, (κ′, tt)) (q, (q′, tt)) args at) (WpFn 𝓤 H C Λ code.function passed Post)
     walk p =
-        qed W ((‵ (flft κ q) ⊛ (‵ (flft κ′ q′) ⊛ ‵ ftrue)) ∷ ‵ (owns (ShrSlice (named 0) κ B.the-row ∷ u32 ∷ u32 ∷ u32 ∷ u32 ∷ u32 ∷ u32 ∷ bool ∷ bool ∷ bool ∷ MutRef (named 1) κ′ bool ∷ []) args at) ∷ []) ∵
+        qed W ((‵ (flft κ q) ⊛ (‵ (flft κ′ q′) ⊛ ‵ ftrue)) ∷ ‵
+        (owns (ShrSlice (named 0) κ B.the-row ∷ u32 ∷ u32 ∷ u32 ∷ u32 ∷ u32 ∷ u32 ∷ bool ∷ bool ∷ bool ∷ MutRef (named 1) κ′ bool ∷ []) args at) ∷ []) ∵
         -- the tokens and what the references own; of plain data nothing is kept
         split ! $ move ! (1 ∷ []) $ split ! $ move ! (1 ∷ []) $ drop ! $ move ! (2 ∷ []) $ fsplit ! $ move ! (1 ∷ []) $
-        fsplit ! $ drop ! $ fsplit ! $ drop ! $ fsplit ! $ drop ! $ fsplit ! $ drop ! $ fsplit ! $ drop ! $ fsplit ! $ drop ! $ fsplit ! $ drop ! $ fsplit ! $ drop ! $ fsplit ! $ drop ! $ fsplit ! $
+        fsplit ! $ drop ! $ fsplit ! $ drop ! $ fsplit ! $ drop ! $ fsplit ! $ drop ! $ fsplit ! $ drop ! $ fsplit ! $ drop ! $ fsplit ! $ drop ! $ fsplit ! $ drop ! $ fsplit ! $
+        drop ! $ fsplit ! $
         fsplit ! $ drop ! $ fsplit ! $ keep ! (5 ∷ 4 ∷ 3 ∷ 0 ∷ 1 ∷ []) $
         enter ! C Λ code.function passed _ $
-        alloc1 ! (λ l₀. alloc1 ! (λ l₁. alloc1 ! (λ l₂. alloc1 ! (λ l₃. alloc1 ! (λ l₄. alloc1 ! (λ l₅. alloc1 ! (λ l₆. alloc1 ! (λ l₇. alloc1 ! (λ l₈. alloc1 ! (λ l₉. alloc1 ! (λ l₁₀. alloc1 ! (λ l₁₁. alloc1 ! (λ l₁₂. alloc1 ! (λ l₁₃. alloc0 ! $ params1 ! $
+        alloc1 ! (λ l₀. alloc1 ! (λ l₁. alloc1 ! (λ l₂. alloc1 !
+        (λ l₃. alloc1 ! (λ l₄. alloc1 ! (λ l₅. alloc1 ! (λ l₆. alloc1 !
+        (λ l₇. alloc1 ! (λ l₈. alloc1 ! (λ l₉. alloc1 ! (λ l₁₀. alloc1 ! (λ l₁₁. alloc1 ! (λ l₁₂. alloc1 ! (λ l₁₃. alloc0 ! $ params1 ! $
         pass1 ! (init ! 24 refl (shr-slice-lawful 𝓤 H A W (named 0) κ B.the-row .typed s (v ∷ []) p .0)) $
         pass1 ! (init ! 22 refl (tt, record { fits = g .0 })) $ pass1 ! (init ! 20 refl (tt, record { fits = g .1 })) $ pass1 ! (init ! 18 refl (tt, record { fits = g .2 })) $
         pass1 ! (init ! 16 refl (tt, record { fits = g .3 })) $ pass1 ! (init ! 14 refl (tt, record { fits = g .4 })) $ pass1 ! (init ! 12 refl (tt, record { fits = g .5 })) $
@@ -286,15 +337,35 @@ module _ {M : Type 1} (𝓤 : URA M) (H : Heap 𝓤) (A : Atoms 𝓤) (W : Given
       → Walks 𝓤 H A f.ended stayed (WpFn 𝓤 H C Λ code.function) (f.clauses 𝓤 H A mem″ run)
   bed-check-plan-walks C Λ fm known =
       walked 𝓤 H A f.ended stayed (f.clauses 𝓤 H A mem″ run) (WpFn 𝓤 H C Λ code.function)
-      (λ κs. (slice-vals, (uint-vals w32, (uint-vals w32, (uint-vals w32, (uint-vals w32, (uint-vals w32, (uint-vals w32, (bool-vals, (bool-vals, (bool-vals, (ptr-vals, tt))))))))))))
+      (λ κs. (
+        slice-vals,
+        (
+          uint-vals w32,
+          (
+            uint-vals w32,
+            (uint-vals w32, (uint-vals w32, (uint-vals w32, (uint-vals w32, (bool-vals, (bool-vals, (bool-vals, (ptr-vals, tt)))))))),
+          ),
+        ),
+      ))
       (λ κs. (
         shr-slice-tells (named 0) (κs .0) B.the-row,
-        (uint-tells w32, (uint-tells w32, (uint-tells w32, (uint-tells w32, (uint-tells w32, (uint-tells w32, (bool-tells, (bool-tells, (bool-tells, (mut-tells (named 1) (κs .1 .0) bool, tt)))))))))),
+        (
+          uint-tells w32,
+          (
+            uint-tells w32,
+            (
+              uint-tells w32,
+              (uint-tells w32, (uint-tells w32, (uint-tells w32, (bool-tells, (bool-tells, (bool-tells, (mut-tells (named 1) (κs .1 .0) bool, tt))))))),
+            ),
+          ),
+        ),
       ))
       (λ κs qs bounds a _ are. via 𝓤 _ (fst∗ 𝓤 _ (emp 𝓤))
       (walk 𝓤 H A W mem″ run (κs .0) (κs .1 .0) (qs .0) (qs .1 .0) (a .0)
-      (block (a .1 .0) (a .1 .1 .0) (a .1 .1 .1 .0) (a .1 .1 .1 .1 .0) (a .1 .1 .1 .1 .1 .0) (a .1 .1 .1 .1 .1 .1 .0) (a .1 .1 .1 .1 .1 .1 .1 .0) (a .1 .1 .1 .1 .1 .1 .1 .1 .0) (a .1 .1 .1 .1 .1 .1 .1 .1 .1 .0))
-      (a .1 .1 .1 .1 .1 .1 .1 .1 .1 .1 .0 .ptr .0) (a .1 .1 .1 .1 .1 .1 .1 .1 .1 .1 .0 .ptr .1) (a .1 .1 .1 .1 .1 .1 .1 .1 .1 .1 .0 .name) (a .1 .1 .1 .1 .1 .1 .1 .1 .1 .1 .0 .now) C Λ fm known
+      (block (a .1 .0) (a .1 .1 .0) (a .1 .1 .1 .0) (a .1 .1 .1 .1 .0) (a .1 .1 .1 .1 .1 .0) (a .1 .1 .1 .1 .1 .1 .0) (a .1 .1 .1 .1 .1 .1 .1 .0) (a .1 .1 .1 .1 .1 .1 .1 .1 .0)
+      (a .1 .1 .1 .1 .1 .1 .1 .1 .1 .0))
+      (a .1 .1 .1 .1 .1 .1 .1 .1 .1 .1 .0 .ptr .0) (a .1 .1 .1 .1 .1 .1 .1 .1 .1 .1 .0 .ptr .1) (a .1 .1 .1 .1 .1 .1 .1 .1 .1 .1 .0 .name)
+      (a .1 .1 .1 .1 .1 .1 .1 .1 .1 .1 .0 .now) C Λ fm known
       (are .1 .0 .1, are .1 .1 .0 .1, are .1 .1 .1 .0 .1, are .1 .1 .1 .1 .0 .1, are .1 .1 .1 .1 .1 .0 .1, are .1 .1 .1 .1 .1 .1 .0 .1) (are .0)))
 
   goes : AllGo 𝓤 H A W 2 (f.signature .params) (f.ended .kept) stayed
@@ -312,7 +383,13 @@ module _ {M : Type 1} (𝓤 : URA M) (H : Heap 𝓤) (A : Atoms 𝓤) (W : Given
               goes-none 𝓤 H A W 2 (λ _. u32) yes (λ κs x f. refl),
               (
                 goes-none 𝓤 H A W 2 (λ _. u32) yes (λ κs x f. refl),
-                (goes-none 𝓤 H A W 2 (λ _. bool) yes (λ κs x f. refl), (goes-none 𝓤 H A W 2 (λ _. bool) yes (λ κs x f. refl), (goes-none 𝓤 H A W 2 (λ _. bool) yes (λ κs x f. refl), (goes-ref 𝓤 H A W 2 1 tt (plain (λ _. bool)), tt)))),
+                (
+                  goes-none 𝓤 H A W 2 (λ _. bool) yes (λ κs x f. refl),
+                  (
+                    goes-none 𝓤 H A W 2 (λ _. bool) yes (λ κs x f. refl),
+                    (goes-none 𝓤 H A W 2 (λ _. bool) yes (λ κs x f. refl), (goes-ref 𝓤 H A W 2 1 tt (plain (λ _. bool)), tt)),
+                  ),
+                ),
               ),
             ),
           ),

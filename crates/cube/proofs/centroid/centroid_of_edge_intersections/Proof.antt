@@ -4,7 +4,7 @@ use mathlib.Core.Path.{_∙_, ap, ap₂}
 use native.Mathlib.Omega.{arith}
 use borrow.Author.Needs.{needs}
 use Rattle.rules.specs.Cell.{float, cubeEdges, crosses, divided, crossings, centroid}
-use Rattle.rules.proofs.Lists.{many-most}
+use Rattle.lists.proofs.Lists.{many-most}
 use Rattle.cube.proofs.centroid.centroid_of_edge_intersections.Statement.{statement}
 use Rattle.cube.proofs.centroid.centroid_of_edge_intersections.Tie as tie
 

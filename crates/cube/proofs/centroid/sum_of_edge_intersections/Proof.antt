@@ -10,9 +10,9 @@ use native.Mathlib.Omega.{arith}
 use lib.ListN.{take, length}
 use lib.Ieee.{Float, ofBits}
 use borrow.Author.Needs.{needs}
-use Rattle.rules.specs.Lists.{many, keep}
+use Rattle.lists.specs.Lists.{many, keep}
 use Rattle.rules.specs.Cell.{Vector, plus, CubeEdge, cubeEdge, cubeEdges, crosses, crossingPoint, zeroVector, summed, crossingPoints, crossings}
-use Rattle.cube.specs.Reading.{vector, edgeAt}
+use Rattle.cube.specs.AsRules.{vector, edgeAt}
 use Rattle.cube.proofs.Taking.{many-turn, sum-turn}
 use Rattle.cube.proofs.Answer.{not-crossed, crossed}
 use Rattle.cube.proofs.centroid.sum_of_edge_intersections.Statement.{statement}
@@ -94,7 +94,8 @@ loop-again c =
       omega arith,
       ⊎-elim (λ w. omega arith) (λ w. omega arith) (c .match .came),
       ⊎-elim
-          (λ w. sum-turn (crosses d) (cubeEdge 0 0) (crossingPoint d) zeroVector cubeEdges e false h (inv .2) (not-crossed d (edgeAt e) found from to told (w .1 .given .1)) (ap vector (w .2)))
+          (λ w. sum-turn (crosses d) (cubeEdge 0 0) (crossingPoint d) zeroVector cubeEdges e false h (inv .2) (not-crossed d (edgeAt e) found from to told (w .1 .given .1))
+          (ap vector (w .2)))
           (λ w. let at = crossed d (edgeAt e) found from to told (w .1 .given .0 .0) (w .1 .given .1) in
           sum-turn (crosses d) (cubeEdge 0 0) (crossingPoint d) zeroVector cubeEdges e true h (inv .2) (at .0)
           (ap vector (w .5) ∙ (w .4 .ensures ∙ ap (plus (vector (at-loop .loop .sum))) (w .3 .ensures ∙ at .1))))

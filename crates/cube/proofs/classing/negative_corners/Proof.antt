@@ -10,7 +10,7 @@ use lib.ListN.{take, length}
 use lib.Ieee.{nan}
 use lib.Seq.{take-all}
 use borrow.Author.Needs.{needs}
-use Rattle.rules.specs.Lists.{many}
+use Rattle.lists.specs.Lists.{many}
 use Rattle.rules.specs.Cell.{negative}
 use Rattle.cube.proofs.Taking.{many-turn}
 use Rattle.cube.proofs.classing.negative_corners.Statement.{statement}

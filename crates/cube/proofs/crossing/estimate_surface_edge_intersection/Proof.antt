@@ -5,7 +5,7 @@ use mathlib.Core.Bool.{Bool, not, Bool·beq}
 use lib.Ieee.{Float}
 use borrow.Author.Needs.{needs}
 use Rattle.rules.specs.Cell.{fraction}
-use Rattle.cube.specs.Reading.{pickFraction}
+use Rattle.cube.specs.AsRules.{pickFraction}
 use Rattle.cube.proofs.crossing.estimate_surface_edge_intersection.Statement.{statement}
 use Rattle.cube.proofs.crossing.estimate_surface_edge_intersection.Tie as tie
 
@@ -21,12 +21,14 @@ negative-requires-2 c κs = search needs
 
 returns : tie.Need-returns
 returns c =
-    told (fraction (c .before .before .before .args .value1) (c .before .before .before .args .value2)) (c .before .before .negative .ensures) (c .before .negative2 .ensures) (c .if1 .taken)
+    told (fraction (c .before .before .before .args .value1) (c .before .before .before .args .value2)) (c .before .before .negative .ensures) (c .before .negative2 .ensures)
+    (c .if1 .taken)
 
 returns-2 : tie.Need-returns-2
 unfolding fraction
 returns-2 c =
-    told (fraction (c .before .before .before .args .value1) (c .before .before .before .args .value2)) (c .before .before .negative .ensures) (c .before .negative2 .ensures) (c .if1 .left)
+    told (fraction (c .before .before .before .args .value1) (c .before .before .before .args .value2)) (c .before .before .negative .ensures) (c .before .negative2 .ensures)
+    (c .if1 .left)
 
 pub estimate-surface-edge-intersection-spec : {M : Type 1} → statement M
 estimate-surface-edge-intersection-spec = tie.close (tie.spec negative-requires negative-requires-2 returns returns-2)

@@ -4,7 +4,7 @@ use native.Mathlib.Omega.{arith}
 use mathlib.Core.Path.{_≡_}
 use mathlib.Core.Logic.{⊎-elim}
 use Rattle.rules.specs.Cell.{CubeEdge}
-use Rattle.rules.proofs.Tests.{less-or-not}
+use Rattle.lists.proofs.Tests.{less-or-not}
 use Rattle.cube.proofs.CubeTables.{ends-alike, end-at, neither, past}
 use borrow.Author.Needs.{needs}
 use Rattle.cube.proofs.tables.second_end.Statement.{statement}

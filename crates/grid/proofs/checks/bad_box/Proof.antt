@@ -22,7 +22,8 @@ returns-2 : tie.Need-returns-2
 unfolding badBox
 returns-2 c =
     let k = c .before .before .before .before .args .k in
-    second-of (badSide (k .dims .z) (k .low .z) (k .high .z)) (sym (c .before .before .before .bad-side .ensures) ∙ c .before .before .if1 .left) (sym (c .before .bad-side2 .ensures) ∙ c .if2 .taken)
+    second-of (badSide (k .dims .z) (k .low .z) (k .high .z)) (sym (c .before .before .before .bad-side .ensures) ∙ c .before .before .if1 .left)
+    (sym (c .before .bad-side2 .ensures) ∙ c .if2 .taken)
 
 bad-side-requires-3 : tie.Need-bad-side-requires-3
 bad-side-requires-3 c κs = search needs
@@ -31,7 +32,8 @@ returns-3 : tie.Need-returns-3
 unfolding badBox
 returns-3 c =
     let k = c .before .before .before .before .before .args .k in
-    c .bad-side3 .ensures ∙ third-of (badSide (k .dims .z) (k .low .z) (k .high .z)) (sym (c .before .before .before .before .bad-side .ensures) ∙ c .before .before .before .if1 .left) (sym (c .before .before .bad-side2 .ensures) ∙ c .before .if2 .left)
+    c .bad-side3 .ensures ∙ third-of (badSide (k .dims .z) (k .low .z) (k .high .z))
+    (sym (c .before .before .before .before .bad-side .ensures) ∙ c .before .before .before .if1 .left) (sym (c .before .before .bad-side2 .ensures) ∙ c .before .if2 .left)
 
 pub bad-box-spec : {M : Type 1} → statement M
 bad-box-spec =

@@ -11,11 +11,21 @@ returns-2 c = simp (not-false (c .before .before .args .above-b) (c .before .if1
 
 returns-3 : tie.Need-returns-3
 returns-3 c =
-    simp (not-false (c .before .before .before .args .above-b) (c .before .before .if1 .left), not-false (c .before .before .before .args .above-c) (c .before .if2 .left), c .if3 .taken)
+    simp (
+      not-false (c .before .before .before .args .above-b) (c .before .before .if1 .left),
+      not-false (c .before .before .before .args .above-c) (c .before .if2 .left),
+      c .if3
+          .taken,
+    )
 
 returns-4 : tie.Need-returns-4
 returns-4 c =
-    simp (not-false (c .before .before .before .args .above-b) (c .before .before .if1 .left), not-false (c .before .before .before .args .above-c) (c .before .if2 .left), c .if3 .left)
+    simp (
+      not-false (c .before .before .before .args .above-b) (c .before .before .if1 .left),
+      not-false (c .before .before .before .args .above-c) (c .before .if2 .left),
+      c .if3
+          .left,
+    )
 
 pub owns-spec : {M : Type 1} → statement M
 owns-spec = tie.close (tie.spec returns returns-2 returns-3 returns-4)

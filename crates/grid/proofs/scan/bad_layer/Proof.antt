@@ -56,7 +56,8 @@ loop-less c = here (c .before .before .before) .less
 
 loop-again : tie.Need-loop-again Inv-loop μ-loop
 loop-again c =
-    scan-more (c .before .before .before .before .loop .inv) (here (c .before .before .before)) (rw (← c .before .before .linearize .ensures) (c .before .bad-row .ensures)) (c .either .ensures)
+    scan-more (c .before .before .before .before .loop .inv) (here (c .before .before .before)) (rw (← c .before .before .linearize .ensures) (c .before .bad-row .ensures))
+    (c .either .ensures)
 
 returns : tie.Need-returns Inv-loop μ-loop
 returns c = let a = entry-of (c .before) .args in scan-ended (c .before .loop .inv) (c .loop-test .left) ∙ layer-is (a .sdf .now) (a .k) (a .z)

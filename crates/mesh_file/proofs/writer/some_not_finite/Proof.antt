@@ -7,9 +7,9 @@ use mathlib.Core.Path.{_≡_, refl, sym, ap, _∙_}
 use mathlib.Core.Bool.{not}
 use lib.ListN.{length, drop}
 use lib.Ieee.{nan}
-use Rattle.rules.specs.Lists.{some}
+use Rattle.lists.specs.Lists.{some}
 use Rattle.mesh_file.specs.Writing.{notFinite}
-use Rattle.mesh_file.proofs.Searching.{some-found, some-passed, some-over}
+use Rattle.lists.proofs.Searching.{some-found, some-passed, some-past}
 use Rattle.mesh_file.proofs.writer.some_not_finite.Statement.{statement}
 use Rattle.mesh_file.proofs.writer.some_not_finite.Tie as tie
 
@@ -32,7 +32,8 @@ is-finite-requires : tie.Need-is-finite-requires Inv-loop μ-loop
 is-finite-requires c κs = search needs
 
 returns : tie.Need-returns Inv-loop μ-loop
-returns c = sym (c .before .before .before .before .loop .inv .1 ∙ some-found notFinite nan _ _ (c .before .before .before .loop-test .taken) (ap not (sym (c .before .is-finite .ensures)) ∙ c .if1 .taken))
+returns c = sym (c .before .before .before .before .loop .inv .1 ∙ some-found notFinite nan _ _ (c .before .before .before .loop-test .taken)
+    (ap not (sym (c .before .is-finite .ensures)) ∙ c .if1 .taken))
 
 add-i : tie.Need-add-i Inv-loop μ-loop
 add-i c = omega arith
@@ -41,10 +42,14 @@ loop-less : tie.Need-loop-less Inv-loop μ-loop
 loop-less c = omega arith
 
 loop-again : tie.Need-loop-again Inv-loop μ-loop
-loop-again c = (search needs, c .before .before .before .before .loop .inv .1 ∙ some-passed notFinite nan _ _ (c .before .before .before .loop-test .taken) (ap not (sym (c .before .is-finite .ensures)) ∙ c .if1 .left))
+loop-again c = (
+  search needs,
+  c .before .before .before .before .loop .inv .1 ∙ some-passed notFinite nan _ _ (c .before .before .before .loop-test .taken)
+      (ap not (sym (c .before .is-finite .ensures)) ∙ c .if1 .left),
+)
 
 returns-2 : tie.Need-returns-2 Inv-loop μ-loop
-returns-2 c = sym (c .before .loop .inv .1 ∙ some-over notFinite nan _ _ (c .loop-test .left))
+returns-2 c = sym (c .before .loop .inv .1 ∙ some-past notFinite nan _ _ (c .loop-test .left))
 
 pub some-not-finite-spec : {M : Type 1} → statement M
 some-not-finite-spec =

@@ -5,9 +5,9 @@ use borrow.Author.Needs.{needs}
 use Prim.Native.Nat.{_-_, _≤_}
 use mathlib.Core.Path.{_≡_, refl, sym, _∙_}
 use lib.ListN.{length, drop}
-use Rattle.rules.specs.Lists.{some}
+use Rattle.lists.specs.Lists.{some}
 use Rattle.mesh_file.specs.Writing.{noVertex}
-use Rattle.mesh_file.proofs.Searching.{some-found, some-passed, some-over}
+use Rattle.lists.proofs.Searching.{some-found, some-passed, some-past}
 use Rattle.mesh_file.proofs.writer.some_without_vertex.Statement.{statement}
 use Rattle.mesh_file.proofs.writer.some_without_vertex.Tie as tie
 
@@ -30,7 +30,8 @@ no-vertex-requires : tie.Need-no-vertex-requires Inv-loop μ-loop
 no-vertex-requires c κs = search needs
 
 returns : tie.Need-returns Inv-loop μ-loop
-returns c = sym (c .before .before .before .before .loop .inv .1 ∙ some-found (noVertex (c .before .before .before .before .before .before .args .vertices)) 0 _ _ (c .before .before .before .loop-test .taken) (sym (c .before .no-vertex .ensures) ∙ c .if1 .taken))
+returns c = sym (c .before .before .before .before .loop .inv .1 ∙ some-found (noVertex (c .before .before .before .before .before .before .args .vertices)) 0 _ _
+    (c .before .before .before .loop-test .taken) (sym (c .before .no-vertex .ensures) ∙ c .if1 .taken))
 
 add-i : tie.Need-add-i Inv-loop μ-loop
 add-i c = omega arith
@@ -39,10 +40,14 @@ loop-less : tie.Need-loop-less Inv-loop μ-loop
 loop-less c = omega arith
 
 loop-again : tie.Need-loop-again Inv-loop μ-loop
-loop-again c = (search needs, c .before .before .before .before .loop .inv .1 ∙ some-passed (noVertex (c .before .before .before .before .before .before .args .vertices)) 0 _ _ (c .before .before .before .loop-test .taken) (sym (c .before .no-vertex .ensures) ∙ c .if1 .left))
+loop-again c = (
+  search needs,
+  c .before .before .before .before .loop .inv .1 ∙ some-passed (noVertex (c .before .before .before .before .before .before .args .vertices)) 0 _ _
+      (c .before .before .before .loop-test .taken) (sym (c .before .no-vertex .ensures) ∙ c .if1 .left),
+)
 
 returns-2 : tie.Need-returns-2 Inv-loop μ-loop
-returns-2 c = sym (c .before .loop .inv .1 ∙ some-over (noVertex (c .before .before .before .args .vertices)) 0 _ _ (c .loop-test .left))
+returns-2 c = sym (c .before .loop .inv .1 ∙ some-past (noVertex (c .before .before .before .args .vertices)) 0 _ _ (c .loop-test .left))
 
 pub some-without-vertex-spec : {M : Type 1} → statement M
 some-without-vertex-spec =

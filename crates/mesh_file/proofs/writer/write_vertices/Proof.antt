@@ -28,7 +28,13 @@ mul-write-vertex-2 : tie.Need-mul-write-vertex-2 Inv-loop μ-loop
 mul-write-vertex-2 c = omega arith
 
 write-vertex-requires : tie.Need-write-vertex-requires Inv-loop μ-loop
-write-vertex-requires c κs = (omega arith, (omega arith, (c .before .before .before .before .before .before .pre .1 .1 .0, (c .before .before .before .before .before .before .pre .1 .1 .1 .0, omega arith))))
+write-vertex-requires c κs = (
+  omega arith,
+  (
+    omega arith,
+    (c .before .before .before .before .before .before .pre .1 .1 .0, (c .before .before .before .before .before .before .pre .1 .1 .1 .0, omega arith)),
+  ),
+)
 
 add-k : tie.Need-add-k Inv-loop μ-loop
 add-k c = omega arith

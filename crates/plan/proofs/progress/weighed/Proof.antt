@@ -4,7 +4,7 @@ use native.Mathlib.Omega.{arith}
 use mathlib.Core.Bool.{_&&_}
 use mathlib.Core.Path.{sym, subst, _∙_}
 use borrow.Author.Needs.{needs}
-use Rattle.rules.proofs.Tests.{failed}
+use Rattle.lists.proofs.Tests.{failed}
 use Rattle.plan.specs.Region.{ownedInside}
 use Rattle.plan.specs.Size.{SmallAll, MostAll, sizesOf, addedAll}
 use Rattle.plan.proofs.Tested.{refuses, adds}

@@ -29,7 +29,10 @@ mul-t7 c =
     let x : c .before .before .side .result ≤ 16777216 = omega (arith, s .0, c .before .before .side .ensures) in
     let y : c .before .side2 .result ≤ 16777216 = omega (arith, s .1, c .before .side2 .ensures) in
     let z : c .side3 .result ≤ 16777216 = omega (arith, s .2, c .side3 .ensures) in
-    record { fits = high-fits (c .before .before .side .result * c .before .side2 .result) (c .side3 .result) (plane-most (c .before .before .side .result) (c .before .side2 .result) x y) z }
+    record {
+      fits = high-fits (c .before .before .side .result * c .before .side2 .result) (c .side3 .result)
+          (plane-most (c .before .before .side .result) (c .before .side2 .result) x y) z;
+    }
 
 mul-t9 : tie.Need-mul-t9
 mul-t9 c =

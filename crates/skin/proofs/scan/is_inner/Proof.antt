@@ -22,7 +22,8 @@ returns-2 : tie.Need-returns-2
 unfolding inner
 returns-2 c =
     let a = c .before .before .before .before .args in
-    not-second (innerSide (a .k .low .z) (a .k .high .z) (a .p .z)) (c .before .before .before .inner-side .ensures) (c .before .before .if1 .left) (c .before .inner-side2 .ensures) (c .if2 .taken)
+    not-second (innerSide (a .k .low .z) (a .k .high .z) (a .p .z)) (c .before .before .before .inner-side .ensures) (c .before .before .if1 .left)
+    (c .before .inner-side2 .ensures) (c .if2 .taken)
 
 inner-side-requires-3 : tie.Need-inner-side-requires-3
 inner-side-requires-3 c κs = search needs
@@ -32,7 +33,8 @@ unfolding inner
 returns-3 c =
     let a = c .before .before .before .before .before .args in
     c .inner-side3 .ensures
-    ∙ the-third (innerSide (a .k .low .z) (a .k .high .z) (a .p .z)) (c .before .before .before .before .inner-side .ensures) (c .before .before .before .if1 .left) (c .before .before .inner-side2 .ensures) (c .before .if2 .left)
+    ∙ the-third (innerSide (a .k .low .z) (a .k .high .z) (a .p .z)) (c .before .before .before .before .inner-side .ensures) (c .before .before .before .if1 .left)
+    (c .before .before .inner-side2 .ensures) (c .before .if2 .left)
 
 pub is-inner-spec : {M : Type 1} → statement M
 is-inner-spec =

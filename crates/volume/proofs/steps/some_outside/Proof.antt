@@ -6,9 +6,9 @@ use mathlib.Core.Path.{_≡_, refl, sym, ap, _∙_}
 use borrow.Author.Needs.{needs}
 use lib.ListN.{length, drop}
 use lib.Ieee.{nan}
-use Rattle.rules.specs.Lists.{some}
+use Rattle.lists.specs.Lists.{some}
 use Rattle.volume.specs.Steps.{outside}
-use Rattle.volume.proofs.Scanning.{some-found, some-passed, some-past}
+use Rattle.lists.proofs.Searching.{some-found, some-passed, some-past}
 use Rattle.volume.proofs.steps.some_outside.Statement.{statement}
 use Rattle.volume.proofs.steps.some_outside.Tie as tie
 
@@ -31,7 +31,8 @@ is-outside-requires : tie.Need-is-outside-requires Inv-loop μ-loop
 is-outside-requires c κs = search needs
 
 returns : tie.Need-returns Inv-loop μ-loop
-returns c = sym (c .before .before .before .before .loop .inv .1 ∙ some-found outside nan _ _ (c .before .before .before .loop-test .taken) (sym (c .before .is-outside .ensures) ∙ c .if1 .taken))
+returns c = sym (c .before .before .before .before .loop .inv .1 ∙ some-found outside nan _ _ (c .before .before .before .loop-test .taken)
+    (sym (c .before .is-outside .ensures) ∙ c .if1 .taken))
 
 add-i : tie.Need-add-i Inv-loop μ-loop
 add-i c = omega arith
@@ -40,7 +41,11 @@ loop-less : tie.Need-loop-less Inv-loop μ-loop
 loop-less c = omega arith
 
 loop-again : tie.Need-loop-again Inv-loop μ-loop
-loop-again c = (search needs, c .before .before .before .before .loop .inv .1 ∙ some-passed outside nan _ _ (c .before .before .before .loop-test .taken) (sym (c .before .is-outside .ensures) ∙ c .if1 .left))
+loop-again c = (
+  search needs,
+  c .before .before .before .before .loop .inv .1 ∙ some-passed outside nan _ _ (c .before .before .before .loop-test .taken)
+      (sym (c .before .is-outside .ensures) ∙ c .if1 .left),
+)
 
 returns-2 : tie.Need-returns-2 Inv-loop μ-loop
 returns-2 c = sym (c .before .loop .inv .1 ∙ some-past outside nan _ _ (c .loop-test .left))

@@ -7,10 +7,10 @@ use mathlib.Core.Path.{_≡_, sym, ap, subst}
 use lib.Dec.{T}
 use lib.ListN.{length, getD}
 use lib.Ieee.{Float, nan}
-use Rattle.rules.specs.Lists.{some}
+use Rattle.lists.specs.Lists.{some}
 use Rattle.volume.specs.Steps.{outside, steps}
 use Rattle.volume.proofs.Coordinate.{steps-near}
-use Rattle.volume.proofs.Scanning.{none-at}
+use Rattle.lists.proofs.Searching.{none-at}
 use borrow.Author.Needs.{needs}
 use Rattle.volume.proofs.sum.corner_at.Statement.{statement}
 use Rattle.volume.proofs.sum.corner_at.Tie as tie

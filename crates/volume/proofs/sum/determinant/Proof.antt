@@ -56,7 +56,8 @@ difference m n h k = ap₂ _-ℤ_ (toZ-pos w64 h) (toZ-pos w64 k)
 read : (c : tie.After-product6) →
     toZ w64 (c .before .before .before .before .before .product .result + c .before .before .before .before .product2 .result + c .before .before .before .product3 .result)
     -ℤ toZ w64 (c .before .before .product4 .result + c .before .product5 .result + c .product6 .result)
-    ≡ determinant (c .before .before .before .before .before .before .args .a) (c .before .before .before .before .before .before .args .b) (c .before .before .before .before .before .before .args .c)
+    ≡ determinant (c .before .before .before .before .before .before .args .a) (c .before .before .before .before .before .before .args .b)
+    (c .before .before .before .before .before .before .args .c)
 unfolding determinant
 read c =
     let p = c .before .before .before .before .before .product .ensures in
@@ -69,7 +70,8 @@ read c =
     let e : ℕ = c .before .before .product4 .result + c .before .product5 .result + c .product6 .result in
     difference f e (omega (arith, p .1, q .1, r .1)) (omega (arith, s .1, t .1, u .1)) ∙ (λ i. pos (p .0 i + q .0 i + r .0 i) -ℤ pos (s .0 i + t .0 i + u .0 i))
 
-fits : (c : tie.After-product6) → SFits w64 (determinant (c .before .before .before .before .before .before .args .a) (c .before .before .before .before .before .before .args .b) (c .before .before .before .before .before .before .args .c))
+fits : (c : tie.After-product6) → SFits w64 (determinant (c .before .before .before .before .before .before .args .a) (c .before .before .before .before .before .before .args .b)
+    (c .before .before .before .before .before .before .args .c))
 fits c =
     let s = c .before .before .before .before .before .before in
     fits-64 (determinant (s .args .a) (s .args .b) (s .args .c)) (omega (arith, determinant-most (s .args .a) (s .args .b) (s .args .c) (s .pre .0) (s .pre .1 .0) (s .pre .1 .1)))

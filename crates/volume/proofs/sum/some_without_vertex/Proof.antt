@@ -5,9 +5,9 @@ use mathlib.Core.Path.{_≡_, refl, sym, ap, _∙_}
 use borrow.Author.Needs.{needs}
 use borrow.Author.Tests.{le-leb, lt-leb}
 use lib.ListN.{length, drop}
-use Rattle.rules.specs.Lists.{some}
+use Rattle.lists.specs.Lists.{some}
 use Rattle.volume.specs.Answers.{noVertex}
-use Rattle.volume.proofs.Scanning.{some-found, some-passed, some-past}
+use Rattle.lists.proofs.Searching.{some-found, some-passed, some-past}
 use Rattle.volume.proofs.sum.some_without_vertex.Statement.{statement}
 use Rattle.volume.proofs.sum.some_without_vertex.Tie as tie
 
@@ -30,7 +30,8 @@ cast-if1 : tie.Need-cast-if1 Inv-loop μ-loop
 cast-if1 c = omega (arith, c .shared-slice-known .given (c .before .before .loop .i))
 
 returns : tie.Need-returns Inv-loop μ-loop
-returns c = sym (c .before .before .before .loop .inv .1 ∙ some-found (noVertex (c .before .before .before .before .args .vertices)) 0 _ _ (c .before .before .loop-test .taken) (le-leb _ _ (c .if1 .taken)))
+returns c = sym (c .before .before .before .loop .inv .1 ∙ some-found (noVertex (c .before .before .before .before .args .vertices)) 0 _ _ (c .before .before .loop-test .taken)
+    (le-leb _ _ (c .if1 .taken)))
 
 add-i : tie.Need-add-i Inv-loop μ-loop
 add-i c = omega arith
@@ -39,7 +40,11 @@ loop-less : tie.Need-loop-less Inv-loop μ-loop
 loop-less c = omega arith
 
 loop-again : tie.Need-loop-again Inv-loop μ-loop
-loop-again c = (search needs, c .before .before .before .loop .inv .1 ∙ some-passed (noVertex (c .before .before .before .before .args .vertices)) 0 _ _ (c .before .before .loop-test .taken) (lt-leb _ _ (c .if1 .left)))
+loop-again c = (
+  search needs,
+  c .before .before .before .loop .inv .1 ∙ some-passed (noVertex (c .before .before .before .before .args .vertices)) 0 _ _
+      (c .before .before .loop-test .taken) (lt-leb _ _ (c .if1 .left)),
+)
 
 returns-2 : tie.Need-returns-2 Inv-loop μ-loop
 returns-2 c = sym (c .before .loop .inv .1 ∙ some-past (noVertex (c .before .before .args .vertices)) 0 _ _ (c .loop-test .left))

@@ -13,11 +13,11 @@ use lib.IntN.{ℤ, pos, natAbs, _+ℤ_, +ℤ-idl, +ℤ-idr, +ℤ-assoc}
 use lib.ListN.{length, getD, drop}
 use mir.Syntax.{w64}
 use mir.Val.{toZ, ofZ}
-use Rattle.rules.specs.Lists.{some}
+use Rattle.lists.specs.Lists.{some}
 use Rattle.volume.specs.declared.Corner.{Corner}
 use Rattle.volume.specs.Volume.{cornerAt, determinant, sumOver, sixfold}
 use Rattle.volume.specs.Answers.{noVertex}
-use Rattle.volume.proofs.Scanning.{none-at}
+use Rattle.lists.proofs.Searching.{none-at}
 use Rattle.volume.proofs.Summing.{sum-from, sum-past, next-most, next-fits, next-read}
 use Rattle.volume.proofs.sum.sum_over.Statement.{statement}
 use Rattle.volume.proofs.sum.sum_over.Tie as tie

@@ -29,7 +29,8 @@ returns c =
     let p = c .before .before .before .corner-at in
     let q = c .before .before .corner-at2 in
     let r = c .before .corner-at3 in
-    let h : natAbs (c .determinant .result) ≤ 2 ^ 46 = rw (c .determinant .ensures) (determinant-most (p .result) (q .result) (r .result) (p .ensures .1) (q .ensures .1) (r .ensures .1)) in
+    let h : natAbs (c .determinant .result) ≤ 2 ^ 46 = rw (c .determinant .ensures)
+    (determinant-most (p .result) (q .result) (r .result) (p .ensures .1) (q .ensures .1) (r .ensures .1)) in
     let e : toZ w64 (ofZ w64 (c .determinant .result)) ≡ c .determinant .result = toZ-ofZ {w = w64} (fits-64 (c .determinant .result) (omega arith)) in
     (e ∙ c .determinant .ensures ∙ (λ i. determinant (p .ensures .0 i) (q .ensures .0 i) (r .ensures .0 i)), rw e h)
 

@@ -464,6 +464,93 @@ uint32_t bed_volume(
     const uint32_t *indices, size_t indices_len,
     int64_t *volume);
 
+/* What a bed taken layer by layer answers. A layer's conditions are tried in this order, and the first that
+ * holds answers: 1, 2, 8, 3, 4, 5, 6, 7. The start gives 0, 1, 2 or 4. */
+enum bed_layers_answer {
+    /* The layer was taken, or the bed begun. */
+    BED_LAYERS_DONE = 0,
+    /* As BED_BAD_DIMENSIONS and BED_BAD_BOX. */
+    BED_LAYERS_DIMENSIONS = 1,
+    BED_LAYERS_BOX = 2,
+    /* The layer is not dim_x * dim_y long. */
+    BED_LAYERS_LENGTH = 3,
+    /* kept_distances or kept_map is shorter than 2 * dim_x * dim_y, or kept_positions than 3 * dim_x * dim_y. */
+    BED_LAYERS_MEMORY = 4,
+    /* A point of the layer inside the box is not finite or above 2^124 in magnitude. */
+    BED_LAYERS_DISTANCE = 5,
+    /* As BED_VERTICES_SHORT and BED_INDICES_SHORT, for V and I of this layer. */
+    BED_LAYERS_VERTEX_ROOM = 6,
+    BED_LAYERS_INDEX_ROOM = 7,
+    /* As many layers were taken as the box has points in z. */
+    BED_LAYERS_FINISHED = 8
+};
+
+/* Where a bed stands between two layers: plain numbers, which you may copy, store and send on. Whatever
+ * numbers stand here, a call stays within the lists that are lent to it. */
+struct bed_layers {
+    /* The grid's dimensions and the box, as they were given to the start. */
+    uint32_t dim_x, dim_y, dim_z;
+    uint32_t min_x, min_y, min_z;
+    uint32_t max_x, max_y, max_z;
+    /* The max plane for each axis: 0 is no, any other number is yes. */
+    uint32_t max_plane_x, max_plane_y, max_plane_z;
+    /* How many layers were taken. */
+    uint32_t taken;
+    /* The number of the next vertex, and of the first vertex of the last layer of cells. */
+    uint32_t next;
+    uint32_t first;
+};
+
+/* Begins a bed that is taken layer by layer: for a head that sends one z layer at a time and cannot hold the
+ * grid. Returns BED_LAYERS_DONE, _DIMENSIONS, _BOX or _MEMORY; on BED_LAYERS_DONE *layers is the state before the
+ * first layer, else it is untouched. Kept memory is only measured here, and written by bed_layers_offer alone:
+ *
+ *     kept_distances   2 * dim_x * dim_y numbers: two layers
+ *     kept_map         2 * dim_x * dim_y numbers: their maps
+ *     kept_positions   3 * dim_x * dim_y numbers: the positions of the last layer of cells
+ *
+ * Lend the same three to every offer, and leave them and the state as they are between layers.
+ */
+uint32_t bed_layers_start(
+    struct bed_layers *layers,
+    uint32_t dim_x, uint32_t dim_y, uint32_t dim_z,
+    uint32_t min_x, uint32_t min_y, uint32_t min_z,
+    uint32_t max_x, uint32_t max_y, uint32_t max_z,
+    bool max_plane_x, bool max_plane_y, bool max_plane_z,
+    const float *kept_distances, size_t kept_distances_len,
+    const uint32_t *kept_map, size_t kept_map_len,
+    const float *kept_positions, size_t kept_positions_len);
+
+/* Offers the next layer, dim_x * dim_y distances, from min z to max z. The first is only kept, with counts 0, 0;
+ * the layer z + 1 brings out all vertices and faces of the cells at z, to the first 3V, 3V, 3V, V, V and I numbers
+ * of the lists lent for output. Strides are those of the whole grid, and vertex numbers run on from layer to layer.
+ * All output joined, each list in the order of the layers, is that of bed_surface_nets on the whole grid.
+ *
+ * vertex_count and index_count are V and I of this layer on BED_LAYERS_DONE, _VERTEX_ROOM and _INDEX_ROOM, and 0
+ * on every other answer. A refusal changes nothing, so that the same layer can be offered again with more room.
+ * 3 * (dim_x - 1) * (dim_y - 1) numbers are always room enough for positions, 18 times that product for indices.
+ *
+ * On BED_LAYERS_DONE the entry of each point of the box in this layer's half of kept_map becomes 4,294,967,295,
+ * and the half of the cells that came out is their map; entries outside the box are kept. The layer number t of
+ * the box has the half t mod 2.
+ *
+ * If state or kept memory were touched between layers a call still stays within its lists; what it then writes
+ * follows from what it found there.
+ */
+uint32_t bed_layers_offer(
+    struct bed_layers *layers,
+    const float *layer, size_t layer_len,
+    float *kept_distances, size_t kept_distances_len,
+    uint32_t *kept_map, size_t kept_map_len,
+    float *kept_positions, size_t kept_positions_len,
+    float *positions, size_t positions_len,
+    float *normals, size_t normals_len,
+    uint32_t *cells, size_t cells_len,
+    uint32_t *strides, size_t strides_len,
+    uint8_t *crossings, size_t crossings_len,
+    uint32_t *indices, size_t indices_len,
+    uint64_t *vertex_count, uint64_t *index_count);
+
 #ifdef __cplusplus
 }
 #endif

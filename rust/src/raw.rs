@@ -1,6 +1,7 @@
 //! The C functions as `include/bed.h` declares them. They are to be called in the default floating-point
 //! environment; the crate's other functions see to that themselves.
 
+use crate::layers::Layers;
 use crate::plan::Block;
 
 extern "C" {
@@ -157,5 +158,63 @@ extern "C" {
         indices: *const u32,
         indices_len: usize,
         volume: *mut i64,
+    ) -> u32;
+
+    /// Begins a bed that is taken layer by layer, and returns the answer number, 0, 1, 2 or 4.
+    ///
+    /// # Safety
+    ///
+    /// As above; `layers` points to a state, which is written on 0 alone. The kept memory is only measured.
+    pub fn bed_layers_start(
+        layers: *mut Layers,
+        dim_x: u32,
+        dim_y: u32,
+        dim_z: u32,
+        min_x: u32,
+        min_y: u32,
+        min_z: u32,
+        max_x: u32,
+        max_y: u32,
+        max_z: u32,
+        max_plane_x: bool,
+        max_plane_y: bool,
+        max_plane_z: bool,
+        kept_distances: *const f32,
+        kept_distances_len: usize,
+        kept_map: *const u32,
+        kept_map_len: usize,
+        kept_positions: *const f32,
+        kept_positions_len: usize,
+    ) -> u32;
+
+    /// Takes one layer, and returns the answer number, 0 to 8.
+    ///
+    /// # Safety
+    ///
+    /// As above.
+    pub fn bed_layers_offer(
+        layers: *mut Layers,
+        layer: *const f32,
+        layer_len: usize,
+        kept_distances: *mut f32,
+        kept_distances_len: usize,
+        kept_map: *mut u32,
+        kept_map_len: usize,
+        kept_positions: *mut f32,
+        kept_positions_len: usize,
+        positions: *mut f32,
+        positions_len: usize,
+        normals: *mut f32,
+        normals_len: usize,
+        cells: *mut u32,
+        cells_len: usize,
+        strides: *mut u32,
+        strides_len: usize,
+        crossings: *mut u8,
+        crossings_len: usize,
+        indices: *mut u32,
+        indices_len: usize,
+        vertex_count: *mut u64,
+        index_count: *mut u64,
     ) -> u32;
 }

@@ -12,7 +12,7 @@ mod page;
 mod runners;
 
 use page::Row;
-use runners::{Library, Original, PlainLoop, Runner};
+use runners::{ByLayers, Library, Original, PlainLoop, Runner};
 
 /// Rounds, each of which runs everyone once.
 const ROUNDS: usize = 31;
@@ -20,8 +20,8 @@ const ROUNDS: usize = 31;
 /// A time is taken over as many meshes as this many points need.
 const POINTS_A_TIME: usize = 1_000_000;
 
-/// The library, the plain loop, and each build of the original with both kinds of dimensions.
-const RUNNERS: usize = 2 + page::ORIGINALS;
+/// The library, the plain loop, the library fed layer by layer, and each build of the original with both kinds of dimensions.
+const RUNNERS: usize = 3 + page::ORIGINALS;
 
 fn main() {
     let paths: Vec<String> = std::env::args().skip(1).collect();
@@ -55,7 +55,9 @@ fn measure(grid_name: &'static str, side: u32, grid: &[f32], originals: &[Origin
     let mut library = Library::default();
     library.make_room(grid, side);
     let plain_loop = PlainLoop::beside(&library);
-    let mut runners: Vec<Box<dyn Runner>> = vec![Box::new(library), Box::new(plain_loop)];
+    let by_layers = ByLayers::beside(&library, side);
+    let mut runners: Vec<Box<dyn Runner>> =
+        vec![Box::new(library), Box::new(plain_loop), Box::new(by_layers)];
     runners.extend(originals.iter().map(|&original| Box::new(original) as _));
     warm_up(&mut runners, grid, side);
     let times = medians(&mut runners, grid, side);
@@ -65,7 +67,8 @@ fn measure(grid_name: &'static str, side: u32, grid: &[f32], originals: &[Origin
         points: grid.len(),
         library: times[0],
         plain_loop: times[1],
-        originals: std::array::from_fn(|i| times[2 + i]),
+        by_layers: times[2],
+        originals: std::array::from_fn(|i| times[3 + i]),
     }
 }
 

@@ -16,6 +16,7 @@ pub struct Row {
     pub points: usize,
     pub library: f64,
     pub plain_loop: f64,
+    pub by_layers: f64,
     pub originals: [f64; ORIGINALS],
 }
 
@@ -75,6 +76,18 @@ pub fn print(rows: &[Row], rounds: usize) {
             row.library / row.plain_loop,
             fastest / row.plain_loop,
             1e9 * row.library / row.points as f64,
+        );
+    }
+    println!(
+        "\nLayer by layer (request 1 of document 02), and its time divided by the whole call's:\n"
+    );
+    print_titles(&["layers, ms", "layers / whole call"], &[]);
+    for row in rows {
+        println!(
+            "{} {:.3} | {:.2} |",
+            row.cells(),
+            1e3 * row.by_layers,
+            row.by_layers / row.library
         );
     }
 }

@@ -1,7 +1,7 @@
 //! Those who are timed: the proved library over lent buffers, builds of the original, and a plain loop that
 //! moves the same numbers and does nothing with them.
 
-use bed::{surface_nets_lent, Counts, Lent, MaxPlane, Refusal};
+use bed::{surface_nets_lent, Counts, Kept, LayerLent, Layers, Lent, MaxPlane, Refusal};
 use std::ffi::{c_char, c_int, c_void, CString};
 use std::hint::black_box;
 
@@ -67,6 +67,63 @@ impl Runner for Library {
 
     fn indices(&self) -> Option<Vec<u32>> {
         Some(self.words[3].clone())
+    }
+}
+
+/// The proved library fed layer by layer (document 02, request 1): the same mesh, into the same lists, a part of them a layer.
+pub struct ByLayers {
+    room: Library,
+    distances: Vec<f32>,
+    map: Vec<u32>,
+    positions: Vec<f32>,
+}
+
+impl ByLayers {
+    /// Over lists of its own, as long as those that are lent to the library.
+    pub fn beside(library: &Library, side: u32) -> Self {
+        let plane = (side * side) as usize;
+        Self {
+            room: library.clone(),
+            distances: vec![0.0; 2 * plane],
+            map: vec![0; 2 * plane],
+            positions: vec![0.0; 3 * plane],
+        }
+    }
+}
+
+impl Runner for ByLayers {
+    fn mesh(&mut self, grid: &[f32], side: u32) {
+        let mut kept = Kept {
+            distances: &mut self.distances,
+            map: &mut self.map,
+            positions: &mut self.positions,
+        };
+        let max = [side - 1; 3];
+        let mut state = Layers::start([side; 3], [0; 3], max, MaxPlane::NONE, &kept)
+            .expect("the memory is long enough");
+        let [positions, normals] = &mut self.room.floats;
+        let [cells, strides, _, indices] = &mut self.room.words;
+        let crossings = &mut self.room.crossings;
+        let (mut v, mut i) = (0, 0);
+        for layer in grid.chunks((side * side) as usize) {
+            let mut lent = LayerLent {
+                positions: &mut positions[3 * v..],
+                normals: &mut normals[3 * v..],
+                cells: &mut cells[3 * v..],
+                strides: &mut strides[v..],
+                crossings: &mut crossings[v..],
+                indices: &mut indices[i..],
+            };
+            let made = state
+                .offer(layer, &mut kept, &mut lent)
+                .expect("there is room");
+            v += made.vertices as usize;
+            i += made.indices as usize;
+        }
+    }
+
+    fn indices(&self) -> Option<Vec<u32>> {
+        self.room.indices()
     }
 }
 

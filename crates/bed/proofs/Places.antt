@@ -18,7 +18,11 @@ use Rattle.mesh_file.specs.Writing.{writing, written}
 use Rattle.mesh_file.specs.Reading.{Bytes, readOf, checked, readingIn, filledIn}
 use Rattle.mesh_file.specs.declared.Read.{Read}
 use Rattle.fixtures.specs.Cut.{cutAnswer, cutGrid}
+use Rattle.layers.specs.Memory.{memory, lengths, startAnswer}
+use Rattle.layers.specs.Offer.{output, left, roomIn, layerAnswer, stateAfter, leaves}
+use Rattle.layers.specs.Words.{stateOf, wordsOn}
 use Rattle.bed.specs.Boundary.{extent, planes, said}
+use Rattle.bed.specs.Layered.{blockAsked, wordsStarted}
 use Rattle.bed.proofs.bed_surface_nets.Kinds as nets-kinds
 use Rattle.bed.proofs.bed_surface_nets.Reads as nets
 use Rattle.bed.proofs.enclosed.bed_is_enclosed.Kinds as enclosed-kinds
@@ -31,6 +35,10 @@ use Rattle.bed.proofs.files.bed_check_mesh.Kinds as check-kinds
 use Rattle.bed.proofs.files.bed_check_mesh.Reads as check
 use Rattle.bed.proofs.cut.bed_cut_fixtures.Kinds as cut-kinds
 use Rattle.bed.proofs.cut.bed_cut_fixtures.Reads as cut
+use Rattle.bed.proofs.layered.bed_layers_start.Kinds as start-kinds
+use Rattle.bed.proofs.layered.bed_layers_start.Reads as start
+use Rattle.bed.proofs.layered.bed_layers_offer.Kinds as offer-kinds
+use Rattle.bed.proofs.layered.bed_layers_offer.Reads as offer
 
 -- a call of a function and what it leaves: the result, and behind each `&mut` the value that it has last. `Learnt` of a function's Reads is what a
 -- caller learns from the function's own `ensures`, so this is no copy of it.
@@ -146,3 +154,30 @@ pub cut-fixtures-by-place : (u : CutCall)
     let (_, (_, (_, (_, (left, _))))) = u .last in
     (u .result ≡ cutAnswer (file .now) (point (extent dx dy dz)) (length (sdf .now))) × (left ≡ cutGrid (file .now) (point (extent dx dy dz)) (sdf .now)))
 cut-fixtures-by-place u = u .fits
+
+-- ---- bed_layers_start: the state, dimensions, min, max, the max plane on each axis, the three lists of kept memory
+
+abbrev pub StartCall : Type 0
+StartCall = Called 4 start-kinds.ps start-kinds.r start.Learnt
+
+pub layers-start-by-place : (u : StartCall)
+    → (let (layers, (dx, (dy, (dz, (lx, (ly, (lz, (hx, (hy, (hz, (px, (py, (pz, (distances, (map, (positions, _)))))))))))))))) = u .args in
+    let (layers', _) = u .last in
+    let k = blockAsked dx dy dz lx ly lz hx hy hz px py pz in
+    (u .result ≡ startAnswer k (lengths (memory (distances .now) (map .now) (positions .now)))) × (layers' ≡ wordsStarted (u .result) k (layers .now)))
+layers-start-by-place u = u .fits
+
+-- ---- bed_layers_offer: the state, the layer, the three lists of kept memory, six lists for output, V, I
+
+abbrev pub OfferCall : Type 0
+OfferCall = Called 13 offer-kinds.ps offer-kinds.r offer.Learnt
+
+pub layers-offer-by-place : (u : OfferCall)
+    → (let (layers, (layer, (kd, (km, (kp, (positions, (normals, (cells, (strides, (crossings, (indices, _))))))))))) = u .args in
+    let (layers', (_, (kd', (km', (kp', (positions', (normals', (cells', (strides', (crossings', (indices', (v, (i, _))))))))))))) = u .last in
+    let s = stateOf (layers .now) in
+    let m = memory (kd .now) (km .now) (kp .now) in
+    let o = output (positions .now) (normals .now) (cells .now) (strides .now) (crossings .now) (indices .now) in
+    (said (u .result) v i ≡ layerAnswer s (layer .now) m (roomIn m o)) × ((layers' ≡ wordsOn (layers .now) (stateAfter s (layer .now) m o))
+    × (left (memory kd' km' kp') (output positions' normals' cells' strides' crossings' indices') ≡ leaves s (layer .now) m o)))
+layers-offer-by-place u = u .fits

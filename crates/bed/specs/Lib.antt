@@ -1,2 +1,3 @@
 -- What the boundary's loose numbers stand for.
 pub mod Boundary
+pub mod Layered

@@ -2,6 +2,7 @@
 pub mod cut;
 pub mod enclosed;
 pub mod files;
+pub mod layered;
 pub mod plans;
 pub mod weighing;
 

@@ -25,7 +25,7 @@ pub struct Lengths {
 }
 
 // An answer of 1 to 5: nothing was counted.
-fn refused(number: u32) -> Answer
+pub fn refused(number: u32) -> Answer
     ensures { λ r. ⌜ answerOf r ≡ record { number = number; vertices = 0; indices = 0 } ⌝ }
 {
     Answer {
@@ -36,7 +36,7 @@ fn refused(number: u32) -> Answer
 }
 
 // Conditions 6 and 7, or 0: V and I are said in each case.
-fn room_answer(vertices: usize, indices: usize, room: Lengths) -> Answer
+pub fn room_answer(vertices: usize, indices: usize, room: Lengths) -> Answer
     requires { ⌜ vertices < 2 ^ 60 ⌝ }
     ensures { λ r. ⌜ answerOf r ≡ roomAnswer (roomOf room) vertices indices ⌝ }
 {

@@ -1,6 +1,6 @@
 -- The indices of a layer are the rules' own, where what was kept of the layer below is what the rules say of it; of the layer itself they depend on
 -- the two layers of distances alone. Assumes nothing.
-use Prim.Native.Nat.{ℕ, suc, _-_, _≤_}
+use Prim.Native.Nat.{ℕ, suc, _+_, _-_, _≤_, _*_}
 use native.Mathlib.Omega.{arith}
 use mathlib.Core.Bool.{Bool, false, cond}
 use mathlib.Core.List.{List, map}
@@ -9,10 +9,10 @@ use mathlib.Core.Path.{_≡_, sym, ap, ap₂, subst, _∙_}
 use borrow.Author.Tests.{eq-eqb, ne-eqb}
 use lib.Dec.{T, eqb}
 use lib.Ieee.{Float, lt}
-use lib.ListN.{length}
+use lib.ListN.{length, getD, take}
 use Rattle.lists.specs.Lists.{joined}
 use Rattle.rules.specs.Grid.{GridPoint, Box, Field, isCell, inBox, value}
-use Rattle.rules.specs.Cell.{negative, squaredDistance}
+use Rattle.rules.specs.Cell.{Vector, negative, squaredDistance}
 use Rattle.rules.specs.Vertices.{surfaceCell, layerVertices, vertexNumber, numberIn, vertexPosition}
 use Rattle.rules.specs.Faces.{Flags, Edge, gives, cell1, cell2, cell3, cell4, six, shorter, faceCells, layerIndices}
 use Rattle.rules.specs.Call.{flatVectors}
@@ -23,12 +23,12 @@ use Rattle.rules.proofs.Numbers.{four-each}
 use Rattle.rules.proofs.Indexes.{cell-in-box, cell-within}
 use Rattle.grid.proofs.Slab.{slab, grid, edges-alike, position-alike, number-alike, in-slab}
 use Rattle.layer_faces.specs.Below.{positionAt, Kept, keptNumber, numberOver, positionOver, shorterOver, faceOver, indicesOver}
-use Rattle.layer_faces.proofs.Lookups.{position-of}
+use Rattle.layer_faces.proofs.Lookups.{position-among}
 
 -- what was kept is what the rules say of the layer below z, the first vertex of z having the number `first`
 pub record Right (g : Field) (b : Box) (first z : ℕ) (below : Kept) : Type 0 where
   pub numbers : (c : GridPoint) → T (isCell b c) → suc (c .z) ≡ z → T (surfaceCell g c) → keptNumber (g .dims) below c ≡ vertexNumber g b (below .first) c
-  pub positions : (y : ℕ) → b .low .z ≤ y → suc y ≡ z → below .positions ≡ flatVectors (map (vertexPosition g) (layerVertices g b y))
+  pub positions : (y : ℕ) → b .low .z ≤ y → suc y ≡ z → take (3 * length (layerVertices g b y)) (below .positions) ≡ flatVectors (map (vertexPosition g) (layerVertices g b y))
   pub before : (y : ℕ) → b .low .z ≤ y → suc y ≡ z → below .first ≡ first - length (layerVertices g b y)
 
 module _ (d : GridPoint) (f f' : ℕ → Float) (b : Box) (m : Flags) (first z : ℕ) (agree : (p : GridPoint) → T (inBox (slab b z) p) → value (grid d f) p ≡ value (grid d f') p) where
@@ -68,8 +68,8 @@ module _ (d : GridPoint) (f f' : ℕ → Float) (b : Box) (m : Flags) (first z :
               ∙ sym (ap (λ (y : Bool). cond y (vertexNumber g' b first c) (vertexNumber g' b (first - length (layerVertices g' b (c .z))) c)) no);
           position =
               ap (λ (y : Bool). cond y (vertexPosition g c) (positionAt (below .positions) (below .first) (keptNumber d below c))) no
-              ∙ ap₂ (λ (l : List Float) (n : ℕ). positionAt l (below .first) n) (right .positions (c .z) low e) (right .numbers c t e s)
-              ∙ position-of g' b (below .first) c t s;
+              ∙ ap (positionAt (below .positions) (below .first)) (right .numbers c t e s)
+              ∙ position-among g' b (below .first) c t s (below .positions) (right .positions (c .z) low e);
         }
 
     face-is : (e : Edge) → T (gives (grid d f') b m e) × (e .from .z ≡ z) → faceOver (grid d f) b first z below e ≡ map (numberIn (grid d f') b z first) (faceCells (grid d f') e)

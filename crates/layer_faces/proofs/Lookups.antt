@@ -3,13 +3,14 @@
 use Prim.Native.Nat.{ℕ, _+_, _-_, _*_, _≤_, _<_}
 use native.Mathlib.Omega.{arith}
 use mathlib.Core.Bool.{Bool, true, false, _&&_, cond}
-use mathlib.Core.List.{List, map}
-use mathlib.Core.Path.{_≡_, refl, sym, ap, ap₂, _∙_}
+use mathlib.Core.List.{List, _++_, map}
+use mathlib.Core.Path.{_≡_, refl, sym, ap, ap₂, subst, _∙_}
 use borrow.Author.Tests.{lt-ltb, le-ltb, eq-eqb, ne-eqb}
 use lib.Dec.{T}
 use lib.Ieee.{Float, nan, lt}
 use lib.Ieee.Fits.{and-i}
-use lib.ListN.{length, getD, length-map, List·getD-map}
+use lib.ListN.{length, getD, take, drop, length-append, length-map, take-append-drop, List·getD-map}
+use lib.Seq.{take-all}
 use Rattle.lists.specs.Lists.{many, place}
 use Rattle.rules.specs.Grid.{GridPoint, Box, Field, samePoint, isCell, value}
 use Rattle.rules.specs.Cell.{Vector, negative, squaredDistance}
@@ -19,7 +20,7 @@ use Rattle.rules.specs.Call.{flatVectors}
 use Rattle.lists.proofs.Tests.{one-of}
 use Rattle.lists.proofs.Lists.{place-below, place-passes}
 use Rattle.rules.proofs.Counting.{samePoint-sound, isLayerCell, cell-layer, layerVertices-once}
-use Rattle.rules.proofs.Seen.{ThreeAt, length-vectors, flatVectors-at}
+use Rattle.rules.proofs.Seen.{ThreeAt, three-over, length-vectors, flatVectors-at}
 use Rattle.grid.specs.Layers.{inLayer}
 use Rattle.layer_faces.specs.declared.Step.{Step}
 use Rattle.layer_faces.specs.Below.{nowhere, positionAt, Kept, keptNumber, numberOver, positionOver, shorterOver, faceOver, Standing}
@@ -48,10 +49,11 @@ position-in l first n v h t =
     ∙ ap (λ (m : ℕ). record { x = getD l (3 * m) nan; y = getD l (3 * m + 1) nan; z = getD l (3 * m + 2) nan }) back
     ∙ (λ i. record { x = t .first i; y = t .second i; z = t .third i })
 
--- the positions of a layer's vertices
-pub position-of : (g : Field) (b : Box) (first : ℕ) (c : GridPoint) → T (isCell b c) → T (surfaceCell g c)
-    → positionAt (flatVectors (map (vertexPosition g) (layerVertices g b (c .z)))) first (vertexNumber g b first c) ≡ vertexPosition g c
-position-of g b first c t s = position-in (flatVectors (map (vertexPosition g) vs)) first n (vertexPosition g c) (omega (arith, length-vectors (vertexPosition g) vs, within)) there
+-- of a list that begins with the positions of a layer's vertices
+pub position-among : (g : Field) (b : Box) (first : ℕ) (c : GridPoint) → T (isCell b c) → T (surfaceCell g c) → (l : List Float)
+    → take (3 * length (layerVertices g b (c .z))) l ≡ flatVectors (map (vertexPosition g) (layerVertices g b (c .z)))
+    → positionAt l first (vertexNumber g b first c) ≡ vertexPosition g c
+position-among g b first c t s l e = position-in l first n (vertexPosition g c) (omega (arith, long, within)) there
   where
     vs : List GridPoint
     vs = layerVertices g b (c .z)
@@ -68,9 +70,32 @@ position-of g b first c t s = position-in (flatVectors (map (vertexPosition g) v
     is : getD vs n c ≡ c
     is = sym (samePoint-sound c (getD vs n c) (place-passes (samePoint c) vs c has))
 
-    there : ThreeAt (λ (q : Vector). q .x) (λ (q : Vector). q .y) (λ (q : Vector). q .z) (flatVectors (map (vertexPosition g) vs)) n nan (vertexPosition g c)
-    there = flatVectors-at (map (vertexPosition g) vs) n (vertexPosition g c) (rw (length-map vs (vertexPosition g)) within)
+    front : List Float
+    front = flatVectors (map (vertexPosition g) vs)
+
+    whole : front ++ drop (3 * length vs) l ≡ l
+    whole = ap (λ (f : List Float). f ++ drop (3 * length vs) l) (sym e) ∙ take-append-drop (3 * length vs) l
+
+    long : 3 * length vs ≤ length l
+    long = omega (arith, ap length whole, length-append front (drop (3 * length vs) l), length-vectors (vertexPosition g) vs)
+
+    in-front : ThreeAt (λ (q : Vector). q .x) (λ (q : Vector). q .y) (λ (q : Vector). q .z) front n nan (vertexPosition g c)
+    in-front = flatVectors-at (map (vertexPosition g) vs) n (vertexPosition g c) (rw (length-map vs (vertexPosition g)) within)
         (List·getD-map (vertexPosition g) vs n c ∙ ap (vertexPosition g) is)
+
+    there : ThreeAt (λ (q : Vector). q .x) (λ (q : Vector). q .y) (λ (q : Vector). q .z) l n nan (vertexPosition g c)
+    there =
+        subst (λ (f : List Float). ThreeAt (λ (q : Vector). q .x) (λ (q : Vector). q .y) (λ (q : Vector). q .z) f n nan (vertexPosition g c)) whole
+        (three-over (λ (q : Vector). q .x) (λ (q : Vector). q .y) (λ (q : Vector). q .z) front (drop (3 * length vs) l) n nan (vertexPosition g c)
+        (omega (arith, length-vectors (vertexPosition g) vs, within)) in-front)
+
+-- of the positions of a layer's vertices
+pub position-of : (g : Field) (b : Box) (first : ℕ) (c : GridPoint) → T (isCell b c) → T (surfaceCell g c)
+    → positionAt (flatVectors (map (vertexPosition g) (layerVertices g b (c .z)))) first (vertexNumber g b first c) ≡ vertexPosition g c
+position-of g b first c t s =
+    let vs = layerVertices g b (c .z) in
+    let all = flatVectors (map (vertexPosition g) vs) in
+    position-among g b first c t s all (take-all (3 * length vs) all (omega (arith, length-vectors (vertexPosition g) vs)))
 
 -- ---- a looked-up vertex is that of a cell
 

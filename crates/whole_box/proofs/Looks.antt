@@ -10,7 +10,7 @@ use lib.Dec.{T}
 use lib.Ieee.{Float}
 use lib.Ieee.Bits.{is-true}
 use lib.ListN.{length, getD, take, drop, length-append, length-drop}
-use lib.Seq.{getD-take, getD-drop, length-take-le}
+use lib.Seq.{getD-take, getD-drop, length-take-le, take-all}
 use Rattle.lists.specs.Lists.{over}
 use Rattle.rules.specs.Grid.{GridPoint, Box, Field, index, isCell, value}
 use Rattle.rules.specs.Cell.{Vector}
@@ -220,10 +220,16 @@ module _ (sdf : List Float) (k : Block) (i : Inside sdf k) (z : ℕ) (zs : (k .l
             ∙ number-of c t on (omega arith)
             ∙ ap (λ (n : ℕ). vertexNumber g b n c) (sym (s .before ∙ ap (firstVertex g b) (pred (c .z) e)))
 
-        positions : (y : ℕ) → k .low .z ≤ y → suc y ≡ z → take (3 * first - 3 * below) (drop (3 * below) ps) ≡ flatVectors (map (vertexPosition g) (layerVertices g b y))
-        positions y l e =
+        exactly : (y : ℕ) → k .low .z ≤ y → suc y ≡ z → take (3 * first - 3 * below) (drop (3 * below) ps) ≡ flatVectors (map (vertexPosition g) (layerVertices g b y))
+        exactly y l e =
             let n : 3 * first - 3 * below ≡ 3 * (first - below) = omega arith in
             ap (λ (l : ℕ). take l (drop (3 * below) ps)) n ∙ s .under (omega arith) ∙ ap (λ (x : ℕ). flatVectors (map (vertexPosition g) (layerVertices g b x))) (pred y e)
+
+        positions : (y : ℕ) → k .low .z ≤ y → suc y ≡ z
+            → take (3 * length (layerVertices g b y)) (take (3 * first - 3 * below) (drop (3 * below) ps)) ≡ flatVectors (map (vertexPosition g) (layerVertices g b y))
+        positions y l e =
+            let vs = layerVertices g b y in
+            ap (take (3 * length vs)) (exactly y l e) ∙ take-all (3 * length vs) (flatVectors (map (vertexPosition g) vs)) (omega (arith, length-vectors (vertexPosition g) vs))
 
         before : (y : ℕ) → k .low .z ≤ y → suc y ≡ z → below ≡ first - length (layerVertices g b y)
         before y l e = omega (arith, s .here, s .before ∙ ap (firstVertex g b) (pred y e), firstVertex-next g b y l, ap (firstVertex g b) e)

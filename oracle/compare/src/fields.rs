@@ -1,6 +1,7 @@
 //! The kinds of distances that random grids hold, each to bring out another slip.
 
 use crate::random::Random;
+use crate::CAP;
 
 /// A kind of field: its name in the report and the distance that it gives to each point of a grid.
 #[derive(Clone, Copy)]
@@ -64,7 +65,6 @@ pub const FIELDS: [Field; 11] = [
 ];
 
 /// The largest distance that is not refused.
-const CAP: f32 = oracle::model::DISTANCE_LIMIT;
 
 /// The bits of 2^100, from which on distances are far fill values.
 const FAR: u32 = (100 + 127) << 23;

@@ -28,6 +28,8 @@ use refused::{Spoil, LIMITS, SPOILS};
 use std::process::ExitCode;
 use tally::Tally;
 
+/// The largest magnitude that is let in.
+const CAP: f32 = oracle::model::DISTANCE_LIMIT;
 const SEED: u64 = 0xBED0_5EED;
 const SMALL_CALLS_A_FIELD: u32 = 25_000;
 const LARGE_CALLS_A_FIELD: u32 = 30;

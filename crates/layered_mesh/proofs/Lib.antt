@@ -1,0 +1,8 @@
+-- The theorem over all layers, and what follows from it.
+pub mod Agree
+pub mod Step
+pub mod Layered
+pub mod Cases
+pub mod Words
+pub mod Once
+pub mod AsServed

@@ -1,0 +1,94 @@
+-- No cells below the first layer; below any other those between its kept layer and itself. Assumes nothing.
+use Prim.Native.Nat.{ℕ, _-_, _*_, _%_}
+use mathlib.Core.List.{List}
+use mathlib.Core.Path.{_≡_, sym, ap, subst, _∙_}
+use native.Mathlib.Omega.{arith}
+use lib.Ieee.{Float}
+use lib.ListN.{length}
+use Rattle.rules.specs.Grid.{GridPoint}
+use Rattle.rules.specs.Vertices.{layerCells}
+use Rattle.grid.specs.Block.{boxOf, flagsOf}
+use Rattle.grid.specs.Layers.{twoLayers, InLayers}
+use Rattle.count.specs.Tally.{tallyOf}
+use Rattle.count.proofs.Tallies.{none-counted}
+use Rattle.layers.specs.Offer.{before, cellsAt, between}
+use Rattle.layers.proofs.Cells.{cells-first, cells-later, plane-small, in-layers, half-read, half-end}
+use borrow.Author.Needs.{needs}
+use Rattle.layers.proofs.answers.count_below.Statement.{statement}
+use Rattle.layers.proofs.answers.count_below.Tie as tie
+
+returns : tie.Need-returns
+returns c =
+    let a = c .before .before .before .args in
+    let g = between (a .s) (a .layer .now) (a .distances .now) in
+    sym (ap (tallyOf g (boxOf (a .s .block)) (flagsOf (a .s .block))) (cells-first (a .s) (c .if1 .taken)) ∙ none-counted g (boxOf (a .s .block)) (flagsOf (a .s .block)))
+
+sub-t : tie.Need-sub-t
+sub-t c = search needs
+
+half-requires : tie.Need-half-requires
+half-requires c κs = search needs
+
+add-end : tie.Need-add-end
+add-end c =
+    let s = c .before .before .before .before .before in
+    let e = half-end (s .args .s .block) (s .args .s .taken - 1) (s .pre .offered .long) (c .half .ensures) in
+    let p = plane-small (s .pre) in
+    record { fits = omega arith }
+
+mul-count-layer : tie.Need-mul-count-layer
+mul-count-layer c =
+    let s = c .before .before .before .before .before in
+    let e = half-end (s .args .s .block) (s .args .s .taken - 1) (s .pre .offered .long) (c .half .ensures) in
+    let p = plane-small (s .pre) in
+    record { fits = omega arith }
+
+sub-count-layer : tie.Need-sub-count-layer
+sub-count-layer c = search needs
+
+part-count-layer-start : tie.Need-part-count-layer-start
+part-count-layer-start c = search needs
+
+part-count-layer-end : tie.Need-part-count-layer-end
+part-count-layer-end c =
+    let s = c .before .before .before .before .before in
+    let e = half-end (s .args .s .block) (s .args .s .taken - 1) (s .pre .offered .long) (c .half .ensures) in
+    omega (arith, s .pre .kept)
+
+add-count-layer : tie.Need-add-count-layer
+add-count-layer c = search needs
+
+count-layer-requires : tie.Need-count-layer-requires
+count-layer-requires c κs =
+    let s = c .before .before .before .before .before .before .before in
+    let a = s .args in
+    let e = half-read (a .s .block) (before (a .s)) (a .distances .now) (s .pre .offered .long) (c .before .before .half .ensures) in
+    let no = c .before .before .before .before .if1 .left in
+    subst (λ (lower : List Float). InLayers lower (a .layer .now) (a .s .block) (cellsAt (a .s))) (sym e) (in-layers (s .pre) (omega arith))
+
+returns-2 : tie.Need-returns-2
+returns-2 c =
+    let s = c .before .before .before .before .before .before .before .before in
+    let a = s .args in
+    let k = a .s .block in
+    let e = half-read k (before (a .s)) (a .distances .now) (s .pre .offered .long) (c .before .before .before .half .ensures) in
+    let no = c .before .before .before .before .before .if1 .left in
+    c .count-layer .ensures
+    ∙ ap (λ (lower : List Float). tallyOf (twoLayers lower (a .layer .now) k (cellsAt (a .s))) (boxOf k) (flagsOf k) (layerCells (boxOf k) (cellsAt (a .s)))) e
+    ∙ ap (tallyOf (between (a .s) (a .layer .now) (a .distances .now)) (boxOf k) (flagsOf k)) (sym (cells-later (a .s) (omega arith)))
+
+pub count-below-spec : {M : Type 1} → statement M
+count-below-spec =
+    tie.close
+    (tie.spec
+    returns
+    sub-t
+    half-requires
+    add-end
+    mul-count-layer
+    sub-count-layer
+    part-count-layer-start
+    part-count-layer-end
+    add-count-layer
+    count-layer-requires
+    returns-2)

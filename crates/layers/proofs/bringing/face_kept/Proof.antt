@@ -1,0 +1,145 @@
+-- The halves are lent, and the vertices of the layer. Assumes nothing.
+use Prim.Native.Nat.{_*_}
+use mathlib.Core.Path.{sym}
+use native.Mathlib.Omega.{arith}
+use lib.ListN.{length}
+use lib.Seq.{length-take-le}
+use Rattle.layers.specs.Offer.{before}
+use Rattle.layers.proofs.Cells.{Within, within-half}
+use Rattle.layers.proofs.Brought.{lower-layers, standing-lent, edges-lent, under-corner, faces-put}
+use borrow.Author.Needs.{needs}
+use Rattle.layers.proofs.bringing.face_kept.Statement.{statement}
+use Rattle.layers.proofs.bringing.face_kept.Tie as tie
+
+-- ---- the places of the two halves
+
+abbrev entry-of : tie.After-half → tie.Start
+entry-of c = c .before .before .before .before .before .before .before .before .before
+
+ends : (c : tie.After-half) → Within (entry-of c .args .s .block) (c .half .result) (length (entry-of c .args .layer .now))
+ends c = let s = entry-of c in within-half (s .pre .0) (before (s .args .s)) (c .half .ensures)
+
+under-ends : (c : tie.After-half2) → Within (entry-of (c .before) .args .s .block) (c .half2 .result) (length (entry-of (c .before) .args .layer .now))
+under-ends c = let s = entry-of (c .before) in within-half (s .pre .0) (s .args .s .taken) (c .half2 .ensures)
+
+-- ---- the needs
+
+sub-t : tie.Need-sub-t
+sub-t c = search needs
+
+half-requires : tie.Need-half-requires
+half-requires c κs = search needs
+
+add-end : tie.Need-add-end
+add-end c = ends c .end-fits
+
+half-requires-2 : tie.Need-half-requires-2
+half-requires-2 c κs = search needs
+
+add-under-end : tie.Need-add-under-end
+add-under-end c = under-ends c .end-fits
+
+mul-last : tie.Need-mul-last
+mul-last c = let s = entry-of (c .before) in let h = s .pre .1 .1 .1 .0 .0 in search needs
+
+mul-face-layer : tie.Need-mul-face-layer
+mul-face-layer c = ends (c .before) .bytes-fit
+
+sub-face-layer : tie.Need-sub-face-layer
+sub-face-layer c = search needs
+
+part-face-layer-start : tie.Need-part-face-layer-start
+part-face-layer-start c = search needs
+
+part-face-layer-end : tie.Need-part-face-layer-end
+part-face-layer-end c = omega (arith, entry-of (c .before) .pre .0 .kept, ends (c .before) .inside)
+
+add-face-layer : tie.Need-add-face-layer
+add-face-layer c = search needs
+
+slice-aggregate-face-layer : tie.Need-slice-aggregate-face-layer
+slice-aggregate-face-layer c = let s = entry-of (c .before .before .before .before) in sym (length-take-le (3 * s .args .count) (s .args .cells .now) (s .pre .1 .1 .1 .0 .0))
+
+mul-face-layer-2 : tie.Need-mul-face-layer-2
+mul-face-layer-2 c = ends (c .before .before .before .before) .bytes-fit
+
+sub-face-layer-2 : tie.Need-sub-face-layer-2
+sub-face-layer-2 c = search needs
+
+part-face-layer-start-2 : tie.Need-part-face-layer-start-2
+part-face-layer-start-2 c = search needs
+
+part-face-layer-end-2 : tie.Need-part-face-layer-end-2
+part-face-layer-end-2 c = let h = c .before .before .before .before in omega (arith, entry-of h .pre .1 .1 .0, ends h .inside)
+
+slice-aggregate-face-layer-2 : tie.Need-slice-aggregate-face-layer-2
+slice-aggregate-face-layer-2 c = let s = entry-of (c .before .before .before .before .before .before) in sym
+    (length-take-le (3 * s .args .count) (s .args .positions .now) (s .pre .1 .1 .1 .0 .1))
+
+mul-face-layer-3 : tie.Need-mul-face-layer-3
+mul-face-layer-3 c = under-ends (c .before .before .before .before .before) .bytes-fit
+
+sub-face-layer-3 : tie.Need-sub-face-layer-3
+sub-face-layer-3 c = search needs
+
+part-face-layer-start-3 : tie.Need-part-face-layer-start-3
+part-face-layer-start-3 c = search needs
+
+part-face-layer-end-3 : tie.Need-part-face-layer-end-3
+part-face-layer-end-3 c = let h = c .before .before .before .before .before in omega (arith, entry-of (h .before) .pre .1 .1 .0, under-ends h .inside)
+
+face-layer-requires : tie.Need-face-layer-requires
+face-layer-requires c κs =
+    let u = c .before .before .before .before .before .before .before in
+    let h = u .before in
+    let s = entry-of h in
+    let p = s .pre in
+    let e = h .half .ensures in (
+      lower-layers (p .0) (p .1 .0) e,
+      (
+        standing-lent (p .0) (p .1 .0) e (s .args .map .now) (p .1 .1 .1 .1 .0),
+        (λ _. under-corner (p .0) (p .1 .0) e (u .half2 .ensures) (s .args .map .now) (p .1 .1 .0), omega (arith, edges-lent (p .0) (p .1 .0) e, p .1 .1 .1 .1 .1)),
+      ),
+    )
+
+same-length : tie.Need-same-length
+same-length c = search needs
+
+returns : tie.Need-returns
+returns c =
+    let u = c .before .before .before .before .before .before .before .before .before .before in
+    let h = u .before in
+    let s = entry-of h in
+    let a = s .args in
+    let p = s .pre in
+    faces-put (p .0) (p .1 .0) (h .half .ensures) (u .half2 .ensures) (a .map .now) (p .1 .1 .0) (a .first .here) (a .first .below) (a .kept .now) (a .indices .now)
+    (c .before .before .face-layer .ensures .0)
+
+pub face-kept-spec : {M : Type 1} → statement M
+face-kept-spec =
+    tie.close
+    (tie.spec
+    sub-t
+    half-requires
+    add-end
+    half-requires-2
+    add-under-end
+    mul-last
+    mul-face-layer
+    sub-face-layer
+    part-face-layer-start
+    part-face-layer-end
+    add-face-layer
+    slice-aggregate-face-layer
+    mul-face-layer-2
+    sub-face-layer-2
+    part-face-layer-start-2
+    part-face-layer-end-2
+    slice-aggregate-face-layer-2
+    mul-face-layer-3
+    sub-face-layer-3
+    part-face-layer-start-3
+    part-face-layer-end-3
+    face-layer-requires
+    same-length
+    returns)

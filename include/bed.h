@@ -29,6 +29,9 @@
 extern "C" {
 #endif
 
+/* The version of this header and of the library that it was made for. */
+#define BED_VERSION "0.1.0"
+
 /* A guard for callers who do not know their thread's floating-point environment. Start-up code that
  * -ffast-math links in, audio and graphics code set flush-to-zero, denormals-are-zero or another rounding
  * direction, and the library would then compute in it: vertices that are not numbers on BED_DONE, a
@@ -125,6 +128,21 @@ enum bed_answer {
  *                    there its corners run counter-clockwise round the edge, x, y, z being right-handed.
  *                    So a sixth of the sum of the triangles' determinants is the bed's volume, not its
  *                    negative, where the mesh is closed.
+ *
+ *                    A face seen from outside the bed, its grid edge coming out of the page at the middle
+ *                    (*), negative behind it. The order of a triangle's three numbers is that of the arrows;
+ *                    the diagonal may run the other way, and a triangle may begin at any of its corners.
+ *
+ *                        d <------- c        along x: to the right y, up z
+ *                        |        / ^        along y: to the right z, up x
+ *                        |     /    |        along z: to the right x, up y
+ *                        |   *      |
+ *                        | /        |        the triangles a b c and a c d
+ *                        v -------> b
+ *                        a
+ *
+ *                    With the negative end before the page the axes are the same and the arrows turn round:
+ *                    seen from behind, which is then outside, they run counter-clockwise again.
  *
  * Out, on every answer:
  *   vertex_count     V, the number of vertices: written on BED_DONE, needed on BED_VERTICES_SHORT and
@@ -284,6 +302,10 @@ enum bed_file_answer {
     BED_FILE_LISTS = 30
 };
 
+/* The number of bytes of the file of a mesh, as a uint64_t: 32 for each vertex, each triangle and the closing
+ * record. */
+#define BED_MESH_FILE_SIZE(vertices, triangles) (UINT64_C(32) * ((uint64_t)(vertices) + (uint64_t)(triangles) + 1))
+
 /* Writes the file of a mesh into lent bytes.
  *
  * In:
@@ -295,7 +317,7 @@ enum bed_file_answer {
  * triangles or more, and else only with BED_FILE_ROOM.
  *
  * Lent for writing:
- *   file             room for the file: 32 * (vertices + triangles + 1) bytes are enough.
+ *   file             room for the file: BED_MESH_FILE_SIZE(vertices, triangles) bytes are enough.
  *
  * Out, on every answer:
  *   byte_count       the number of bytes written; 0 on every answer but BED_FILE_DONE.
@@ -358,6 +380,7 @@ uint32_t bed_read_mesh(
 uint32_t bed_check_mesh(
     const uint8_t *file, size_t file_len,
     uint64_t *vertex_count, uint64_t *triangle_count);
+
 /* Fixtures: rakes, weirs and whatever else stands in a tank, cut out of a grid of distances before it is
  * meshed. The library opens no file; the bytes are lent, as everything else is.
  *
@@ -550,6 +573,46 @@ uint32_t bed_layers_offer(
     uint8_t *crossings, size_t crossings_len,
     uint32_t *indices, size_t indices_len,
     uint64_t *vertex_count, uint64_t *index_count);
+
+/* The name of an answer, as the enumerations above have it; "BED_DONE" for 0, which all of them share, and
+ * "unknown" for a number that no function answers. */
+static inline const char *bed_answer_name(uint32_t answer)
+{
+    switch (answer) {
+    case BED_DONE: return "BED_DONE";
+    case BED_BAD_DIMENSIONS: return "BED_BAD_DIMENSIONS";
+    case BED_BAD_BOX: return "BED_BAD_BOX";
+    case BED_BAD_GRID_LENGTH: return "BED_BAD_GRID_LENGTH";
+    case BED_MAP_SHORT: return "BED_MAP_SHORT";
+    case BED_BAD_DISTANCE: return "BED_BAD_DISTANCE";
+    case BED_VERTICES_SHORT: return "BED_VERTICES_SHORT";
+    case BED_INDICES_SHORT: return "BED_INDICES_SHORT";
+    case BED_LAYERS_FINISHED: return "BED_LAYERS_FINISHED";
+    case BED_PLAN_LIST: return "BED_PLAN_LIST";
+    case BED_PLAN_BOX: return "BED_PLAN_BOX";
+    case BED_FILE_CUT: return "BED_FILE_CUT";
+    case BED_FILE_SUM: return "BED_FILE_SUM";
+    case BED_FILE_KIND: return "BED_FILE_KIND";
+    case BED_FILE_ZERO: return "BED_FILE_ZERO";
+    case BED_FILE_COUNTS: return "BED_FILE_COUNTS";
+    case BED_FILE_INDEX: return "BED_FILE_INDEX";
+    case BED_FILE_NOT_FINITE: return "BED_FILE_NOT_FINITE";
+    case BED_FILE_AFTER: return "BED_FILE_AFTER";
+    case BED_FILE_ROOM: return "BED_FILE_ROOM";
+    case BED_FILE_LISTS: return "BED_FILE_LISTS";
+    case BED_FIXTURE_CUT: return "BED_FIXTURE_CUT";
+    case BED_FIXTURE_KIND: return "BED_FIXTURE_KIND";
+    case BED_FIXTURE_DEEP: return "BED_FIXTURE_DEEP";
+    case BED_FIXTURE_WORD: return "BED_FIXTURE_WORD";
+    case BED_FIXTURE_FLOAT: return "BED_FIXTURE_FLOAT";
+    case BED_FIXTURE_AFTER: return "BED_FIXTURE_AFTER";
+    case BED_VOLUME_THREES: return "BED_VOLUME_THREES";
+    case BED_VOLUME_TOO_MANY: return "BED_VOLUME_TOO_MANY";
+    case BED_VOLUME_OUTSIDE: return "BED_VOLUME_OUTSIDE";
+    case BED_VOLUME_INDEX: return "BED_VOLUME_INDEX";
+    default: return "unknown";
+    }
+}
 
 #ifdef __cplusplus
 }

@@ -1,0 +1,86 @@
+//! Blocks of one grid, meshed on all cores, each by a call of its own.
+
+use crate::failure::Failure;
+use crate::grid::Grid;
+use crate::progress;
+use bed::{Block, Lent, Refusal, SurfaceNetsBuffer};
+use std::sync::atomic::{AtomicBool, AtomicUsize, Ordering};
+use std::sync::{mpsc, Mutex};
+use std::thread;
+use std::time::Instant;
+
+/// What a call needs room for, or why it is refused: 1, 2, 3 or 5. Nothing is lent but a map.
+pub fn counted(grid: &Grid, block: &Block) -> Result<bed::Counts, Refusal> {
+    let mut map = vec![bed::NULL_VERTEX; grid.distances.len()];
+    let mut lent = Lent {
+        stride_to_index: &mut map,
+        ..Lent::default()
+    };
+    let answer = bed::surface_nets_lent(
+        &grid.distances,
+        grid.dims,
+        block.min,
+        block.max,
+        block.max_plane,
+        &mut lent,
+    );
+    match answer {
+        Err(Refusal::VerticesShort(needed) | Refusal::IndicesShort(needed)) => Ok(needed),
+        other => other,
+    }
+}
+
+/// Meshes every block and hands each mesh to `after`, with the block's place; what that gives back comes in the blocks'
+/// order. The first failure in that order, of those that came about, ends it. `place` names a block in words.
+pub fn mesh_all<T: Send>(
+    grid: &Grid,
+    blocks: &[Block],
+    place: impl Fn(usize) -> String + Sync,
+    after: impl Fn(usize, &SurfaceNetsBuffer) -> Result<T, Failure> + Sync,
+) -> Result<Vec<T>, Failure> {
+    let one = |number: usize, buffer: &mut SurfaceNetsBuffer| {
+        let Block {
+            min,
+            max,
+            max_plane,
+        } = blocks[number];
+        bed::surface_nets(&grid.distances, grid.dims, min, max, max_plane, buffer)
+            .map_err(|refusal| Failure::refused(place(number), refusal.number(), refusal))?;
+        after(number, buffer)
+    };
+    let next = AtomicUsize::new(0);
+    let failed = AtomicBool::new(false);
+    let results: Vec<_> = blocks.iter().map(|_| Mutex::new(None)).collect();
+    let work = |reports: mpsc::Sender<u64>| {
+        let mut buffer = SurfaceNetsBuffer::default();
+        while !failed.load(Ordering::Relaxed) {
+            let number = next.fetch_add(1, Ordering::Relaxed);
+            let Some(slot) = results.get(number) else {
+                break;
+            };
+            let result = one(number, &mut buffer);
+            if result.is_err() {
+                failed.store(true, Ordering::Relaxed);
+            }
+            *slot.lock().expect("no worker panics") = Some(result);
+            // Nobody listens once the display is done.
+            let _ = reports.send(buffer.positions.len() as u64);
+        }
+    };
+    let cores = thread::available_parallelism().map_or(1, usize::from);
+    let start = Instant::now();
+    thread::scope(|scope| {
+        let (sender, reports) = mpsc::channel();
+        for _ in 0..cores.min(blocks.len()) {
+            let sender = sender.clone();
+            scope.spawn(|| work(sender));
+        }
+        drop(sender);
+        progress::show(reports, blocks.len(), start);
+    });
+    // After a failure the blocks that no worker came to have no result.
+    let results = results
+        .into_iter()
+        .filter_map(|slot| slot.into_inner().expect("no worker panics"));
+    results.collect()
+}

@@ -1,0 +1,56 @@
+//! The volume of a mesh of any number of triangles, from calls that each take at most 16,384.
+
+use crate::mesh::Lists;
+use bed::VolumeError;
+
+const INDICES_IN_A_CALL: usize = 3 * 16_384;
+
+/// Six times the volume in cubed steps of 1/256, added up here from the library's answers. Each is at most 2^60, so
+/// that 128 bits hold every sum.
+pub fn sixfold(lists: &Lists) -> Result<i128, VolumeError> {
+    let first = lists.indices.len().min(INDICES_IN_A_CALL);
+    let (head, rest) = lists.indices.split_at(first);
+    // A mesh without triangles is one call too: its positions may be outside.
+    let mut sum = i128::from(bed::volume(lists.positions, head)?);
+    for part in rest.chunks(INDICES_IN_A_CALL) {
+        sum += i128::from(bed::volume(lists.positions, part)?);
+    }
+    Ok(sum)
+}
+
+/// A six-fold sum in cubed grid steps, to three places, the rest left off.
+pub fn in_grid_steps(sixfold: i128) -> String {
+    const CUBED_STEP: u128 = 6 * 256 * 256 * 256;
+    let sign = if sixfold < 0 { "-" } else { "" };
+    let size = sixfold.unsigned_abs();
+    let thousandths = size % CUBED_STEP * 1000 / CUBED_STEP;
+    format!("{sign}{}.{thousandths:03}", size / CUBED_STEP)
+}
+
+#[cfg(test)]
+mod tests {
+    use super::*;
+
+    #[test]
+    fn parts_add_up() {
+        let positions = [0.0, 0.0, 0.0, 1.0, 0.0, 0.0, 0.0, 1.0, 0.0, 0.0, 0.0, 1.0];
+        let tetrahedron = [0, 2, 1, 0, 1, 3, 0, 3, 2, 1, 2, 3];
+        for times in [0, 1, 4096, 4097, 9000] {
+            let indices = tetrahedron.repeat(times);
+            let lists = Lists {
+                positions: &positions,
+                normals: &positions,
+                indices: &indices,
+                crossings: None,
+            };
+            assert_eq!(sixfold(&lists), Ok(times as i128 * 256 * 256 * 256));
+        }
+    }
+
+    #[test]
+    fn in_words() {
+        assert_eq!(in_grid_steps(0), "0.000");
+        assert_eq!(in_grid_steps(6 * 256 * 256 * 256), "1.000");
+        assert_eq!(in_grid_steps(-256 * 256 * 256), "-0.166");
+    }
+}

@@ -1,0 +1,282 @@
+"""commands FOLDER: runs each command of `bed` on good and bad files, FOLDER being that of scripts/make-tank, and compares what it
+writes with plain readings of document 02. BED names the command."""
+import glob
+import os
+import pty
+import random
+import re
+import signal
+import subprocess
+import sys
+import time
+
+from common import *
+
+TANK = os.path.abspath(sys.argv[1])
+HERE = os.path.dirname(os.path.realpath(__file__))
+enter_folder()
+SIDE = 12
+BALL = ball_grid(SIDE, 5.5, 4)
+BALL_FILE = put("ball.npy", npy(floats(BALL), (SIDE,) * 3))
+
+
+def refused(number, *words, name):
+    """the run is refused by the library, names the file and writes nothing"""
+    before = sorted(os.listdir("."))
+    status, output, errors = bed(*words)
+    expect(f"{words} is refused {number}", status == 1 and output == "" and f"{name}: refused {number}: " in errors)
+    expect(f"{words} writes nothing", sorted(os.listdir(".")) == before)
+
+
+def wrong(*words, says=""):
+    before = sorted(os.listdir("."))
+    status, output, errors = bed(*words)
+    expect(f"{words} is wrong use: {status} {errors}", status == 2 and output == "" and errors.startswith("bed: ") and says in errors)
+    expect(f"{words} writes nothing", sorted(os.listdir(".")) == before)
+
+
+def helps():
+    version = bed("--version")[1]
+    source = open(f"{HERE}/../../include/bed.h").read()
+    expect("one version", version == f"bed {re.search('BED_VERSION .(.*).$', source, re.M)[1]}\n")
+    expect("python's version", f'VERSION = "{version[4:-1]}"' in open(f"{HERE}/../../python/bed.py").read())
+    expect("rust's version", f'version = "{version[4:-1]}"' in open(f"{HERE}/../../rust/Cargo.toml").read())
+    expect("help", bed("--help")[0] == 0)
+    for command in "survey mesh info volume ply plan cut".split():
+        status, output, errors = bed(command, "--help")
+        expect(f"{command} --help", status == 0 and output.startswith(f"bed {command} ") and errors == "")
+        expect(f"{command} in the help", f"bed {command} " in bed("--help")[1])
+        expect(f"{command} --version", bed(command, "--version")[:2] == (0, version))
+
+
+def uses():
+    wrong()
+    wrong("dig", says="dig")
+    wrong("mesh", BALL_FILE, says="-o")
+    wrong("mesh", "-o", "out.mesh")
+    wrong("mesh", BALL_FILE, "-o")
+    wrong("mesh", BALL_FILE, "-o", "a", "-o", "b", says="twice")
+    wrong("mesh", BALL_FILE, BALL_FILE, "-o", "out.mesh")
+    wrong("mesh", BALL_FILE, "-o", "out.mesh", "--deep", "3", says="--deep")
+    for corners in ("1,2,3", "0,0,0,1,1,1,1", "0,0,0,1,1,-1", "a,0,0,1,1,1", "", "0,0,0,1,1,4294967296"):
+        wrong("mesh", BALL_FILE, "-o", "out.mesh", "--box", corners, says="--box")
+    for letters in ("w", "xx", "xyzx", ""):
+        wrong("mesh", BALL_FILE, "-o", "out.mesh", "--max-plane", letters, says="--max-plane")
+    wrong("mesh", "none.npy", "-o", "out.mesh", says="none.npy: ")
+    wrong("mesh", BALL_FILE, "-o", "none/out.mesh", says="none/out.mesh: ")
+    wrong("mesh", BALL_FILE, "-o", "/dev/null", says="no plain file")
+    wrong("mesh", BALL_FILE, "-o", ".", says="no plain file")
+    wrong("mesh", BALL_FILE, "-o", "./ball.npy", says="written over")
+    wrong("mesh", BALL_FILE, "-o", "a.mesh", "--ply", "a.mesh", says="one file")
+    wrong("info", "none.mesh", says="none.mesh: ")
+    wrong("mesh", BALL_FILE, "-o", "out.mesh", "--type", "int8", says="--dims")
+
+
+def grids():
+    status, output, errors = bed("mesh", BALL_FILE, "-o", "ball.mesh", "--ply", "ball.ply")
+    good = got("ball.mesh")
+    positions, normals, triangles = mesh_file(good)
+    expect("mesh", (status, output, errors) == (0, f"vertices {len(positions)} triangles {len(triangles)}\n", ""))
+    expect("info", bed("info", "ball.mesh") == (0, output, ""))
+    raw = {"<f4": ("float32", floats(BALL)), "<i2": ("int16", struct.pack(f"<{len(BALL)}h", *BALL)),
+           "|i1": ("int8", struct.pack(f"<{len(BALL)}b", *BALL))}
+    for kind, (name, numbers) in raw.items():
+        put("in.npy", npy(numbers, (SIDE,) * 3, kind))
+        expect(f"{name} as .npy", bed("mesh", "in.npy", "-o", "out.mesh")[0] == 0 and got("out.mesh") == good)
+        put("in.raw", numbers)
+        bed("mesh", "in.raw", "-o", "out.mesh", "--dims", f"{SIDE},{SIDE},{SIDE}", "--type", name, "--ply", "out.ply")
+        expect(f"{name} raw", got("out.mesh") == good and got("out.ply") == got("ball.ply"))
+    # x is innermost: dimensions that differ, and a box
+    slab = [x + 10 * y - 13 * z + 1 for z in range(5) for y in range(4) for x in range(3)]
+    put("slab.npy", npy(floats(slab), (3, 4, 5)))
+    put("slab.raw", floats(slab))
+    bed("mesh", "slab.npy", "-o", "one.mesh", "--max-plane", "xyz")
+    bed("mesh", "slab.raw", "-o", "two.mesh", "--dims", "3,4,5", "--box", "0,0,0,2,3,4", "--max-plane", "zxy")
+    expect("dimensions", len(got("one.mesh")) > 320 and got("one.mesh") == got("two.mesh"))
+    long = b"\x93NUMPY\x02\x00" + struct.pack("<I", 80) + npy(b"", (SIDE,) * 3)[10:-1].ljust(79) + b"\n" + floats(BALL)
+    put("long.npy", long)
+    expect("a .npy of version 2", bed("mesh", "long.npy", "-o", "out.mesh")[0] == 0 and got("out.mesh") == good)
+    for words, content in (("big-endian", npy(floats(BALL), (SIDE,) * 3, ">f4")), ("float64", npy(floats(BALL), (SIDE,) * 3, "<f8")),
+                           ("Fortran order", npy(floats(BALL), (SIDE,) * 3, order="True")), ("two dimensions", npy(b"", (1, 1, 1), shape="(1, 1)")),
+                           ("no .npy", floats(BALL)), ("empty", b""), ("cut in the header", npy(b"", (1, 1, 1))[:20]),
+                           ("half a number", npy(floats(BALL)[:-1], (SIDE,) * 3))):
+        put("bad.npy", content)
+        wrong("mesh", "bad.npy", "-o", "out.mesh", says="bad.npy: ")
+    whole = (SIDE,) * 3
+    for number, content, more in (
+            (1, npy(b"", (0, 1, 1)), ()), (2, npy(floats(BALL), whole), ("--box", "0,0,0,12,1,1")),
+            (2, npy(floats(BALL), whole), ("--box", "3,0,0,2,1,1")), (3, npy(floats(BALL[1:]), whole), ()),
+            (3, npy(floats(BALL + [0]), whole), ()), (5, npy(floats(BALL[1:] + [float("nan")]), whole), ())):
+        put("bad.npy", content)
+        refused(number, "mesh", "bad.npy", "-o", "out.mesh", *more, name="bad.npy")
+        expect("the old file stays", got("out.mesh") == good)
+        if number != 2:
+            refused(number, "survey", "bad.npy", "-o", "out.mesh", name="bad.npy")
+        if number in (1, 3):
+            refused(number, "cut", f"{TANK}/rake.fixtures", "bad.npy", "-o", "never.npy", name="bad.npy")
+
+
+def files():
+    good = got("ball.mesh")
+    positions, normals, triangles = mesh_file(good)
+    for length in sorted({0, 1, 31, 32, 33, len(good) - 32, len(good) - 1} | {random.randrange(len(good)) for _ in range(40)}):
+        put("cut.mesh", good[:length])
+        refused(21, "info", "cut.mesh", name="cut.mesh")
+    put("cut.mesh", good + b"\0")
+    refused(28, "volume", "cut.mesh", name="cut.mesh")
+    refused(28, "ply", "cut.mesh", "never.ply", name="cut.mesh")
+    expect("volume", bed("volume", "ball.mesh")[1].startswith(f"sixfold {sixfold(positions, triangles)} volume "))
+    expect("ply", bed("ply", "ball.mesh", "again.ply") == (0, "", ""))
+    names, vertices, faces = ply_file(got("again.ply"))
+    expect("ply of a file", names == "x y z nx ny nz".split() and faces == triangles)
+    expect("its numbers", vertices == [p + n for p, n in zip(positions, normals)])
+    names, vertices, faces = ply_file(got("ball.ply"))
+    expect("ply of a call", names == "x y z nx ny nz crossings".split() and faces == triangles)
+    expect("its crossings", [v[:6] for v in vertices] == [p + n for p, n in zip(positions, normals)]
+           and {v[6] for v in vertices} <= {3, 4, 5, 6, 7, 8, 9, 12})
+    os.symlink("ball.mesh", "link.mesh")
+    bed("mesh", BALL_FILE, "-o", "link.mesh", "--box", "0,0,0,6,11,11")
+    expect("a link stays one", os.path.islink("link.mesh") and got("ball.mesh") != good)
+    put("ball.mesh", good)
+
+
+def fixtures():
+    low, high = (3.0, 2.5, 4.0), (8.0, 9.0, 20.0)
+    put("box.fixtures", struct.pack("<I6fI", 1, *low, *high, 0))
+    expect("cut", bed("cut", "box.fixtures", BALL_FILE, "-o", "cut.npy") == (0, "", ""))
+    wanted = []
+    for place, old in enumerate(BALL):
+        point = place % SIDE, place // SIDE % SIDE, place // SIDE ** 2
+        value = max(max(l - p, p - h) for l, p, h in zip(low, point, high))
+        wanted.append(max(-value, old))
+    content = got("cut.npy")
+    expect("the cut grid", content[-4 * len(BALL):] == floats(wanted) and (len(content) - 4 * len(BALL)) % 64 == 0)
+    bed("mesh", "cut.npy", "-o", "one.mesh")
+    bed("survey", BALL_FILE, "--fixtures", "box.fixtures", "-o", "two.mesh")
+    expect("cut and meshed at once", got("one.mesh") == got("two.mesh") != got("ball.mesh"))
+    put("empty.fixtures", b"")
+    refused(51, "cut", "empty.fixtures", BALL_FILE, "-o", "never.npy", name="empty.fixtures")
+    refused(51, "survey", BALL_FILE, "--fixtures", "empty.fixtures", "-o", "never.mesh", name="empty.fixtures")
+    wrong("survey", BALL_FILE, "--fixtures", "none.fixtures", "-o", "never.mesh", says="none.fixtures")
+
+
+def plans():
+    whole, lower, upper = "0 0 0 11 11 11 -", "0 0 0 6 11 11 -", "5 0 0 11 11 11 -"
+
+    def plan(*lines):
+        return put("a.plan", "\n".join(lines).encode())
+
+    expect("yes", bed("plan", plan(whole, lower, upper), BALL_FILE)[1].startswith("plan yes blocks 2\n"))
+    for lines in ((whole, lower), (whole, lower, upper, upper), (whole, lower, upper.replace("-", "x")), (whole,)):
+        before = sorted(os.listdir("."))
+        for words in (("plan", plan(*lines), BALL_FILE), ("survey", BALL_FILE, "--plan", "a.plan", "-o", "never.mesh")):
+            status, output, errors = bed(*words)
+            expect(f"{lines} is no plan", (status, output) == (1, "") and "a.plan: no plan" in errors)
+        expect("nothing is written", sorted(os.listdir(".")) == before)
+    plan("# tank", whole, "", lower, "5 0 0 11 11 xyz  # a number is missing")
+    wrong("plan", "a.plan", BALL_FILE, says="a.plan, line 5: ")
+    wrong("survey", BALL_FILE, "--plan", "a.plan", "-o", "never.mesh", says="a.plan, line 5: ")
+    refused(41, "plan", plan(whole, *[lower] * 201), BALL_FILE, name="a.plan")
+    refused(42, "plan", plan(whole, "3 0 0 2 11 11 -"), BALL_FILE, name="a.plan")
+    refused(42, "plan", plan(whole, "0 0 0 16777217 11 11 -"), BALL_FILE, name="a.plan")
+    # a plan, but one block lies outside the grid: it is named by its line
+    plan(whole, lower, "# flat, and outside", "0 0 0 0 0 40 -", upper)
+    refused(2, "plan", "a.plan", BALL_FILE, name="the block of a.plan, line 4")
+    refused(2, "survey", BALL_FILE, "--plan", "a.plan", "-o", "never.mesh", name="the block of a.plan, line 4")
+    refused(2, "plan", plan("0 0 0 12 11 11 -", lower, "5 0 0 12 11 11 -"), BALL_FILE, name="the whole")
+
+
+def page(*words):
+    status, output, errors = bed("survey", *words)
+    expect(f"survey {words}: {errors}", status == 0 and errors == "")
+    return dict(line.split(": ", 1) for line in output.split("\n") if line and line[0] != " "), output
+
+
+def surveys():
+    grid, plan, rake = (f"{TANK}/{name}" for name in ("tank.npy", "tank.plan", "rake.fixtures"))
+    one, text = page(grid, "--fixtures", rake, "-o", "tank.mesh")
+    whole = mesh_file(got("tank.mesh"))
+    weight = sixfold(whole[0], whole[2])
+    expect("more than one call", len(whole[2]) > 16384 and "not proved: the sum of several calls" in text)
+    expect("the whole's volume", one["volume"].endswith(f" {weight}") and weight > 0)
+    expect("no hole", one["hole"].startswith("none"))
+    sides = {}
+    for a, b, c in whole[2]:
+        for side in ((a, b), (b, c), (c, a)):
+            sides[side] = sides.get(side, 0) + 1
+    expect("none is counted", all(count == sides.get(side[::-1], 0) for side, count in sides.items()))
+    two, text = page(grid, "--plan", plan, "--fixtures", rake, "-o", "block.mesh")
+    names = sorted(glob.glob("block.*"))
+    expect("two hundred blocks", names == [f"block.{number:03}.mesh" for number in range(1, 201)] and "yes, 200 blocks" in two["plan"])
+    blocks = [mesh_file(got(name)) for name in names]
+    expect("the blocks' volume", two["volume"] == one["volume"])
+    expect("the blocks' own sums", sum(sixfold(p, t) for p, _, t in blocks) == weight)
+    together = sorted(face for p, _, t in blocks for face in shown(p, t))
+    expect("the blocks' triangles are the whole's", together == shown(whole[0], whole[2]))
+    expect("as many triangles", "counted: as many triangles as the whole needs" in text)
+    # open, outside the volume's bounds, and empty
+    put("open.npy", npy(floats([z - 1.5 for z in range(4) for _ in range(16)]), (4, 4, 4)))
+    one, text = page("open.npy", "-o", "open.mesh")
+    expect("an open bed", one["hole"].startswith("not ruled out") and one["volume"].startswith("none is told"))
+    far = [1.0] * (140 * 5 * 5)
+    far[136 + 140 * (2 + 5 * 2)] = -1.0
+    put("far.npy", npy(floats(far), (140, 5, 5)))
+    one, text = page("far.npy", "-o", "far.mesh")
+    expect("outside the bounds", one["volume"] == "refused 63" and one["hole"].startswith("none"))
+    refused(63, "volume", "far.mesh", name="far.mesh")
+    put("none.plan", b"0 0 0 0 0 0 -\n")
+    one, text = page(BALL_FILE, "--plan", "none.plan", "-o", "empty.mesh")
+    expect("a plan without blocks", one["files"].startswith("none") and one["mesh"] == "0 vertices, 0 triangles")
+
+
+def stopped_run(reader, writer):
+    """what a survey writes to this error stream, and whether it was stopped amid its blocks, for more than a second"""
+    words = [BED, "survey", f"{TANK}/tank.npy", "--plan", f"{TANK}/tank.plan", "-o", "block.mesh"]
+    run = subprocess.Popen(words, stdout=subprocess.DEVNULL, stderr=writer)
+    os.close(writer)
+    while run.poll() is None and not glob.glob("*.part"):
+        time.sleep(0.001)
+    stopped = False
+    if run.poll() is None:
+        run.send_signal(signal.SIGSTOP)
+        time.sleep(1.2)
+        stopped = 0 < len(glob.glob("*.part")) < 150
+        run.send_signal(signal.SIGCONT)
+    seen = b""
+    try:
+        while piece := os.read(reader, 4096):
+            seen += piece
+    except OSError:  # so a terminal ends
+        pass
+    expect("surveyed", run.wait() == 0)
+    return seen, stopped
+
+
+def progress():
+    """on a terminal, once a second has passed; none in a pipe"""
+    seen, stopped = stopped_run(*pty.openpty())
+    if stopped:
+        expect(f"progress on a terminal: {seen}", re.search(rb"\r\d+ of 200 blocks, \d+ vertices", seen) and seen.endswith(b"\r\x1b[K"))
+    else:
+        print("progress: the run was too quick to be stopped amid its blocks, skipped")
+    seen, _ = stopped_run(*os.pipe())
+    expect("none in a pipe", seen == b"")
+    reader, writer = pty.openpty()
+    subprocess.run([BED, "mesh", BALL_FILE, "-o", "out.mesh"], stdout=subprocess.DEVNULL, stderr=writer)
+    os.set_blocking(reader, False)
+    try:
+        expect("none where the work is short", os.read(reader, 4096) == b"")
+    except OSError:
+        pass
+
+
+helps()
+uses()
+grids()
+files()
+fixtures()
+plans()
+surveys()
+progress()
+expect("no part is left", glob.glob("*.part") == [])
+finish("commands: all as it should be")

@@ -1,0 +1,185 @@
+"""python_face: tries python/bed.py, by ctypes, on NumPy arrays where NumPy is there and on plain buffers, and holds the winding of
+every face against the drawing in include/bed.h. BED_SHARED names libbed.so; PYTHONPATH has python/."""
+import array
+import ctypes
+import platform
+import random
+import struct
+import sys
+
+import bed
+
+random.seed(3)
+failures = []
+
+
+def expect(what, holds):
+    if not holds:
+        failures.append(what)
+        print(f"NOT SO: {what}")
+
+
+def refused(number, function, *words, **more):
+    try:
+        function(*words, **more)
+        expect(f"{function.__name__} is refused {number}", False)
+    except bed.Refused as refusal:
+        expect(f"{function.__name__} is refused {number}, not {refusal}", refusal.number == number)
+
+
+def wrong(function, *words, **more):
+    try:
+        function(*words, **more)
+        expect(f"{function.__name__}{words} is of a wrong type", False)
+    except TypeError:
+        pass
+
+
+def rows(matrix):
+    return [tuple(row) for row in matrix.tolist()]
+
+
+def ball():
+    grid = array.array("f", [1.0] * 27)
+    grid[13] = -1.0
+    mesh = bed.surface_nets(grid, dims=(3, 3, 3))
+    expect("document 01's Ball", (mesh.positions.shape, mesh.indices.tolist()) ==
+           ((8, 3), [2, 1, 0, 2, 3, 1, 1, 4, 0, 1, 5, 4, 4, 2, 0, 4, 6, 2]))
+    expect("its map", [n for n in mesh.stride_to_index.tolist() if n != bed.NO_VERTEX] == list(range(8)))
+    expect("its strides", mesh.strides.tolist() == [0, 1, 3, 4, 9, 10, 12, 13])
+    expect("its cells", rows(mesh.cells)[5] == (1, 0, 1))
+    expect("its crossings", mesh.crossings.tolist() == [3] * 8)
+    expect("with max plane", len(bed.surface_nets(grid, (3, 3, 3), max_plane=(True,) * 3).indices) == 36)
+    expect("nothing", bed.surface_nets(array.array("f", [1.0] * 27), (3, 3, 3)).positions.shape[0] == 0)
+    file = bed.write_mesh(mesh)
+    again = bed.read_mesh(file)
+    expect("the file", len(file) == 32 * 15 and bed.check_mesh(file) == (8, 6))
+    expect("read back", rows(again.positions) == rows(mesh.positions) and again.indices.tolist() == mesh.indices.tolist()
+           and rows(again.normals) == rows(mesh.normals))
+    refused(21, bed.read_mesh, file[:-1])
+    refused(21, bed.check_mesh, b"")
+    refused(28, bed.check_mesh, file + b"\0")
+    refused(3, bed.surface_nets, grid, dims=(3, 3, 4))
+    refused(1, bed.surface_nets, grid, dims=(0, 3, 3))
+    refused(2, bed.surface_nets, grid, dims=(3, 3, 3), max=(3, 2, 2))
+    refused(5, bed.surface_nets, array.array("f", [float("nan")]), dims=(1, 1, 1))
+    refused(61, bed.volume, array.array("f", [0.0]), array.array("I"))
+    wrong(bed.surface_nets, grid)
+    wrong(bed.surface_nets, array.array("d", [1.0] * 27), dims=(3, 3, 3))
+    wrong(bed.cut_fixtures, b"", bytes(108), dims=(3, 3, 3))
+    wrong(bed.cut_fixtures, b"", array.array("h", [1] * 27), dims=(3, 3, 3))
+    whole = [1 if n != 13 else -1 for n in range(27)]
+    for kind in "hb":
+        other = bed.surface_nets(array.array(kind, whole), dims=(3, 3, 3))
+        expect(f"numbers of {kind}", rows(other.positions) == rows(mesh.positions))
+    expect("a buffer that is only read", rows(bed.surface_nets(memoryview(grid.tobytes()).cast("f"), (3, 3, 3)).positions) == rows(mesh.positions))
+    inside = array.array("f", [1.0] * 64)
+    inside[21] = -1.0
+    expect("enclosed", bed.is_enclosed(inside, (4, 4, 4)) and not bed.is_enclosed(inside, (4, 4, 4), max=(2, 2, 2)))
+    closed = bed.surface_nets(inside, (4, 4, 4))
+    expect("the volume of a single point", bed.volume(closed.positions, closed.indices) == 6 * 85 ** 3)
+
+
+def fixtures_and_plans():
+    grid = array.array("f", [-0.75] * 64)
+    file = struct.pack("<I6fI", 1, 1, 1, 1, 2, 2, 2, 0)
+    bed.cut_fixtures(file, grid, (4, 4, 4))
+    expect("fixtures, in their place", (grid[0], grid[21], grid[63]) == (-0.75, 0.0, -0.75))
+    refused(51, bed.cut_fixtures, file[:-1], grid, (4, 4, 4))
+    whole = bed.Block(max=(6, 4, 4))
+    lower, upper = bed.Block(max=(4, 4, 4)), bed.Block((3, 0, 0), (6, 4, 4))
+    expect("a block is 28 bytes", ctypes.sizeof(bed.Block) == 28)
+    expect("a plan", bed.check_plan([lower, upper], whole) and not bed.check_plan([lower], whole) and not bed.check_plan([], whole))
+    expect("flags", not bed.check_plan([lower, bed.Block((3, 0, 0), (6, 4, 4), (True, False, False))], whole))
+    refused(41, bed.check_plan, [lower] * 201, whole)
+    refused(42, bed.check_plan, [bed.Block(min=(1, 0, 0))], whole)
+
+
+def winding():
+    """every face of random grids against the drawing of bed.h: the cells of a b c and a c d, seen from outside"""
+    sides = faces = 0
+    for _ in range(40):
+        dims = [random.randrange(3, 7) for _ in range(3)]
+        grid = array.array("f", (random.choice((-1, 1)) * random.uniform(0.1, 3) for _ in range(dims[0] * dims[1] * dims[2])))
+        mesh = bed.surface_nets(grid, tuple(dims), max_plane=(True,) * 3)
+        cells, indices = rows(mesh.cells), mesh.indices.tolist()
+
+        def negative(point):
+            return grid[point[0] + dims[0] * (point[1] + dims[1] * point[2])] < 0
+
+        for at in range(0, len(indices), 6):
+            one, other = indices[at:at + 3], indices[at + 3:at + 6]
+            corners = {cells[index] for index in one + other}
+            axis = next(axis for axis in range(3) if len({corner[axis] for corner in corners}) == 1)
+            low = tuple(max(corner[k] for corner in corners) for k in range(3))
+            high = tuple(low[k] + (k == axis) for k in range(3))
+            right, up = (axis + 1) % 3, (axis + 2) % 3
+            expect("a face of four cells", len(corners) == 4 and negative(low) != negative(high))
+            # triangles that share a diagonal and nothing else; seen from the upper end, counter-clockwise if below is the bed
+            expect("one diagonal", len(set(one) & set(other)) == 2)
+            for triangle in (one, other):
+                a, b, c = (cells[index] for index in triangle)
+                turn = (b[right] - a[right]) * (c[up] - a[up]) - (b[up] - a[up]) * (c[right] - a[right])
+                expect("counter-clockwise seen from outside", turn == (1 if negative(low) else -1))
+            faces += 1
+            sides += negative(low)
+    expect("both ways", 0 < sides < faces)
+    print(f"winding: {faces} faces as they are drawn")
+
+
+def environment():
+    """subnormal distances, with another rounding and, on x86-64, flush-to-zero set: the same bits, and the setting stands again"""
+    mathematics = ctypes.CDLL("libm.so.6")
+    grid = array.array("f", [random.choice((-1, 1)) * random.uniform(1e-40, 3e-39) for _ in range(125)])
+    wanted = bed.surface_nets(grid, (5, 5, 5))
+    usual, other, after = (ctypes.create_string_buffer(256) for _ in range(3))
+    mathematics.fegetenv(usual)
+    mathematics.fegetenv(other)
+    if platform.machine() == "x86_64":
+        # MXCSR stands last in the C library's fenv_t: flush-to-zero, denormals-are-zero, rounding down
+        control = struct.unpack_from("<I", other, 28)[0] & ~0x6000 | 0xA040
+        struct.pack_into("<I", other, 28, control)
+    try:
+        mathematics.fesetenv(other)
+        found = bed.surface_nets(grid, (5, 5, 5))
+        mathematics.fegetenv(after)
+    finally:
+        mathematics.fesetenv(usual)
+    expect("the same bits in another environment", rows(found.positions) == rows(wanted.positions) and len(rows(wanted.positions)) > 20)
+    expect("the caller's environment stands again", after.raw == other.raw)
+
+
+def with_numpy():
+    numpy = bed.numpy
+    if numpy is None:
+        print("NumPy is not there: memoryviews alone are tried")
+        return
+    z, y, x = numpy.mgrid[0:9, 0:10, 0:11]
+    grid = (numpy.sqrt((x - 5) ** 2 + (y - 4.5) ** 2 + (z - 4) ** 2) - 3).astype(numpy.float32)
+    mesh = bed.surface_nets(grid)
+    expect("arrays", isinstance(mesh.positions, numpy.ndarray) and mesh.positions.dtype == numpy.float32 and mesh.indices.dtype == numpy.uint32)
+    expect("the same from a plain buffer", (bed.surface_nets(grid.ravel(), (11, 10, 9)).positions == mesh.positions).all())
+    expect("a shape of z, y, x", (mesh.cells.max(axis=0) < [11, 10, 9]).all() and mesh.cells[:, 0].max() > 6)
+    whole = (grid * 10).round()
+    for kind in (numpy.int16, numpy.int8):
+        expect(f"{kind}", (bed.surface_nets(whole.astype(kind)).positions == bed.surface_nets(whole).positions).all())
+    wrong(bed.surface_nets, grid.astype(numpy.float64))
+    wrong(bed.surface_nets, numpy.asfortranarray(grid))
+    wrong(bed.surface_nets, grid.astype(">f4"))
+    grid.flags.writeable = False
+    expect("an array that is only read", (bed.surface_nets(grid).positions == mesh.positions).all())
+    wrong(bed.cut_fixtures, b"", grid)
+    expect("its file", bed.check_mesh(bed.write_mesh(mesh)) == (len(mesh.positions), len(mesh.indices) // 3))
+    of_the_ball = 4 / 3 * 3.14159 * 27
+    volume = bed.volume(mesh.positions, mesh.indices) / (6 * 256 ** 3)
+    expect(f"its volume {volume}, the ball's own {of_the_ball}", 0.8 * of_the_ball < volume < of_the_ball)
+    print("NumPy arrays are tried")
+
+
+ball()
+fixtures_and_plans()
+winding()
+environment()
+with_numpy()
+print("FAILED" if failures else "bed.py: all as it should be")
+sys.exit(1 if failures else 0)

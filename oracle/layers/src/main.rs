@@ -5,10 +5,11 @@
 //! All is made with a fixed seed. Exit status 0: all agreed, enough was compared and each answer came up.
 
 mod fed;
+#[path = "../../fixtures/src/fenced.rs"]
+mod fenced;
 #[path = "../../compare/src/fields.rs"]
 #[allow(dead_code)]
 mod fields;
-mod guarded;
 mod model;
 #[path = "../../compare/src/random.rs"]
 #[allow(dead_code)]
@@ -51,8 +52,9 @@ fn main() -> ExitCode {
     }
     println!("{layers} layers agree with the whole calls; offers by answer: {answers:?}");
     let mut answers = Answers::new();
+    let mut lent = touched::Lent::new();
     for _ in 0..TOUCHED {
-        if let Err(what) = touched::offer(&mut random, &mut answers) {
+        if let Err(what) = touched::offer(&mut random, &mut lent, &mut answers) {
             println!("touched: {what}");
             return ExitCode::FAILURE;
         }

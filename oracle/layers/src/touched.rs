@@ -1,6 +1,6 @@
 //! State and kept memory touched at random: the call stays within its lists, and every number is the model's.
 
-use crate::guarded::Guarded;
+use crate::fenced::Fenced;
 use crate::model::World;
 use crate::random::Random;
 use crate::Answers;
@@ -78,7 +78,31 @@ fn same_floats(got: &[u32], wanted: &[u32]) -> bool {
     got.len() == wanted.len() && got.iter().zip(wanted).all(|(&a, &b)| alike(a, b))
 }
 
-pub fn offer(random: &mut Random, answers: &mut Answers) -> Result<(), String> {
+/// No list of an offer here is longer than this.
+const MOST: usize = 1024;
+
+/// The lent lists, each against a page that nobody may touch, with marks on its other side.
+pub struct Lent {
+    layer: Fenced<u32>,
+    words: [Fenced<u32>; 8],
+    crossings: Fenced<u8>,
+}
+
+impl Lent {
+    pub fn new() -> Self {
+        Lent {
+            layer: Fenced::new(MOST),
+            words: std::array::from_fn(|_| Fenced::new(MOST)),
+            crossings: Fenced::new(MOST),
+        }
+    }
+}
+
+fn floats(words: &mut [u32]) -> *mut f32 {
+    words.as_mut_ptr().cast()
+}
+
+pub fn offer(random: &mut Random, lent: &mut Lent, answers: &mut Answers) -> Result<(), String> {
     let state = state(random);
     let plane = (state.dims[0].min(5) * state.dims[1].min(5)) as usize;
     let most = near(random, plane);
@@ -106,60 +130,73 @@ pub fn offer(random: &mut Random, answers: &mut Answers) -> Result<(), String> {
     let layer: Vec<f32> = (0..sizes[3]).map(|_| distance(random)).collect();
 
     let mut layers = world.state;
-    let mut distances = Guarded::holding(&world.distances);
-    let mut map = Guarded::holding(&world.map);
-    let mut kept = Guarded::holding(&world.kept);
-    let mut positions = Guarded::holding(&world.positions);
-    let mut normals = Guarded::holding(&world.normals);
-    let mut cells = Guarded::holding(&world.cells);
-    let mut strides = Guarded::holding(&world.strides);
-    let mut crossings = world.crossings.clone();
-    let mut indices = Guarded::holding(&world.indices);
+    let upper = random.one_in(2);
+    let bits: Vec<u32> = layer.iter().map(|x| x.to_bits()).collect();
+    lent.layer.hold(&bits, upper);
+    lent.crossings.hold(&world.crossings, upper);
+    let before = [
+        &world.distances,
+        &world.map,
+        &world.kept,
+        &world.positions,
+        &world.normals,
+        &world.cells,
+        &world.strides,
+        &world.indices,
+    ];
+    for (list, contents) in lent.words.iter_mut().zip(before) {
+        list.hold(contents, upper);
+    }
+    let crossings = lent.crossings.lent();
+    let [distances, map, kept, positions, normals, cells, strides, indices] =
+        lent.words.each_mut().map(|list| list.lent());
+    let offered = lent.layer.lent();
     let (mut v, mut i) = (7, 7);
-    // SAFETY: the pointers and lengths come from slices that stand apart.
+    // SAFETY: the pointers and lengths come from slices that stand apart; every bit pattern is a float.
     let answer = unsafe {
         bed::raw::bed_layers_offer(
             &mut layers,
-            layer.as_ptr(),
-            layer.len(),
-            distances.floats().as_mut_ptr(),
-            distances.floats().len(),
-            map.words().as_mut_ptr(),
-            map.words().len(),
-            kept.floats().as_mut_ptr(),
-            kept.floats().len(),
-            positions.floats().as_mut_ptr(),
-            positions.floats().len(),
-            normals.floats().as_mut_ptr(),
-            normals.floats().len(),
-            cells.words().as_mut_ptr(),
-            cells.words().len(),
-            strides.words().as_mut_ptr(),
-            strides.words().len(),
+            floats(offered),
+            offered.len(),
+            floats(distances),
+            distances.len(),
+            map.as_mut_ptr(),
+            map.len(),
+            floats(kept),
+            kept.len(),
+            floats(positions),
+            positions.len(),
+            floats(normals),
+            normals.len(),
+            cells.as_mut_ptr(),
+            cells.len(),
+            strides.as_mut_ptr(),
+            strides.len(),
             crossings.as_mut_ptr(),
             crossings.len(),
-            indices.words().as_mut_ptr(),
-            indices.words().len(),
+            indices.as_mut_ptr(),
+            indices.len(),
             &mut v,
             &mut i,
         )
     };
     let said = world.offer(&layer);
     *answers.entry(answer).or_default() += 1;
-    let floats = |list: &mut Guarded, wanted: &[u32]| same_floats(list.words(), wanted);
     let agree = [
         (answer, v, i) == (said.answer, said.vertices, said.indices),
         layers == world.state,
-        distances.is(&world.distances),
-        map.is(&world.map),
-        floats(&mut kept, &world.kept),
-        floats(&mut positions, &world.positions),
-        floats(&mut normals, &world.normals),
-        cells.is(&world.cells),
-        strides.is(&world.strides),
-        crossings == world.crossings,
-        indices.is(&world.indices),
-        kept.stands() && positions.stands() && normals.stands(),
+        *offered == *bits,
+        *distances == *world.distances,
+        *map == *world.map,
+        same_floats(kept, &world.kept),
+        same_floats(positions, &world.positions),
+        same_floats(normals, &world.normals),
+        *cells == *world.cells,
+        *strides == *world.strides,
+        *crossings == *world.crossings,
+        *indices == *world.indices,
+        lent.layer.marks_kept() && lent.crossings.marks_kept(),
+        lent.words.iter().all(|list| list.marks_kept()),
     ];
     if agree.iter().all(|&yes| yes) {
         Ok(())

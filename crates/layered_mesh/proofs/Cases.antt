@@ -18,8 +18,8 @@ use Rattle.layer_vertices.specs.Marked.{layerEntry, lastEntry, marked}
 use Rattle.layer_faces.specs.Below.{positionAt, shorterOver, faceOver, indicesOver}
 use Rattle.layers.specs.declared.State.{State}
 use Rattle.layers.specs.Memory.{Memory, memory, badMemory, startAnswer}
-use Rattle.layers.specs.Offer.{Output, output, roomIn, Left, newVertices, runsOn, newIndices, layerAnswer, stateAfter, markedOut, broughtOut, layerKept, leaves}
-use Rattle.layered_mesh.specs.Fed.{Offered, wrote, joinedWith, nothing, begin, Fed, started, taken}
+use Rattle.layers.specs.Offer.{begun, Output, output, roomIn, Left, newVertices, runsOn, newIndices, layerAnswer, stateAfter, markedOut, broughtOut, layerKept, leaves}
+use Rattle.layered_mesh.specs.Fed.{Offered, wrote, joinedWith, nothing, Fed, started, taken}
 
 -- ---- the layers of Ball, and what is lent
 
@@ -73,7 +73,7 @@ case s l m o n v i = record { state = s; layer = l; memory = m; lent = o; wanted
 
 pub cases : List Case
 cases =
-    case (begin ball) flat enough (room 0 0) 0 0 0
+    case (begun ball) flat enough (room 0 0) 0 0 0
     -- dimension 0, and max not below its dimension, before anything else; 8 right after them, before a wrong length and short memory
     ∷ case (at (block (extent 3 0 3) (extent 2 2 2)) 3) [] (keeps 0 0 0) (room 0 0) 1 0 0
     ∷ case (at (block (extent 3 3 3) (extent 2 3 2)) 3) [] (keeps 0 0 0) (room 0 0) 2 0 0
@@ -134,7 +134,7 @@ made s l m o =
     }
 
 abbrev pub first : Offered
-first = made (begin ball) flat enough (room 0 0)
+first = made (begun ball) flat enough (room 0 0)
 
 abbrev pub second : Offered
 second = made (first .next) middle (first .after .memory) (room 4 6)

@@ -32,11 +32,11 @@ use Rattle.grid.specs.Layers.{inLayer}
 use Rattle.grid.proofs.Bounds.{fits, below-length}
 use Rattle.layers.specs.declared.State.{State}
 use Rattle.layers.specs.Memory.{Memory, plane, half, halfOf}
-use Rattle.layers.specs.Offer.{Output, output, roomIn, Left, finished, layerAnswer, stateAfter, leaves}
+use Rattle.layers.specs.Offer.{begun, Output, output, roomIn, Left, finished, layerAnswer, stateAfter, leaves}
 use Rattle.layers.proofs.Halves.{half-again}
 use Rattle.layers.proofs.Judging.{layer-8}
 use Rattle.layers.proofs.Left.{refused-state, refused-left}
-use Rattle.layered_mesh.specs.Fed.{Offered, firstOf, wrote, joinedWith, nothing, mapApart, layerOf, begin, Fed, started, taken, refused, pointsInZ}
+use Rattle.layered_mesh.specs.Fed.{Offered, firstOf, wrote, joinedWith, nothing, mapApart, layerOf, Fed, started, taken, refused, pointsInZ}
 use Rattle.layered_mesh.proofs.Step.{meshOf, meshTo, Shows, Blank, Good, Holds, state-next, left-next, mesh-next, holds-next, state-first, left-first, mesh-first}
 use Rattle.layered_mesh.proofs.Step.{holds-first}
 
@@ -52,7 +52,7 @@ not-so false h = refl
 -- ---- how far a bed is
 
 data Progress (sdf : List Float) (k : Block) : ℕ → State → Memory → Output → Type 0 where
-  none : {m : Memory} → Progress sdf k zero (begin k) m nothing
+  none : {m : Memory} → Progress sdf k zero (begun k) m nothing
   some : {n : ℕ} {s : State} {m : Memory} {out : Output} → s .block ≡ k → s .taken ≡ suc n → Holds sdf s m out → Progress sdf k (suc n) s m out
 
 -- the same after a state, memory and lists that are equal

@@ -40,7 +40,7 @@ use Rattle.whole_box.proofs.Steps.{vertices-more, indices-more, first-more}
 use Rattle.whole_box.proofs.Layer.{first-few}
 use Rattle.layers.specs.declared.State.{State}
 use Rattle.layers.specs.Memory.{Memory, memory, plane, half, halfOf, putHalf}
-use Rattle.layers.specs.Offer.{Output, badPoints, output, withIndices, roomIn, Left, left, before, cellsAt, between, newVertices, newFirst, keptBelow, newIndices, newLists}
+use Rattle.layers.specs.Offer.{begun, Output, badPoints, output, withIndices, roomIn, Left, left, before, cellsAt, between, newVertices, newFirst, keptBelow, newIndices, newLists}
 use Rattle.layers.specs.Offer.{withHalf}
 use Rattle.layers.specs.Offer.{putBack, markedOut, broughtOut, cleared, layerKept, layerAnswer, stateAfter, leaves}
 use Rattle.layers.specs.Ready.{Ready, Roomy}
@@ -49,7 +49,7 @@ use Rattle.layers.proofs.Judging.{flat, flat-points}
 use Rattle.layers.proofs.Cells.{runs-on, vertices-first, vertices-later, indices-first, indices-later, vertices-few}
 use Rattle.layers.proofs.Brought.{entry-number, brought-is, brought-first}
 use Rattle.layers.proofs.Left.{done-accepted, done-roomy, done-vertices, done-indices, done-state, done-left}
-use Rattle.layered_mesh.specs.Fed.{firstOf, joinedWith, nothing, layerOf, begin}
+use Rattle.layered_mesh.specs.Fed.{firstOf, joinedWith, nothing, layerOf}
 use Rattle.layered_mesh.proofs.Agree.{layer-at, layers-agree}
 
 -- ---- a mesh
@@ -404,38 +404,38 @@ module _ (sdf : List Float) (s : State) (layer : List Float) (m : Memory) (o : O
 
 -- ---- the first layer
 
-module _ (sdf : List Float) (k : Block) (layer : List Float) (m : Memory) (o : Output) (e : layerAnswer (begin k) layer m (roomIn m o) .number ≡ 0)
+module _ (sdf : List Float) (k : Block) (layer : List Float) (m : Memory) (o : Output) (e : layerAnswer (begun k) layer m (roomIn m o) .number ≡ 0)
     (el : layer ≡ layerOf sdf k (k .low .z + 0)) where
   abbrev bed : State
-  bed = begin k
+  bed = begun k
 
   one : State
   one = record { block = k; taken = 1; next = 0; first = 0 }
 
-  ready : Roomy (begin k) layer m o
+  ready : Roomy (begun k) layer m o
   ready = done-roomy bed layer m o e
 
-  none-new : newVertices (begin k) layer (m .distances) ≡ []
+  none-new : newVertices (begun k) layer (m .distances) ≡ []
   none-new = vertices-first bed layer (m .distances) refl
 
-  none-faces : newIndices (begin k) layer m ≡ []
+  none-faces : newIndices (begun k) layer m ≡ []
   none-faces = indices-first bed layer m refl
 
-  first-zero : newFirst (begin k) layer (m .distances) ≡ 0
+  first-zero : newFirst (begun k) layer (m .distances) ≡ 0
   first-zero = runs-on 0 (length (newVertices bed layer (m .distances))) (omega (arith, ap length none-new))
 
-  pub state-first : stateAfter (begin k) layer m o ≡ record { block = k; taken = 1; next = 0; first = 0 }
+  pub state-first : stateAfter (begun k) layer m o ≡ record { block = k; taken = 1; next = 0; first = 0 }
   state-first = done-state bed layer m o e ∙ (λ j. record { block = k; taken = 1; next = first-zero j + length (none-new j); first = first-zero j })
 
   abbrev firstMemory : Memory
   firstMemory = memory (putHalf k 0 layer (m .distances)) (cleared k 0 (m .map)) (m .positions)
 
-  pub left-first : leaves (begin k) layer m o ≡ left firstMemory o
+  pub left-first : leaves (begun k) layer m o ≡ left firstMemory o
   unfolding layerKept
   left-first = done-left bed layer m o e
       ∙ ap (λ (l : Left). left (layerKept bed layer (l .memory)) (l .output)) (sym (brought-first bed layer (m .distances) (m .map) (m .positions) o refl))
 
-  pub mesh-first : (a : Answer) → a ≡ layerAnswer (begin k) layer m (roomIn m o) → firstOf (a .vertices) (a .indices) (leaves (begin k) layer m o .output) ≡ nothing
+  pub mesh-first : (a : Answer) → a ≡ layerAnswer (begun k) layer m (roomIn m o) → firstOf (a .vertices) (a .indices) (leaves (begun k) layer m o .output) ≡ nothing
   mesh-first a ea =
       let ev : a .vertices ≡ 0 = ap (λ (t : Answer). t .vertices) ea ∙ done-vertices bed layer m o e ∙ ap length none-new in
       let ei : a .indices ≡ 0 = ap (λ (t : Answer). t .indices) ea ∙ done-indices bed layer m o e ∙ ap length none-faces in

@@ -12,7 +12,7 @@ use Rattle.rules.specs.Call.{Call, Buffers, Answer, flatVectors, flatPoints}
 use Rattle.grid.specs.declared.Block.{Block}
 use Rattle.layers.specs.declared.State.{State}
 use Rattle.layers.specs.Memory.{Memory, lengths, plane, startAnswer}
-use Rattle.layers.specs.Offer.{Output, output, roomIn, Left, layerAnswer, stateAfter, leaves}
+use Rattle.layers.specs.Offer.{begun, Output, output, roomIn, Left, layerAnswer, stateAfter, leaves}
 
 -- ---- an offer as it was made
 
@@ -59,12 +59,9 @@ mapApart s = output (s .positions) (s .normals) (s .cells) (s .strides) (s .cros
 abbrev pub layerOf : List Float → Block → ℕ → List Float
 layerOf sdf k z = take (plane k) (drop (plane k * z) sdf)
 
-abbrev pub begin : Block → State
-begin k = record { block = k; taken = 0; next = 0; first = 0 }
-
 -- n layers of the grid were taken, from min z on; the state and the kept memory are these, and what came out, joined in order, is `out`
 pub data Fed (sdf : List Float) (k : Block) : ℕ → State → Memory → Output → Type 0 where
-  started : (m : Memory) → startAnswer k (lengths m) ≡ 0 → Fed sdf k zero (begin k) m nothing
+  started : (m : Memory) → startAnswer k (lengths m) ≡ 0 → Fed sdf k zero (begun k) m nothing
   taken : {n : ℕ} {s : State} {m : Memory} {out : Output} → Fed sdf k n s m out → (u : Offered) → u .state ≡ s → u .memory ≡ m
       → u .layer ≡ layerOf sdf k (k .low .z + n) → u .says .number ≡ 0 → Fed sdf k (suc n) (u .next) (u .after .memory) (joinedWith out (wrote u))
   refused : {n : ℕ} {s : State} {m : Memory} {out : Output} → Fed sdf k n s m out → (u : Offered) → u .state ≡ s → u .memory ≡ m

@@ -45,6 +45,10 @@ roomIn m o =
       indices = length (o .indices);
     }
 
+-- the state before the first layer
+abbrev pub begun : Block → State
+begun k = record { block = k; taken = 0; next = 0; first = 0 }
+
 -- ---- the cells below the layer offered: "The layer z + 1 brings out all vertices and faces of the cells at z"
 
 -- the number of the layer before it

@@ -7,7 +7,7 @@ pub mod words;
 
 ghost use mathlib.Core.Path.{_≡_};
 ghost use Rattle.judge.specs.AsRules.{answerOf};
-ghost use Rattle.layers.specs.Offer.{left, roomIn, layerAnswer, stateAfter, leaves};
+ghost use Rattle.layers.specs.Offer.{begun, left, roomIn, layerAnswer, stateAfter, leaves};
 ghost use Rattle.layers.specs.Lent.{memoryBefore, memoryAfter, outputBefore, outputAfter};
 use grid::Block;
 use judge::Answer;
@@ -29,7 +29,7 @@ pub struct Offered {
 
 // The state before the first layer.
 pub fn begin(k: Block) -> State
-    ensures { λ r. ⌜ r ≡ record { block = k; taken = 0; next = 0; first = 0 } ⌝ }
+    ensures { λ r. ⌜ r ≡ begun k ⌝ }
 {
     State {
         block: k,

@@ -222,108 +222,86 @@ either : (a b : Bool) → T (a || b) → T a ⊎ T b
 either true b t = inl tt
 either false b t = inr t
 
-pub inside-within : (a w : Region) → T (regionInside a w) → Within (boxOf a) (boxOf w)
-unfolding regionInside
-inside-within a w t p s = go (either E (within) t)
-  where
-    X : Bool
-    X = spanEmpty (a .x)
+-- the tests that a region lies inside another are made of: on each axis whether it is empty, and whether it lies within
+module _ (a w : Region) where
+  abbrev X : Bool
+  X = spanEmpty (a .x)
 
-    Y : Bool
-    Y = spanEmpty (a .y)
+  abbrev Y : Bool
+  Y = spanEmpty (a .y)
 
-    Z : Bool
-    Z = spanEmpty (a .z)
+  abbrev Z : Bool
+  Z = spanEmpty (a .z)
 
-    E : Bool
-    E = (X || Y) || Z
+  abbrev E : Bool
+  E = (X || Y) || Z
 
-    U : Bool
-    U = spanWithin (a .x) (w .x)
+  abbrev U : Bool
+  U = spanWithin (a .x) (w .x)
 
-    V' : Bool
-    V' = spanWithin (a .y) (w .y)
+  abbrev V' : Bool
+  V' = spanWithin (a .y) (w .y)
 
-    W : Bool
-    W = spanWithin (a .z) (w .z)
+  abbrev W : Bool
+  W = spanWithin (a .z) (w .z)
 
-    within : Bool
-    within = (U && V') && W
+  abbrev within : Bool
+  within = (U && V') && W
 
-    empty : T X ⊎ T Y → ⊥
-    empty (inl h) = empty-out (a .x) h (p .x) (in-x a p s)
-    empty (inr h) = empty-out (a .y) h (p .y) (in-y a p s)
+  pub inside-within : T (regionInside a w) → Within (boxOf a) (boxOf w)
+  unfolding regionInside
+  inside-within t p s = go (either E (within) t)
+    where
+      empty : T X ⊎ T Y → ⊥
+      empty (inl h) = empty-out (a .x) h (p .x) (in-x a p s)
+      empty (inr h) = empty-out (a .y) h (p .y) (in-y a p s)
 
-    none : T (X || Y) ⊎ T Z → ⊥
-    none (inl h) = empty (either X Y h)
-    none (inr h) = empty-out (a .z) h (p .z) (in-z a p s)
+      none : T (X || Y) ⊎ T Z → ⊥
+      none (inl h) = empty (either X Y h)
+      none (inr h) = empty-out (a .z) h (p .z) (in-z a p s)
 
-    go : T E ⊎ T within → T (isCell (boxOf w) p)
-    go (inl h) = absurd (none (either (X || Y) Z h))
-    go (inr h) =
-        point-in w p (span-in (a .x) (w .x) (and-l U V' (and-l (U && V') W h)) (p .x) (in-x a p s))
-        (span-in (a .y) (w .y) (and-r U V' (and-l (U && V') W h)) (p .y) (in-y a p s))
-        (span-in (a .z) (w .z) (and-r (U && V') W h) (p .z) (in-z a p s))
+      go : T E ⊎ T within → T (isCell (boxOf w) p)
+      go (inl h) = absurd (none (either (X || Y) Z h))
+      go (inr h) =
+          point-in w p (span-in (a .x) (w .x) (and-l U V' (and-l (U && V') W h)) (p .x) (in-x a p s))
+          (span-in (a .y) (w .y) (and-r U V' (and-l (U && V') W h)) (p .y) (in-y a p s))
+          (span-in (a .z) (w .z) (and-r (U && V') W h) (p .z) (in-z a p s))
 
-pub outside-out : (a w : Region) → T (not (regionInside a w)) → Within (boxOf a) (boxOf w) → ⊥
-unfolding regionInside
-outside-out a w n h =
-    T-not within (nor-right E within n) (and-i (U && V') W (and-i U V' (by-axis U (λ m. at-x m)) (by-axis V' (λ m. at-y m))) (by-axis W (λ m. at-z m)))
-  where
-    X : Bool
-    X = spanEmpty (a .x)
+  pub outside-out : T (not (regionInside a w)) → Within (boxOf a) (boxOf w) → ⊥
+  unfolding regionInside
+  outside-out n h =
+      T-not within (nor-right E within n) (and-i (U && V') W (and-i U V' (by-axis U (λ m. at-x m)) (by-axis V' (λ m. at-y m))) (by-axis W (λ m. at-z m)))
+    where
+      fx : a .x .from < a .x .to
+      fx = full (a .x) (nor-left X Y (nor-left (X || Y) Z (nor-left E within n)))
 
-    Y : Bool
-    Y = spanEmpty (a .y)
+      fy : a .y .from < a .y .to
+      fy = full (a .y) (nor-right X Y (nor-left (X || Y) Z (nor-left E within n)))
 
-    Z : Bool
-    Z = spanEmpty (a .z)
+      fz : a .z .from < a .z .to
+      fz = full (a .z) (nor-right (X || Y) Z (nor-left E within n))
 
-    E : Bool
-    E = (X || Y) || Z
+      by-axis : (b : Bool) → ((T b → ⊥) → ⊥) → T b
+      by-axis true f = tt
+      by-axis false f = f (λ t. t)
 
-    U : Bool
-    U = spanWithin (a .x) (w .x)
+      at-x : (T U → ⊥) → ⊥
+      at-x m =
+          let k = span-out (a .x) (w .x) fx m in
+          let p : GridPoint = record { x = k .0; y = a .y .from; z = a .z .from } in
+          k .2 (in-x w p (h p (point-in a p (k .1) (first-in (a .y) fy) (first-in (a .z) fz))))
 
-    V' : Bool
-    V' = spanWithin (a .y) (w .y)
+      at-y : (T V' → ⊥) → ⊥
+      at-y m =
+          let k = span-out (a .y) (w .y) fy m in
+          let p : GridPoint = record { x = a .x .from; y = k .0; z = a .z .from } in
+          k .2 (in-y w p (h p (point-in a p (first-in (a .x) fx) (k .1) (first-in (a .z) fz))))
 
-    W : Bool
-    W = spanWithin (a .z) (w .z)
-
-    within : Bool
-    within = (U && V') && W
-
-    fx : a .x .from < a .x .to
-    fx = full (a .x) (nor-left X Y (nor-left (X || Y) Z (nor-left E within n)))
-
-    fy : a .y .from < a .y .to
-    fy = full (a .y) (nor-right X Y (nor-left (X || Y) Z (nor-left E within n)))
-
-    fz : a .z .from < a .z .to
-    fz = full (a .z) (nor-right (X || Y) Z (nor-left E within n))
-
-    by-axis : (b : Bool) → ((T b → ⊥) → ⊥) → T b
-    by-axis true f = tt
-    by-axis false f = f (λ t. t)
-
-    at-x : (T U → ⊥) → ⊥
-    at-x m =
-        let k = span-out (a .x) (w .x) fx m in
-        let p : GridPoint = record { x = k .0; y = a .y .from; z = a .z .from } in
-        k .2 (in-x w p (h p (point-in a p (k .1) (first-in (a .y) fy) (first-in (a .z) fz))))
-
-    at-y : (T V' → ⊥) → ⊥
-    at-y m =
-        let k = span-out (a .y) (w .y) fy m in
-        let p : GridPoint = record { x = a .x .from; y = k .0; z = a .z .from } in
-        k .2 (in-y w p (h p (point-in a p (first-in (a .x) fx) (k .1) (first-in (a .z) fz))))
-
-    at-z : (T W → ⊥) → ⊥
-    at-z m =
-        let k = span-out (a .z) (w .z) fz m in
-        let p : GridPoint = record { x = a .x .from; y = a .y .from; z = k .0 } in
-        k .2 (in-z w p (h p (point-in a p (first-in (a .x) fx) (first-in (a .y) fy) (k .1))))
+      at-z : (T W → ⊥) → ⊥
+      at-z m =
+          let k = span-out (a .z) (w .z) fz m in
+          let p : GridPoint = record { x = a .x .from; y = a .y .from; z = k .0 } in
+          k .2 (in-z w p (h p (point-in a p (first-in (a .x) fx) (first-in (a .y) fy) (k .1))))
 
 -- ---- two blocks, on every axis
 

@@ -7,7 +7,8 @@ use borrow.Author.Tests.{eq-eqb, ne-eqb}
 use Rattle.grid.specs.declared.Block.{Block}
 use Rattle.layers.specs.declared.State.{State}
 use Rattle.layers.specs.Words.{wordsOf}
-use Rattle.bed.specs.Layered.{blockAsked, begun}
+use Rattle.layers.specs.Offer.{begun}
+use Rattle.bed.specs.Layered.{blockAsked}
 use borrow.Author.Needs.{needs}
 use Rattle.bed.proofs.layered.bed_layers_start.Statement.{statement}
 use Rattle.bed.proofs.layered.bed_layers_start.Tie as tie

@@ -6,3 +6,4 @@ pub mod Cases
 pub mod Words
 pub mod Once
 pub mod AsServed
+pub mod Follows

@@ -7,12 +7,12 @@ use native.Mathlib.Omega.{arith}
 use mathlib.Core.Bool.{Bool, true, false, not, _&&_, _||_, cond, and-false, and-assoc}
 use mathlib.Core.List.{List, [], _∷_}
 use mathlib.Core.Path.{_≡_, refl, sym, ap, ap₂, _∙_}
-use lib.Dec.{T, leb, ltb, eqb}
+use lib.Dec.{T, ltb, eqb}
 use lib.ListN.{length, length-append, getD}
 use lib.Ieee.{Float, nan, unlike}
 use Rattle.lists.specs.Lists.{one, keep, many, joined, upTo}
 use Rattle.rules.specs.Grid.{GridPoint, Axis, axisX, axisY, axisZ, Box, Field, value, isCell, stepUp}
-use Rattle.rules.specs.Cell.{negative, negatives, surface}
+use Rattle.rules.specs.Cell.{negative, surface}
 use Rattle.rules.specs.Vertices.{surfaceCell, rowCells}
 use Rattle.rules.specs.Faces.{Flags, edge, gives, changes, cellEdges, axisB, axisC, aboveLow, insideMax}
 use Rattle.lists.proofs.Tests.{one-not}
@@ -22,35 +22,18 @@ use Rattle.rules.proofs.Indexes.{is-cell}
 use Rattle.rules.proofs.FourCells.{four-on}
 use Rattle.rules.proofs.Edges.{cellEdges-length}
 use Rattle.grid.specs.declared.Block.{Block}
-use Rattle.grid.specs.declared.corners.Side.{Side}
 use Rattle.grid.specs.Block.{point, boxOf, flagsOf}
-use Rattle.grid.specs.Corners.{sideBetween, eightOf}
 use Rattle.grid.specs.Layers.{inLayer, twoLayers, InLayers}
+use Rattle.grid.specs.Signs.{surfaceAt}
 use Rattle.grid.proofs.Bounds.{small}
 use Rattle.grid.proofs.Layers.{in-plane, in-order, value-lower, value-upper, values-between, layers-fit, plane-small}
 use Rattle.grid.proofs.Owned.{owned-cell}
 use Rattle.grid.proofs.LayerWalks.{Row}
 use Rattle.count.specs.declared.OwnedEdges.{OwnedEdges}
 use Rattle.count.specs.declared.Tally.{Tally}
-use Rattle.count.specs.Runs.{sideNegatives, surfaceAt, surfaceRun, changesAt, changesRun, rowLength, ownedEdges}
+use Rattle.count.specs.Runs.{surfaceRun, changesAt, changesRun, rowLength, ownedEdges}
 use Rattle.count.specs.Tally.{tallyOf}
 use Rattle.count.proofs.Runs.{many-above, many-before, many-run, many-owned}
-
--- ---- one cell
-
--- the negatives of a cell are those of its two sides
-pub both-sides : (low high : Side) → negatives (eightOf low high) ≡ sideNegatives low + sideNegatives high
-unfolding many
-both-sides low high = omega arith
-
--- the j-th cell of a row, by the negatives of its sides
-pub surface-by-sides : (lower upper : List Float) (at row j : ℕ) {low high count : ℕ} → low ≡ sideNegatives (sideBetween lower upper (at + j) row)
-    → high ≡ sideNegatives (sideBetween lower upper (at + j + 1) row)
-    → count ≡ one (leb 1 (low + high) && leb (low + high) 7) → count ≡ one (surfaceAt lower upper at row j)
-surface-by-sides lower upper at row j {low} {high} el eh e =
-    let side : ℕ → Side = λ (i : ℕ). sideBetween lower upper i row in
-    let all : low + high ≡ negatives (eightOf (side (at + j)) (side (at + j + 1))) = omega (arith, both-sides (side (at + j)) (side (at + j + 1))) in
-    e ∙ ap (λ (n : ℕ). one (leb 1 n && leb n 7)) all
 
 -- ---- edges that give faces, counted without asking for surface cells
 

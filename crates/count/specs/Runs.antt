@@ -6,20 +6,12 @@ use mathlib.Core.List.{List}
 use lib.Dec.{ltb, eqb}
 use lib.ListN.{getD}
 use lib.Ieee.{Float, nan, unlike}
-use Rattle.lists.specs.Lists.{one, many, run}
+use Rattle.lists.specs.Lists.{many, run}
 use Rattle.rules.specs.Grid.{Box}
-use Rattle.rules.specs.Cell.{negative, surface}
+use Rattle.rules.specs.Cell.{negative}
 use Rattle.rules.specs.Faces.{Flags}
-use Rattle.grid.specs.declared.corners.Side.{Side}
-use Rattle.grid.specs.Corners.{sideBetween, eightOf}
+use Rattle.grid.specs.Signs.{surfaceAt}
 use Rattle.count.specs.declared.OwnedEdges.{OwnedEdges}
-
-abbrev pub sideNegatives : Side → ℕ
-sideNegatives s = one (negative (s .a)) + one (negative (s .b)) + one (negative (s .c)) + one (negative (s .d))
-
--- whether the j-th cell of a row is a surface cell, `at` being the place of the row's first corner in its layer
-abbrev pub surfaceAt : List Float → List Float → ℕ → ℕ → ℕ → Bool
-surfaceAt lower upper at row j = surface (eightOf (sideBetween lower upper (at + j) row) (sideBetween lower upper (at + j + 1) row))
 
 abbrev pub surfaceRun : List Float → List Float → ℕ → ℕ → ℕ → ℕ
 surfaceRun lower upper at row n = many (surfaceAt lower upper at row) (run n)

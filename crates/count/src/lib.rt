@@ -1,25 +1,33 @@
-// V and I before anything is written: the surface cells, and six for each owned edge with exactly one negative end. A layer of cells is counted from
-// its two layers of distances, which are lent apart, so that the whole box and a single layer have one count. A row is counted by loops over runs of
-// distances, which neither branch nor stop early; which of a row's edges the box owns is settled before them, by where a run begins and how long it is.
+// V and I before anything is written: the surface cells, and six for each owned edge with exactly one negative end; of the whole box in one walk with
+// condition 5. A layer of cells is counted from its two layers of distances, which are lent apart, so that the whole box and a single layer have one
+// count. A row is counted by loops over runs of distances, which neither branch nor stop early; which of a row's edges the box owns is settled before
+// them, by where a run begins and how long it is.
 ghost use mathlib.Core.Path.{_≡_};
-ghost use mathlib.Core.Bool.{_&&_, cond};
+ghost use mathlib.Core.Bool.{cond};
 ghost use Prim.Native.Nat.{_+_, _-_, _<_, _≤_};
-ghost use lib.Dec.{leb};
 ghost use lib.ListN.{length};
-ghost use Rattle.lists.specs.Lists.{one};
-ghost use Rattle.rules.specs.Cell.{negative};
 ghost use Rattle.rules.specs.Vertices.{rowCells, layerCells, cells};
+ghost use Rattle.rules.specs.Call.{badDistance};
 ghost use Rattle.grid.specs.Block.{boxOf, flagsOf, fieldOf};
-ghost use Rattle.grid.specs.Corners.{sideBetween};
 ghost use Rattle.grid.specs.Inside.{Inside};
 ghost use Rattle.grid.specs.Layers.{twoLayers, InLayers};
-ghost use Rattle.count.specs.Runs.{sideNegatives, surfaceRun, changesRun, ownedEdges};
-ghost use Rattle.count.specs.Tally.{tallyOf};
+ghost use Rattle.count.specs.Runs.{surfaceRun, changesRun, ownedEdges};
+ghost use Rattle.count.specs.Tally.{tallyOf, counts};
 use grid::Block;
 use grid::ownership::owns;
+use grid::signs::counted;
+use grid::signs::side_negatives;
+use grid::signs::surface_count;
 
 // Vertices and indices, counted.
 pub struct Tally {
+    pub vertices: usize,
+    pub indices: usize,
+}
+
+// What the whole box says before anything is written: condition 5, and both counts.
+pub struct Findings {
+    pub bad: bool,
     pub vertices: usize,
     pub indices: usize,
 }
@@ -29,35 +37,6 @@ struct OwnedEdges {
     x: usize,
     y: usize,
     z: usize,
-}
-
-fn counted(yes: bool) -> u32
-    ensures { λ r. ⌜ r ≡ one yes ⌝ }
-    ensures { λ r. ⌜ r ≤ 1 ⌝ }
-{
-    yes as u32
-}
-
-// How many corners of a side are negative.
-fn side_negatives(lower: &[f32], upper: &[f32], at: usize, row: usize) -> u32
-    requires { ⌜ (at + row < length (now lower)) × (at + row < length (now upper)) ⌝ }
-    ensures { λ r. ⌜ r ≡ sideNegatives (sideBetween (now (lower .entry)) (now (upper .entry)) at row) ⌝ }
-    ensures { λ r. ⌜ r ≤ 4 ⌝ }
-{
-    let s = grid::corners::side_between(lower, upper, at, row);
-    let a = counted(cube::negative(s.a));
-    let b = counted(cube::negative(s.b));
-    let c = counted(cube::negative(s.c));
-    let d = counted(cube::negative(s.d));
-    a + b + c + d
-}
-
-// 1 where 1 to 7 of 8 corners are negative.
-fn surface_count(negatives: u32) -> u32
-    ensures { λ r. ⌜ r ≡ one (leb 1 negatives && leb negatives 7) ⌝ }
-    ensures { λ r. ⌜ r ≤ 1 ⌝ }
-{
-    counted((1 <= negatives) & (negatives <= 7))
 }
 
 // How many of n cells in a row are surface cells, `at` being the place of the first one's lowest corner. A cell shares its upper x side with the
@@ -179,18 +158,26 @@ fn count_part(sdf: &[f32], k: Block, z: u32) -> Tally
     count_layer(&sdf[start..end], &sdf[end..], k, z)
 }
 
-pub fn count_box(sdf: &[f32], k: Block) -> Tally
+// One walk serves both: a layer of points is tried just before the cells below it are counted, while it is at hand.
+pub fn count_box(sdf: &[f32], k: Block) -> Findings
     requires { ⌜ Inside (now sdf) k ⌝ }
-    ensures { λ r. ⌜ r ≡ tallyOf (fieldOf (now (sdf .entry)) k) (boxOf k) (flagsOf k) (cells (boxOf k)) ⌝ }
+    ensures { λ r. ⌜ r .bad ≡ badDistance (fieldOf (now (sdf .entry)) k) (boxOf k) ⌝ }
+    ensures { λ r. ⌜ counts r ≡ tallyOf (fieldOf (now (sdf .entry)) k) (boxOf k) (flagsOf k) (cells (boxOf k)) ⌝ }
 {
     let from = k.low.z;
     let end = k.high.z;
+    let mut bad = grid::scan::bad_layer(sdf, k, from);
     let mut vertices = 0usize;
     let mut indices = 0usize;
     for z in from..end {
+        bad = grid::scan::either(bad, grid::scan::bad_layer(sdf, k, z + 1));
         let one = count_part(sdf, k, z);
         vertices += one.vertices;
         indices += one.indices;
     }
-    Tally { vertices, indices }
+    Findings {
+        bad,
+        vertices,
+        indices,
+    }
 }

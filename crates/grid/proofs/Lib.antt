@@ -6,6 +6,7 @@ pub mod Lengths
 pub mod Bounds
 pub mod Beyond
 pub mod Runs
+pub mod Sides
 pub mod Owned
 pub mod Rows
 pub mod Walks

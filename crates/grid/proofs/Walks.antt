@@ -1,11 +1,11 @@
 -- What holds in a turn of a loop over a box that lies in the grid: of the counter on any axis, at a row of a layer and at a layer
 -- of the box. A loop's proof names these facts, and has no arithmetic of its own. Assumes nothing.
 use Prim.Native.Nat.{ℕ, _+_, _-_, _≤_, _<_}
-use native.Mathlib.Nat.{le-antisymm}
+use native.Mathlib.Nat.{le-refl, le-antisymm}
 use native.Mathlib.Omega.{arith}
 use mathlib.Core.Bool.{Bool, false, _||_}
 use mathlib.Core.List.{List, _++_}
-use mathlib.Core.Path.{_≡_, ap, _∙_}
+use mathlib.Core.Path.{_≡_, refl, ap, _∙_}
 use mir.Syntax.{w32, w64}
 use mir.Val.{Fits}
 use lib.ListN.{length}
@@ -91,6 +91,22 @@ scan-more {f} s t e d = record { count = t .next; same = one-more f (t .here .0)
 
 pub scan-ended : {f : ℕ → Bool} {from end n : ℕ} {found : Bool} → Scanned f from end n found → end ≤ n → found ≡ some f (upTo from end)
 scan-ended {f} {from} s h = s .same ∙ ap (λ (m : ℕ). some f (upTo from m)) (ended (s .count) h)
+
+-- ---- a loop that has asked the test of the number ahead too, as a walk over layers of cells does of its layers of points
+
+pub record Ahead (f : ℕ → Bool) (from end n : ℕ) (found : Bool) : Type 0 where
+  pub count : Counting from end n
+  pub same : found ≡ some f (upTo from (n + 1))
+
+pub ahead-begun : {f : ℕ → Bool} {from end : ℕ} {found : Bool} → Span from end → found ≡ f from → Ahead f from end from found
+ahead-begun {f} {from} s e = record { count = begun s; same = one-more f (le-refl from) (none-yet f from) e refl }
+
+pub ahead-more : {f : ℕ → Bool} {from end n : ℕ} {found more now' : Bool} → Ahead f from end n found → Turn from end n → more ≡ f (n + 1) → now' ≡ (found || more)
+    → Ahead f from end (n + 1) now'
+ahead-more {f} a t e d = record { count = t .next; same = one-more f (t .next .low) (a .same) e d }
+
+pub ahead-ended : {f : ℕ → Bool} {from end n : ℕ} {found : Bool} → Ahead f from end n found → end ≤ n → found ≡ some f (upTo from (end + 1))
+ahead-ended {f} {from} a h = a .same ∙ ap (λ (m : ℕ). some f (upTo from (m + 1))) (ended (a .count) h)
 
 -- ---- the box, layer by layer
 

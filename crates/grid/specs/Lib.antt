@@ -5,3 +5,4 @@ pub mod Inside
 pub mod Corners
 pub mod Order
 pub mod Layers
+pub mod Signs

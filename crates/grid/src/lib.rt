@@ -5,6 +5,7 @@ pub mod corners;
 pub mod ownership;
 pub mod place;
 pub mod scan;
+pub mod signs;
 
 // Three numbers, one for each axis: dimensions, or a corner of a box.
 pub struct Extent {

@@ -46,7 +46,7 @@ fn bad_row(sdf: &[f32], at: usize, n: usize) -> bool
     bad
 }
 
-fn bad_layer(sdf: &[f32], k: Block, z: u32) -> bool
+pub fn bad_layer(sdf: &[f32], k: Block, z: u32) -> bool
     requires { ⌜ Inside (now sdf) k ⌝ }
     requires { ⌜ (k .low .z ≤ z) × (z ≤ k .high .z) ⌝ }
     ensures { λ r. ⌜ r ≡ badLayer (fieldOf (now (sdf .entry)) k) (boxOf k) z ⌝ }

@@ -1,9 +1,9 @@
 -- The answer by the tests that led to it, in their order, and the counts that it says. Assumes nothing.
-use Prim.Native.Nat.{ℕ, _+_, _*_, _^_, _≤_, _<_}
+use Prim.Native.Nat.{ℕ, _*_, _^_, _≤_, _<_}
 use native.Mathlib.Omega.{arith}
-use mathlib.Core.Bool.{Bool, true, false, not, _||_, cond, true≢false}
+use mathlib.Core.Bool.{Bool, true, false, not, _||_, cond}
 use mathlib.Core.List.{List}
-use mathlib.Core.Path.{_≡_, refl, sym, ap, _∙_}
+use mathlib.Core.Path.{_≡_, sym, ap, _∙_}
 use borrow.Author.Tests.{lt-ltb, le-ltb}
 use lib.Dec.{T, ltb, nltb→le}
 use lib.ListN.{length}
@@ -11,15 +11,15 @@ use lib.Ieee.{Float}
 use Rattle.lists.specs.Lists.{keep, joined}
 use Rattle.rules.specs.Grid.{GridPoint, Box, Field}
 use Rattle.rules.specs.Vertices.{surfaceCell, vertices, cells}
-use Rattle.rules.specs.Faces.{Edge, Flags, cellEdges, edges, indices}
-use Rattle.rules.specs.Call.{Call, Buffers, Room, room, Answer, answers, answer, roomAnswer, badMap, badDistance, badVertexRoom, badIndexRoom, vertexCount, indexCount}
+use Rattle.rules.specs.Faces.{Edge, Flags, cellEdges, indices}
+use Rattle.rules.specs.Call.{Call, Room, Answer, answers, answer, roomAnswer, badDistance, badVertexRoom, badIndexRoom, vertexCount, indexCount}
 use Rattle.lists.proofs.Tests.{nor-left, nor-right}
 use Rattle.rules.proofs.Accepted.{accepted-answer, done-accepted}
 use Rattle.rules.proofs.Counting.{vertices-are}
 use Rattle.rules.proofs.Edges.{edges-are, edge-count, index-count}
 use Rattle.grid.specs.declared.Block.{Block}
 use Rattle.count.specs.declared.Tally.{Tally}
-use Rattle.grid.specs.Block.{point, boxOf, flagsOf, fieldOf, callOf}
+use Rattle.grid.specs.Block.{boxOf, flagsOf, fieldOf}
 use Rattle.grid.specs.Inside.{Inside}
 use Rattle.grid.specs.Faults.{firstFault}
 use Rattle.count.specs.Tally.{tallyOf}
@@ -89,9 +89,9 @@ module _ (r : Room) (v i : ℕ) where
 
 -- ---- V and I are the counts of the definitions
 
-pub counts : (g : Field) (b : Box) (m : Flags) → tallyOf g b m (cells b) ≡ record { vertices = length (vertices g b); indices = length (indices g b m) }
+pub tally-counts : (g : Field) (b : Box) (m : Flags) → tallyOf g b m (cells b) ≡ record { vertices = length (vertices g b); indices = length (indices g b m) }
 unfolding tallyOf
-counts g b m =
+tally-counts g b m =
     let v : length (keep (surfaceCell g) (cells b)) ≡ length (vertices g b) = ap length (sym (vertices-are g b)) in
     let i : 6 * length (joined (cellEdges g b m) (keep (surfaceCell g) (cells b))) ≡ length (indices g b m) =
     ap (λ (l : List GridPoint). 6 * length (joined (cellEdges g b m) l)) (sym (vertices-are g b))

@@ -83,9 +83,9 @@ pub fn answer_for(sdf: &[f32], k: Block, room: Lengths) -> Answer
     if room.map < sdf.len() {
         return refused(4);
     }
-    if grid::scan::bad_distance(sdf, k) {
+    let t = count::count_box(sdf, k);
+    if t.bad {
         return refused(5);
     }
-    let t = count::count_box(sdf, k);
     room_answer(t.vertices, t.indices, room)
 }

@@ -3,6 +3,8 @@ pub mod Steps
 pub mod Lookups
 pub mod Cells
 pub mod Alike
-pub mod Puts
+pub mod Chosen
 pub mod Signs
+pub mod Listing
 pub mod Vertices
+pub mod Batches

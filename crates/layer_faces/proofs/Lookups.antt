@@ -1,30 +1,31 @@
 -- What is looked up of a cell is its vertex: in the layer itself by what stands there once it is marked, in the layer below by what was kept.
 -- Assumes nothing.
-use Prim.Native.Nat.{ℕ, _+_, _-_, _*_, _≤_, _<_}
+use Prim.Native.Nat.{ℕ, zero, suc, _+_, _-_, _*_, _≤_, _<_}
 use native.Mathlib.Omega.{arith}
 use mathlib.Core.Bool.{Bool, true, false, _&&_, cond}
-use mathlib.Core.List.{List, _++_, map}
-use mathlib.Core.Path.{_≡_, refl, sym, ap, ap₂, subst, _∙_}
+use mathlib.Core.List.{List, [], _∷_, _++_, map}
+use mathlib.Core.Path.{_≡_, sym, ap, subst, _∙_}
 use borrow.Author.Tests.{lt-ltb, le-ltb, eq-eqb, ne-eqb}
 use lib.Dec.{T}
 use lib.Ieee.{Float, nan, lt}
+use lib.Ieee.Bits.{is-true}
 use lib.Ieee.Fits.{and-i}
 use lib.ListN.{length, getD, take, drop, length-append, length-map, take-append-drop, List·getD-map}
 use lib.Seq.{take-all}
-use Rattle.lists.specs.Lists.{many, place}
+use Rattle.lists.specs.Lists.{one, many, place}
 use Rattle.rules.specs.Grid.{GridPoint, Box, Field, samePoint, isCell, value}
 use Rattle.rules.specs.Cell.{Vector, negative, squaredDistance}
 use Rattle.rules.specs.Vertices.{surfaceCell, layerVertices, vertexNumber, vertexPosition}
 use Rattle.rules.specs.Faces.{Edge, cell1, cell2, cell3, cell4, six}
 use Rattle.rules.specs.Call.{flatVectors}
-use Rattle.lists.proofs.Tests.{one-of}
-use Rattle.lists.proofs.Lists.{place-below, place-passes}
-use Rattle.rules.proofs.Counting.{samePoint-sound, isLayerCell, cell-layer, layerVertices-once}
+use Rattle.lists.proofs.Tests.{one-of, one-most}
+use Rattle.lists.proofs.Lists.{many-some, place-below, place-passes}
+use Rattle.rules.proofs.Counting.{samePoint-sound, samePoint-itself, isLayerCell, cell-layer, layerVertices-once}
 use Rattle.rules.proofs.Seen.{ThreeAt, three-over, length-vectors, flatVectors-at}
 use Rattle.grid.specs.Layers.{inLayer}
-use Rattle.layer_faces.specs.declared.Step.{Step}
+use Rattle.layer_faces.specs.declared.Firsts.{Firsts}
 use Rattle.layer_faces.specs.Below.{nowhere, positionAt, Kept, keptNumber, numberOver, positionOver, shorterOver, faceOver, Standing}
-use Rattle.layer_faces.specs.Quads.{Seen, looked, quadOf}
+use Rattle.layer_faces.specs.Quads.{Seen, quadOf, way, own, looked}
 
 -- ---- a list of positions that begins with the vertex `first`
 
@@ -40,6 +41,12 @@ pub position-there : (l : List Float) (first v : ℕ) → first ≤ v → 3 * (v
     → _≡_ {A = Vector} (record { x = getD l (3 * (v - first)) nan; y = getD l (3 * (v - first) + 1) nan; z = getD l (3 * (v - first) + 2) nan }) (positionAt l first v)
 unfolding positionAt
 position-there l first v h k = rw (le-ltb v first h, le-ltb (length l) (3 * (v - first) + 3) k)
+
+-- three numbers that were read there
+pub position-read : (l : List Float) (first v : ℕ) {start : ℕ} {x y z : Float} → start ≡ first → start ≤ v → 3 * (v - start) + 3 ≤ length l → x ≡ getD l (3 * (v - start)) nan
+    → y ≡ getD l (3 * (v - start) + 1) nan → z ≡ getD l (3 * (v - start) + 2) nan → _≡_ {A = Vector} (record { x = x; y = y; z = z }) (positionAt l first v)
+position-read l first v {start} e h k ex ey ez =
+    (λ i. record { x = ex i; y = ey i; z = ez i }) ∙ position-there l start v h k ∙ ap (λ (f : ℕ). positionAt l f v) e
 
 pub position-in : (l : List Float) (first n : ℕ) (v : Vector) → 3 * n + 3 ≤ length l
     → ThreeAt (λ (q : Vector). q .x) (λ (q : Vector). q .y) (λ (q : Vector). q .z) l n nan v → positionAt l first (first + n) ≡ v
@@ -97,53 +104,96 @@ position-of g b first c t s =
     let all = flatVectors (map (vertexPosition g) vs) in
     position-among g b first c t s all (take-all (3 * length vs) all (omega (arith, length-vectors (vertexPosition g) vs)))
 
+-- ---- the number of the vertex v
+
+-- an element that a list holds once stands at its own place
+own-place : {A : Type 0} (f : A → Bool) (d : A) (l : List A) (v : ℕ) → v < length l → T (f (getD l v d)) → many f l < 2 → place f l ≡ v
+unfolding place many
+own-place f d [] v h t k = absurd (omega arith)
+own-place f d (x ∷ xs) zero h t k = ap (λ (y : Bool). cond y 0 (suc (place f xs))) (is-true (f x) t)
+own-place f d (x ∷ xs) (suc v) h t k = go (f x) k (own-place f d xs v (omega arith) t)
+  where
+    go : (y : Bool) → one y + many f xs < 2 → (many f xs < 2 → place f xs ≡ v) → cond y 0 (suc (place f xs)) ≡ suc v
+    go true k r = absurd (omega (arith, many-some f xs v d (omega arith) t))
+    go false k r = ap suc (r (omega arith))
+
+pub own-number : (g : Field) (b : Box) (z v : ℕ) (c : GridPoint) → v < length (layerVertices g b z) → c ≡ getD (layerVertices g b z) v c
+    → place (samePoint c) (layerVertices g b z) ≡ v
+own-number g b z v c k is =
+    own-place (samePoint c) c (layerVertices g b z) v k (subst (λ (p : GridPoint). T (samePoint c p)) is (samePoint-itself c))
+    (omega (arith, layerVertices-once g b z c, one-most (isLayerCell b z c && surfaceCell g c)))
+
 -- ---- a looked-up vertex is that of a cell
 
 pub record Names (g : Field) (b : Box) (first z : ℕ) (below : Kept) (v : Seen) (c : GridPoint) : Type 0 where
   pub number : v .number ≡ numberOver g b first z below c
   pub position : v .position ≡ positionOver g z below c
 
--- a cell of the layer
-pub names-here : (g : Field) (b : Box) (first z : ℕ) (below : Kept) (cs mp : List ℕ) (ps : List Float) → Standing g b first z cs mp ps → (c : GridPoint) → T (isCell b c) → c .z ≡
-    z → T (surfaceCell g c)
-    → (cell : ℕ) (s : Step) → s .first ≡ first → cell - s .back ≡ inLayer (g .dims) c → Names g b first z below (looked mp ps cell s) c
-names-here g b first z below cs mp ps h c t e on cell s ef ea =
-    record {
-      number = number ∙ sym (ap (λ (y : Bool). cond y (vertexNumber g b first c) (keptNumber (g .dims) below c)) (eq-eqb (c .z) z e));
-      position =
-          ap (positionAt ps (s .first)) number
-          ∙ ap (λ (f : ℕ). positionAt ps f (vertexNumber g b first c)) ef
-          ∙ ap (λ (l : List Float). positionAt l first (vertexNumber g b first c))
-          (h .positions ∙ ap (λ (y : ℕ). flatVectors (map (vertexPosition g) (layerVertices g b y))) (sym e))
-          ∙ position-of g b first c t on
-          ∙ sym (ap (λ (y : Bool). cond y (vertexPosition g c) (positionAt (below .positions) (below .first) (keptNumber (g .dims) below c))) (eq-eqb (c .z) z e));
-    }
-  where
-    number : getD mp (cell - s .back) 0 ≡ vertexNumber g b first c
-    number = ap (λ (j : ℕ). getD mp j 0) ea ∙ h .numbers c t e on
+-- what is known of the layer below
+abbrev pub keptOf : Firsts → List ℕ → List Float → Kept
+keptOf first under kept = record { map = under; positions = kept; first = first .below }
 
--- a cell of the layer below
-pub names-below : (g : Field) (b : Box) (first z : ℕ) (below : Kept) (c : GridPoint) → (c .z ≡ z → ⊥) → (cell : ℕ) (s : Step) → s .first ≡ below .first → cell - s .back ≡ inLayer
-    (g .dims) c
-    → Names g b first z below (looked (below .map) (below .positions) cell s) c
-names-below g b first z below c e cell s ef ea =
-    record {
-      number = number ∙ sym (ap (λ (y : Bool). cond y (vertexNumber g b first c) (keptNumber (g .dims) below c)) (ne-eqb (c .z) z e));
-      position =
-          ap₂ (positionAt (below .positions)) ef number
-          ∙ sym (ap (λ (y : Bool). cond y (vertexPosition g c) (positionAt (below .positions) (below .first) (keptNumber (g .dims) below c))) (ne-eqb (c .z) z e));
-    }
-  where
-    number : getD (below .map) (cell - s .back) 0 ≡ keptNumber (g .dims) below c
-    number = ap (λ (j : ℕ). getD (below .map) j 0) ea
+module _ (g : Field) (b : Box) (z : ℕ) (first : Firsts) (mp : List ℕ) (ps : List Float) (under : List ℕ) (kept : List Float) where
+  abbrev rest : Kept
+  rest = keptOf first under kept
+
+  -- a cell of the layer by what the rules say of it
+  by-rules : (v : Seen) (c : GridPoint) → c .z ≡ z → v .number ≡ vertexNumber g b (first .here) c → v .position ≡ vertexPosition g c → Names g b (first .here) z rest v c
+  by-rules v c e n p =
+      record {
+        number = n ∙ sym (ap (λ (y : Bool). cond y (vertexNumber g b (first .here) c) (keptNumber (g .dims) rest c)) (eq-eqb (c .z) z e));
+        position = p ∙ sym (ap (λ (y : Bool). cond y (vertexPosition g c) (positionAt kept (first .below) (keptNumber (g .dims) rest c))) (eq-eqb (c .z) z e));
+      }
+
+  -- a cell of the layer below
+  pub names-below : (c : GridPoint) → (c .z ≡ z → ⊥) → (cell back : ℕ) → cell - back ≡ inLayer (g .dims) c → Names g b (first .here) z
+      (keptOf first under kept) (looked first mp ps under kept cell (way false back)) c
+  names-below c e cell back ea =
+      let number : getD under (cell - back) 0 ≡ keptNumber (g .dims) rest c = ap (λ (j : ℕ). getD under j 0) ea in
+      record {
+        number = number ∙ sym (ap (λ (y : Bool). cond y (vertexNumber g b (first .here) c) (keptNumber (g .dims) rest c)) (ne-eqb (c .z) z e));
+        position =
+            ap (positionAt kept (first .below)) number
+            ∙ sym (ap (λ (y : Bool). cond y (vertexPosition g c) (positionAt kept (first .below) (keptNumber (g .dims) rest c))) (ne-eqb (c .z) z e));
+      }
+
+  module _ (cs : List ℕ) (h : Standing g b (first .here) z cs mp ps) where
+    -- a cell of the layer
+    pub names-here : (c : GridPoint) → T (isCell b c) → T (surfaceCell g c) → c .z ≡ z → (cell back : ℕ) → cell - back ≡ inLayer (g .dims) c → Names g b (first .here) z
+        (keptOf first under kept) (looked first mp ps under kept cell (way true back)) c
+    names-here c t on e cell back ea =
+        by-rules (looked first mp ps under kept cell (way true back)) c e number
+        (ap (positionAt ps (first .here)) number
+        ∙ ap (λ (l : List Float). positionAt l (first .here) (vertexNumber g b (first .here) c))
+        (h .positions ∙ ap (λ (y : ℕ). flatVectors (map (vertexPosition g) (layerVertices g b y))) (sym e))
+        ∙ position-of g b (first .here) c t on)
+      where
+        number : getD mp (cell - back) 0 ≡ vertexNumber g b (first .here) c
+        number = ap (λ (j : ℕ). getD mp j 0) ea ∙ h .numbers c t e on
+
+    -- the cell of the vertex v, by v alone
+    pub names-own : (v : ℕ) (c : GridPoint) → v < length (layerVertices g b z) → c ≡ getD (layerVertices g b z) v c → c .z ≡ z → Names g b (first .here) z (keptOf first under kept)
+        (own (first .here) ps v) c
+    names-own v c k is e =
+        by-rules (own (first .here) ps v) c e
+        (ap (λ (n : ℕ). first .here + n) (sym (own-number g b z v c k is) ∙ ap (λ (y : ℕ). place (samePoint c) (layerVertices g b y)) (sym e)))
+        (ap (λ (l : List Float). record { x = getD l (3 * v) nan; y = getD l (3 * v + 1) nan; z = getD l (3 * v + 2) nan }) (h .positions)
+        ∙ (λ i. record { x = there .first i; y = there .second i; z = there .third i }))
+      where
+        vs : List GridPoint
+        vs = layerVertices g b z
+
+        there : ThreeAt (λ (q : Vector). q .x) (λ (q : Vector). q .y) (λ (q : Vector). q .z) (flatVectors (map (vertexPosition g) vs)) v nan (vertexPosition g c)
+        there = flatVectors-at (map (vertexPosition g) vs) v (vertexPosition g c) (rw (length-map vs (vertexPosition g)) k)
+            (List·getD-map (vertexPosition g) vs v c ∙ ap (vertexPosition g) (sym is))
 
 -- ---- the six numbers of a face
 
-pub quad-is : (g : Field) (b : Box) (first z : ℕ) (below : Kept) (e : Edge) (v1 v2 v3 v4 : Seen)
+pub quad-is : (g : Field) (b : Box) (first z : ℕ) (below : Kept) (e : Edge) (v1 v2 v3 v4 : Seen) {n : Bool} → n ≡ negative (value g (e .from))
     → Names g b first z below v1 (cell1 e) → Names g b first z below v2 (cell2 e) → Names g b first z below v3 (cell3 e) → Names g b first z below v4 (cell4 e)
-    → quadOf (negative (value g (e .from))) v1 v2 v3 v4 ≡ faceOver g b first z below e
+    → quadOf n v1 v2 v3 v4 ≡ faceOver g b first z below e
 unfolding quadOf faceOver shorterOver
-quad-is g b first z below e v1 v2 v3 v4 h1 h2 h3 h4 =
+quad-is g b first z below e v1 v2 v3 v4 sign h1 h2 h3 h4 =
     λ i.
-    six (lt (squaredDistance (h1 .position i) (h4 .position i)) (squaredDistance (h2 .position i) (h3 .position i))) (negative (value g (e .from)))
+    six (lt (squaredDistance (h1 .position i) (h4 .position i)) (squaredDistance (h2 .position i) (h3 .position i))) (sign i)
     (h1 .number i) (h2 .number i) (h3 .number i) (h4 .number i)

@@ -5,7 +5,7 @@ use native.Mathlib.Nat.{mul-one, mul-add}
 use native.Mathlib.Omega.{arith}
 use mathlib.Core.Bool.{Bool, _&&_}
 use mathlib.Core.List.{List}
-use mathlib.Core.Path.{_≡_, refl, sym, ap, ap₂, subst, _∙_}
+use mathlib.Core.Path.{_≡_, sym, ap, _∙_}
 use mir.Syntax.{w64}
 use mir.Val.{Fits}
 use lib.Dec.{T}
@@ -15,13 +15,12 @@ use Rattle.rules.specs.Grid.{GridPoint, Axis, axisX, axisY, axisZ, Box, Field, 
 use Rattle.rules.specs.Cell.{negative}
 use Rattle.rules.specs.Faces.{Flags, edge, owned, changes, gives}
 use Rattle.rules.proofs.Indexes.{cell-within}
-use Rattle.rules.proofs.FourCells.{Owned, owned-says, gives-owned}
+use Rattle.rules.proofs.FourCells.{owned-says, gives-owned}
 use Rattle.grid.specs.declared.Block.{Block}
 use Rattle.grid.specs.Block.{point, boxOf, flagsOf}
 use Rattle.grid.specs.Layers.{inLayer, twoLayers, InLayers}
 use Rattle.grid.proofs.Layers.{in-plane, in-order, value-lower, value-upper, layers-fit, plane-small}
-use Rattle.layer_faces.specs.declared.Firsts.{Firsts}
-use Rattle.layer_faces.specs.Quads.{step, Reaches, QuadReady}
+use Rattle.layer_faces.specs.Quads.{way2, way3, way4, Reaches}
 use Rattle.layer_faces.proofs.Steps.{front-of, across-of}
 
 -- whether an edge gives a face, by what the code has read
@@ -76,12 +75,15 @@ module _ {lower upper : List Float} {k : Block} {z : ℕ} (i : InLayers lower up
 
   -- ---- the look-ups
 
-  module _ (first : Firsts) (map under : List ℕ) (here : inLayer (point (k .dims)) (point (k .high)) < length map)
-      (below : k .low .z < c .z → inLayer (point (k .dims)) (point (k .high)) < length under) (indices at : ℕ) where
-    pub ready-x : T (gives (twoLayers lower upper k z) (boxOf k) (flagsOf k) (edge axisX c)) → at + 6 ≤ indices
-        → QuadReady map map under under (inLayer (point (k .dims)) c) (step 0 (first .here)) (step (k .dims .x) (first .here)) (step 0 (first .below))
-        (step (k .dims .x) (first .below)) indices at
-    ready-x s r =
+  module _ (map under : List ℕ) (here : inLayer (point (k .dims)) (point (k .high)) < length map)
+      (below : k .low .z < c .z → inLayer (point (k .dims)) (point (k .high)) < length under) where
+    pub record Reached (a : Axis) : Type 0 where
+      pub two : Reaches map under (inLayer (point (k .dims)) c) (way2 (k .dims .x) a)
+      pub three : Reaches map under (inLayer (point (k .dims)) c) (way3 (k .dims .x) a)
+      pub four : Reaches map under (inLayer (point (k .dims)) c) (way4 (k .dims .x) a)
+
+    pub reached : (a : Axis) → T (gives (twoLayers lower upper k z) (boxOf k) (flagsOf k) (edge a c)) → Reached a
+    reached axisX s =
         let o = owned-says (boxOf k) (flagsOf k) (edge axisX c) (gives-owned (twoLayers lower upper k z) (boxOf k) (flagsOf k) (edge axisX c) s) in
         let deep = below (o .aboveC) in
         let up = o .aboveB in
@@ -89,32 +91,21 @@ module _ {lower upper : List Float} {k : Block} {z : ℕ} (i : InLayers lower up
         let row = front-of d c y in
         let near = cell-at in
         record {
-          one = record { back = omega arith; here = omega arith };
-          two = record { back = omega arith; here = omega arith };
-          three = record { back = omega arith; here = omega arith };
-          four = record { back = omega arith; here = omega arith };
-          room = r;
+          two = record { back = omega arith; within = omega arith };
+          three = record { back = omega arith; within = omega arith };
+          four = record { back = omega arith; within = omega arith };
         }
-
-    pub ready-y : T (gives (twoLayers lower upper k z) (boxOf k) (flagsOf k) (edge axisY c)) → at + 6 ≤ indices
-        → QuadReady map under map under (inLayer (point (k .dims)) c) (step 0 (first .here)) (step 0 (first .below)) (step 1 (first .here)) (step 1 (first .below)) indices at
-    ready-y s r =
+    reached axisY s =
         let o = owned-says (boxOf k) (flagsOf k) (edge axisY c) (gives-owned (twoLayers lower upper k z) (boxOf k) (flagsOf k) (edge axisY c) s) in
         let deep = below (o .aboveB) in
         let up = o .aboveC in
         let near = cell-at in
         record {
-          one = record { back = omega arith; here = omega arith };
-          two = record { back = omega arith; here = omega arith };
-          three = record { back = omega arith; here = omega arith };
-          four = record { back = omega arith; here = omega arith };
-          room = r;
+          two = record { back = omega arith; within = omega arith };
+          three = record { back = omega arith; within = omega arith };
+          four = record { back = omega arith; within = omega arith };
         }
-
-    pub ready-z : T (gives (twoLayers lower upper k z) (boxOf k) (flagsOf k) (edge axisZ c)) → at + 6 ≤ indices
-        → QuadReady map map map map (inLayer (point (k .dims)) c) (step 0 (first .here)) (step 1 (first .here)) (step (k .dims .x) (first .here))
-        (step (k .dims .x + 1) (first .here)) indices at
-    ready-z s r =
+    reached axisZ s =
         let o = owned-says (boxOf k) (flagsOf k) (edge axisZ c) (gives-owned (twoLayers lower upper k z) (boxOf k) (flagsOf k) (edge axisZ c) s) in
         let right = o .aboveB in
         let up = o .aboveC in
@@ -124,9 +115,7 @@ module _ {lower upper : List Float} {k : Block} {z : ℕ} (i : InLayers lower up
         let corner = across-of d c x y in
         let near = cell-at in
         record {
-          one = record { back = omega arith; here = omega arith };
-          two = record { back = omega arith; here = omega arith };
-          three = record { back = omega arith; here = omega arith };
-          four = record { back = omega arith; here = omega arith };
-          room = r;
+          two = record { back = omega arith; within = omega arith };
+          three = record { back = omega arith; within = omega arith };
+          four = record { back = omega arith; within = omega arith };
         }

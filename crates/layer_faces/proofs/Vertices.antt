@@ -1,29 +1,28 @@
--- The layer's vertices one after the other: the cell that the code reads is the next vertex's, its faces are put behind those before it, and after the
--- last one the layer's indices are whole. Assumes nothing.
-use Prim.Native.Nat.{ℕ, suc, _+_, _*_, _/_, _≤_, _<_}
-use native.Mathlib.Nat.{mul-zero, add-zero}
+-- The layer's vertices, batch after batch: the cell that the code reads is the vertex's, the faces of a batch are put behind those before it, and after
+-- the last one the layer's indices are whole. Assumes nothing.
+use Prim.Native.Nat.{ℕ, _+_, _*_, _/_, _≤_, _<_}
 use native.Mathlib.Numerals.{add-one}
 use native.Mathlib.Omega.{arith}
 use mathlib.Core.Bool.{Bool, true, false}
-use mathlib.Core.List.{List, [], _∷_, _++_}
+use mathlib.Core.List.{List, _++_}
 use mathlib.Core.Path.{_≡_, refl, sym, ap, subst, _∙_}
 use lib.Dec.{T}
-use lib.Ieee.{Float}
 use lib.ListN.{length, getD, take, drop, length-append, take-append-drop}
-use lib.Seq.{sets, length-sets, take-suc, take-all}
-use Rattle.lists.specs.Lists.{keep, joined}
+use lib.Seq.{sets, length-sets, length-take-le, take-suc, take-add, take-all}
+use Rattle.lists.specs.Lists.{joined}
 use Rattle.rules.specs.Grid.{GridPoint, Box, Field, isCell, value}
 use Rattle.rules.specs.Cell.{negative}
-use Rattle.rules.specs.Vertices.{layerCells, surfaceCell, layerVertices}
+use Rattle.rules.specs.Vertices.{surfaceCell, layerVertices}
 use Rattle.rules.specs.Faces.{Flags, Edge, cellEdges, layerEdges, cell1, cell2, cell3, cell4, six}
 use Rattle.rules.specs.Call.{flatPoints}
-use Rattle.lists.proofs.Lists.{All, all-at, all-then, all-keep, joined-append, joined-snoc, joined-length, joined-joined}
+use Rattle.lists.proofs.Lists.{all-at, all-then, all-keep, joined-append, joined-snoc, joined-length}
 use Rattle.rules.proofs.Indexes.{same-point}
-use Rattle.rules.proofs.Counting.{isLayerCell, layer-z, layerCells-all}
+use Rattle.rules.proofs.Counting.{layer-z, layerCells-all}
 use Rattle.rules.proofs.Inside.{layer-cells}
 use Rattle.rules.proofs.Seen.{ThreeAt, three-at, length-points}
 use Rattle.stores.proofs.Runs.{sets-on}
-use Rattle.layer_faces.specs.Below.{Kept, numberOver, shorterOver, faceOver, indicesOver, Standing}
+use Rattle.layer_faces.specs.Below.{Kept, numberOver, shorterOver, faceOver, indicesOver}
+use Rattle.layer_faces.specs.Quads.{cellAt, Cells, someEdges, Batch}
 
 pub length-face : (g : Field) (b : Box) (first z : ℕ) (below : Kept) (e : Edge) → length (faceOver g b first z below e) ≡ 6
 unfolding faceOver
@@ -38,37 +37,48 @@ length-face g b first z below e = go (shorterOver g z below e) (negative (value 
     go false true = refl
     go false false = refl
 
--- ---- the cell of the next vertex
+-- ---- the cell of a vertex
 
-module _ (g : Field) (b : Box) (first z : ℕ) (cs mp : List ℕ) (ps : List Float) (h : Standing g b first z cs mp ps) (zs : (b .low .z ≤ z) × (z < b .high .z)) where
+module _ (g : Field) (b : Box) (z : ℕ) (cs : List ℕ) (e : cs ≡ flatPoints (layerVertices g b z)) where
+  pub length-cells : length cs ≡ 3 * length (layerVertices g b z)
+  length-cells = ap length e ∙ length-points (layerVertices g b z)
+
   pub count-is : length cs / 3 ≡ length (layerVertices g b z)
-  count-is = omega (arith, ap length (h .cells), length-points (layerVertices g b z))
+  count-is = omega (arith, length-cells)
 
-  pub record AtVertex (i : ℕ) (c : GridPoint) : Type 0 where
-    pub is : c ≡ getD (layerVertices g b z) i c
-    pub cell : T (isCell b c)
-    pub reads : 3 * i + 2 < length cs
-
-  pub at-vertex : (i : ℕ) → i < length (layerVertices g b z) → AtVertex i (record { x = getD cs (3 * i) 0; y = getD cs (3 * i + 1) 0; z = z })
+  -- what the code reads of the vertex v
+  pub vertex-is : (v : ℕ) → v < length (layerVertices g b z) → cellAt cs z v ≡ getD (layerVertices g b z) v (cellAt cs z v)
   unfolding layerVertices
-  at-vertex i k =
-      record {
-        is = is;
-        cell = subst (λ (p : GridPoint). T (isCell b p)) (sym is) (all-at (all-keep (surfaceCell g) (all-then (λ p t s. t) (layer-cells b z (zs .0) (zs .1)))) i k c);
-        reads = omega (arith, ap length (h .cells), length-points (layerVertices g b z));
-      }
+  vertex-is v k = same-point (ap (λ (l : List ℕ). getD l (3 * v) 0) e ∙ three .first, ap (λ (l : List ℕ). getD l (3 * v + 1) 0) e ∙ three .second, sym deep)
     where
       c : GridPoint
-      c = record { x = getD cs (3 * i) 0; y = getD cs (3 * i + 1) 0; z = z }
+      c = cellAt cs z v
 
-      three : ThreeAt (λ (q : GridPoint). q .x) (λ (q : GridPoint). q .y) (λ (q : GridPoint). q .z) (flatPoints (layerVertices g b z)) i 0 (getD (layerVertices g b z) i c)
-      three = three-at (λ (q : GridPoint). q .x) (λ (q : GridPoint). q .y) (λ (q : GridPoint). q .z) (layerVertices g b z) i 0 c k
+      three : ThreeAt (λ (q : GridPoint). q .x) (λ (q : GridPoint). q .y) (λ (q : GridPoint). q .z) (flatPoints (layerVertices g b z)) v 0 (getD (layerVertices g b z) v c)
+      three = three-at (λ (q : GridPoint). q .x) (λ (q : GridPoint). q .y) (λ (q : GridPoint). q .z) (layerVertices g b z) v 0 c k
 
-      deep : getD (layerVertices g b z) i c .z ≡ z
-      deep = all-at (all-keep (surfaceCell g) (all-then (λ p t s. layer-z b z p t) (layerCells-all b z))) i k c
+      deep : getD (layerVertices g b z) v c .z ≡ z
+      deep = all-at (all-keep (surfaceCell g) (all-then (λ p t s. layer-z b z p t) (layerCells-all b z))) v k c
 
-      is : c ≡ getD (layerVertices g b z) i c
-      is = same-point (ap (λ (l : List ℕ). getD l (3 * i) 0) (h .cells) ∙ three .first, ap (λ (l : List ℕ). getD l (3 * i + 1) 0) (h .cells) ∙ three .second, sym deep)
+  pub vertex-cells : (n : ℕ) → (b .low .z ≤ z) × (z < b .high .z) → n ≤ length (layerVertices g b z) → Cells b z cs n
+  unfolding layerVertices
+  vertex-cells n zs h =
+      record {
+        within = omega (arith, length-cells);
+        each = λ v k. subst (λ (p : GridPoint). T (isCell b p)) (sym (vertex-is v (omega arith)))
+            (all-at (all-keep (surfaceCell g) (all-then (λ p t s. t) (layer-cells b z (zs .0) (zs .1)))) v (omega arith) (cellAt cs z v));
+      }
+
+-- ---- the faces of some edges, one after the other
+
+module _ {A : Type 0} (face : A → List ℕ) (long : (a : A) → length (face a) ≡ 6) (es : List A) where
+  pub faces-more : (l : List ℕ) (at q : ℕ) (d : A) {l' l'' : List ℕ} → l' ≡ sets l at (joined face (take q es)) → q < length es → l'' ≡ sets l' (at + 6 * q) (face (getD es q d))
+      → l'' ≡ sets l at (joined face (take (q + 1) es))
+  faces-more l at q d e h f =
+      f ∙ ap (λ (s : List ℕ). sets s (at + 6 * q) (face (getD es q d))) e
+      ∙ sets-on l at (at + 6 * q) (joined face (take q es)) (face (getD es q d))
+      (omega (arith, joined-length face 6 long (take q es), length-take-le q es (omega arith)))
+      ∙ ap (sets l at) (sym (ap (joined face) (ap (λ (n : ℕ). take n es) (add-one q) ∙ take-suc es q d h) ∙ joined-snoc face (take q es) (getD es q d)))
 
 -- ---- the faces of the vertices before the i-th
 
@@ -82,11 +92,9 @@ module _ (g : Field) (b : Box) (m : Flags) (first z : ℕ) (below : Kept) where
   length-faces : (i : ℕ) → length (facesTo i) ≡ 6 * length (edgesTo i)
   length-faces i = joined-length (faceOver g b first z below) 6 (length-face g b first z below) (edgesTo i)
 
-  edges-next : (i : ℕ) (c : GridPoint) → i < length (layerVertices g b z) → c ≡ getD (layerVertices g b z) i c → edgesTo (i + 1) ≡ edgesTo i ++ cellEdges g b m c
-  edges-next i c k e =
-      ap (λ (n : ℕ). edgesTo n) (add-one i)
-      ∙ ap (joined (cellEdges g b m)) (take-suc (layerVertices g b z) i c k ∙ ap (λ (p : GridPoint). take i (layerVertices g b z) ++ (p ∷ [])) (sym e))
-      ∙ joined-snoc (cellEdges g b m) (take i (layerVertices g b z)) c
+  edges-next : (i n : ℕ) → edgesTo (i + n) ≡ edgesTo i ++ someEdges g b m z i n
+  edges-next i n = ap (joined (cellEdges g b m)) (take-add i n (layerVertices g b z)) ∙ joined-append (cellEdges g b m) (take i (layerVertices g b z))
+      (take n (drop i (layerVertices g b z)))
 
   edges-all : (i : ℕ) → length (layerVertices g b z) ≤ i → edgesTo i ≡ layerEdges g b m z
   unfolding layerEdges
@@ -112,34 +120,30 @@ module _ (g : Field) (b : Box) (m : Flags) (first z : ℕ) (below : Kept) where
   faced-none l at = record { same = refl; on = omega arith }
 
   module _ {l l' : List ℕ} {at i used : ℕ} (p : Faced l at i used l') where
-    pub faced-more : (c : GridPoint) {used' : ℕ} {l'' : List ℕ} → i < length (layerVertices g b z) → c ≡ getD (layerVertices g b z) i c
-        → l'' ≡ sets l' used (joined (faceOver g b first z below) (cellEdges g b m c)) → used' ≡ used + 6 * length (cellEdges g b m c) → Faced l at (i + 1) used' l''
-    faced-more c k e f h =
+    pub faced-more : (n : ℕ) {used' : ℕ} {l'' : List ℕ} → l'' ≡ sets l' used (joined (faceOver g b first z below) (someEdges g b m z i n))
+        → used' ≡ used + 6 * length (someEdges g b m z i n) → Faced l at (i + n) used' l''
+    faced-more n f h =
         let F = faceOver g b first z below in
-        let next = edges-next i c k e in
+        let next = edges-next i n in
         record {
           same =
-              f ∙ ap (λ (s : List ℕ). sets s used (joined F (cellEdges g b m c))) (p .same)
-              ∙ sets-on l at used (facesTo i) (joined F (cellEdges g b m c)) (p .on ∙ ap (λ (n : ℕ). at + n) (sym (length-faces i)))
-              ∙ ap (sets l at) (sym (ap (joined F) next ∙ joined-append F (edgesTo i) (cellEdges g b m c)));
-          on = omega (arith, h, p .on, ap length next, length-append (edgesTo i) (cellEdges g b m c));
+              f ∙ ap (λ (s : List ℕ). sets s used (joined F (someEdges g b m z i n))) (p .same)
+              ∙ sets-on l at used (facesTo i) (joined F (someEdges g b m z i n)) (p .on ∙ ap (λ (k : ℕ). at + k) (sym (length-faces i)))
+              ∙ ap (sets l at) (sym (ap (joined F) next ∙ joined-append F (edgesTo i) (someEdges g b m z i n)));
+          on = omega (arith, h, p .on, ap length next, length-append (edgesTo i) (someEdges g b m z i n));
         }
-
-    pub faced-room : (c : GridPoint) → i < length (layerVertices g b z) → c ≡ getD (layerVertices g b z) i c → at + 6 * length (layerEdges g b m z) ≤ length l → used + 6 * length
-        (cellEdges g b m c) ≤ length l'
-    faced-room c k e r = omega (
-      arith,
-      p .on,
-      r,
-      edges-within (i + 1),
-      ap length (edges-next i c k e),
-      length-append (edgesTo i) (cellEdges g b m c),
-      ap length (p .same) ∙
-          length-sets l at (facesTo i),
-    )
 
     pub faced-length : length l' ≡ length l
     faced-length = ap length (p .same) ∙ length-sets l at (facesTo i)
+
+    -- room for the next ones
+    pub faced-room : (n : ℕ) → i + n ≤ length (layerVertices g b z) → n ≤ 32 → at + 6 * length (layerEdges g b m z) ≤ length l → Batch g b m z i n (length l') used
+    faced-room n h few r =
+        record {
+          within = h;
+          few = few;
+          room = omega (arith, p .on, r, edges-within (i + n), ap length (edges-next i n), length-append (edgesTo i) (someEdges g b m z i n), faced-length);
+        }
 
     -- after the last vertex
     pub faced-all : length (layerVertices g b z) ≤ i → (l' ≡ sets l at (indicesOver g b m first z below)) × (used ≡ at + 6 * length (layerEdges g b m z))

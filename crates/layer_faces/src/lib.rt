@@ -10,25 +10,25 @@
 //     ----p----- B   v4 down along both.
 //     v4  |  v3
 ghost use mathlib.Core.Path.{_≡_};
-ghost use mathlib.Core.Bool.{_&&_, cond};
-ghost use mathlib.Core.List.{[]};
-ghost use Prim.Native.Nat.{_+_, _*_, _≤_, _<_};
-ghost use lib.Dec.{T};
-ghost use lib.Ieee.{lt, unlike};
-ghost use lib.ListN.{length};
+ghost use mathlib.Core.Bool.{cond};
+ghost use Prim.Native.Nat.{_+_, _*_, _/_, _%_, _≤_, _<_};
+ghost use lib.Dec.{T, ltb};
+ghost use lib.Ieee.{nan};
+ghost use lib.ListN.{length, getD, take, set};
 ghost use lib.Seq.{sets};
-ghost use Rattle.lists.specs.Lists.{one};
-ghost use Rattle.rules.specs.Grid.{isCell};
-ghost use Rattle.rules.specs.Cell.{squaredDistance};
-ghost use Rattle.rules.specs.Faces.{cellEdges, layerEdges, six};
+ghost use Rattle.lists.specs.Lists.{one, joined};
+ghost use Rattle.rules.specs.Grid.{axisX, axisY, axisZ, isCell};
+ghost use Rattle.rules.specs.Faces.{edge, gives, layerEdges};
 ghost use Rattle.cube.specs.AsRules.{vector};
 ghost use Rattle.grid.specs.Block.{point, boxOf, flagsOf};
 ghost use Rattle.grid.specs.Layers.{inLayer, twoLayers, InLayers};
-ghost use Rattle.layer_faces.specs.Below.{nowhere, positionAt, indicesOver, Standing};
-ghost use Rattle.layer_faces.specs.Quads.{seen, looked, quadOf, Reaches, QuadReady, cellQuads};
+ghost use Rattle.layer_faces.specs.Below.{nowhere, positionAt, faceOver, indicesOver, Standing};
+ghost use Rattle.layer_faces.specs.Quads.{seen, quadOf, Reaches, looked, Cells, listed, placeAt, own, axisOf, way2, way3, way4, Ready, quadBy, someEdges, Batch};
 use cube::Point;
 use grid::Block;
+use grid::EachAxis;
 use grid::Extent;
+use grid::signs::counted;
 
 // The number of the layer's first vertex, and of the first of the layer below.
 pub struct Firsts {
@@ -42,10 +42,10 @@ pub struct Vertex {
     pub position: Point,
 }
 
-// Which of the four cells: so many entries before the cell at the edge, in a layer whose first vertex has this number.
-pub struct Step {
+// One of the cells round an edge: so many entries before the edge's own, in this layer or in the one below.
+pub struct Way {
+    pub here: bool,
     pub back: usize,
-    pub first: u32,
 }
 
 // The position of no vertex.
@@ -60,36 +60,6 @@ fn no_position() -> Point
     }
 }
 
-// The position of the vertex v, in a list that begins with the vertex `first`.
-fn vertex_at(positions: &[f32], first: u32, v: u32) -> Point
-    ensures { λ r. ⌜ vector r ≡ positionAt (now (positions .entry)) first v ⌝ }
-{
-    if v < first {
-        return no_position();
-    }
-    let at = 3 * ((v - first) as usize);
-    if positions.len() < at + 3 {
-        return no_position();
-    }
-    Point {
-        x: positions[at],
-        y: positions[at + 1],
-        z: positions[at + 2],
-    }
-}
-
-fn vertex_back(map: &[u32], positions: &[f32], cell: usize, s: Step) -> Vertex
-    requires { ⌜ Reaches (now map) cell s ⌝ }
-    ensures { λ r. ⌜ seen r ≡ looked (now (map .entry)) (now (positions .entry)) cell s ⌝ }
-{
-    let at = cell - s.back;
-    let number = map[at];
-    Vertex {
-        number,
-        position: vertex_at(positions, s.first, number),
-    }
-}
-
 fn pick(first: bool, x: u32, y: u32) -> u32
     ensures { λ r. ⌜ r ≡ cond first x y ⌝ }
 {
@@ -97,6 +67,76 @@ fn pick(first: bool, x: u32, y: u32) -> u32
         return x;
     }
     y
+}
+
+fn choose(first: bool, x: usize, y: usize) -> usize
+    ensures { λ r. ⌜ r ≡ cond first x y ⌝ }
+{
+    if first {
+        return x;
+    }
+    y
+}
+
+// ---- A vertex looked up, in this layer or in the one below: which of the two is chosen without a branch, since it cannot be foreseen.
+
+fn entry_in(here: bool, map: &[u32], below: &[u32], at: usize) -> u32
+    requires { ⌜ at < length (cond here (now map) (now below)) ⌝ }
+    ensures { λ r. ⌜ r ≡ getD (cond here (now (map .entry)) (now (below .entry))) at 0 ⌝ }
+{
+    if here {
+        return map[at];
+    }
+    below[at]
+}
+
+fn float_in(here: bool, positions: &[f32], below: &[f32], at: usize) -> f32
+    requires { ⌜ at < length (cond here (now positions) (now below)) ⌝ }
+    ensures { λ r. ⌜ r ≡ getD (cond here (now (positions .entry)) (now (below .entry))) at nan ⌝ }
+{
+    if here {
+        return positions[at];
+    }
+    below[at]
+}
+
+// The position of the vertex v, in the list of one of the layers; of none where the list has no such vertex.
+fn vertex_in(here: bool, first: Firsts, positions: &[f32], below: &[f32], v: u32) -> Point
+    ensures { λ r. ⌜ vector r ≡ positionAt (cond here (now (positions .entry)) (now (below .entry))) (cond here (first .here) (first .below)) v ⌝ }
+{
+    let start = pick(here, first.here, first.below);
+    let length = choose(here, positions.len(), below.len());
+    if v < start {
+        return no_position();
+    }
+    let at = 3 * ((v - start) as usize);
+    if length < at + 3 {
+        return no_position();
+    }
+    Point {
+        x: float_in(here, positions, below, at),
+        y: float_in(here, positions, below, at + 1),
+        z: float_in(here, positions, below, at + 2),
+    }
+}
+
+fn look(
+    w: Way,
+    first: Firsts,
+    map: &[u32],
+    positions: &[f32],
+    map_below: &[u32],
+    positions_below: &[f32],
+    cell: usize,
+) -> Vertex
+    requires { ⌜ Reaches (now map) (now «map_below») cell w ⌝ }
+    ensures { λ r. ⌜ seen r ≡ looked first (now (map .entry)) (now (positions .entry)) (now («map_below» .entry)) (now («positions_below» .entry)) cell w ⌝ }
+{
+    let number = entry_in(w.here, map, map_below, cell - w.back);
+    Vertex {
+        number,
+        position: vertex_in(w.here, first, positions, positions_below, number),
+    }
 }
 
 // Two triangles, split along the shorter diagonal, facing away from the negative end. The four vertices go round the edge from an end of that diagonal
@@ -134,70 +174,15 @@ fn make_quad(
     );
 }
 
-// The face of one edge, if the box owns it and exactly one end is negative.
-fn maybe_make_quad(
-    own: bool,
-    n1: bool,
-    n2: bool,
-    cell: usize,
-    s1: Step,
-    s2: Step,
-    s3: Step,
-    s4: Step,
-    map1: &[u32],
-    positions1: &[f32],
-    map2: &[u32],
-    positions2: &[f32],
-    map3: &[u32],
-    positions3: &[f32],
-    map4: &[u32],
-    positions4: &[f32],
-    indices: &mut [u32],
-    at: usize,
-) -> usize
-    requires { ⌜ (T (own && unlike n1 n2) → QuadReady (now map1) (now map2) (now map3) (now map4) cell s1 s2 s3 s4 (length (now indices)) at) ⌝ }
-    ensures { λ r. ⌜ now (indices .exit) ≡ sets (now (indices .entry)) at
-        (cond (own && unlike n1 n2) (quadOf n1 (looked (now (map1 .entry)) (now (positions1 .entry)) cell s1) (looked (now (map2 .entry)) (now (positions2 .entry)) cell s2)
-        (looked (now (map3 .entry)) (now (positions3 .entry)) cell s3) (looked (now (map4 .entry)) (now (positions4 .entry)) cell s4)) []) ⌝ }
-    ensures { λ r. ⌜ r ≡ at + 6 * one (own && unlike n1 n2) ⌝ }
-{
-    if !own {
-        return at;
-    }
-    if n1 == n2 {
-        return at;
-    }
-    let v1 = vertex_back(map1, positions1, cell, s1);
-    let v2 = vertex_back(map2, positions2, cell, s2);
-    let v3 = vertex_back(map3, positions3, cell, s3);
-    let v4 = vertex_back(map4, positions4, cell, s4);
-    make_quad(v1, v2, v3, v4, n1, indices, at);
-    at + 6
-}
+// ---- The edges of a batch of vertices that give a face, listed first, so that no branch hangs on a sign.
 
-// The faces of the x, y and z edge from the lowest corner of the cell c.
-fn make_all_quads(
-    lower: &[f32],
-    upper: &[f32],
-    k: Block,
-    c: Extent,
-    first: Firsts,
-    map: &[u32],
-    positions: &[f32],
-    map_below: &[u32],
-    positions_below: &[f32],
-    indices: &mut [u32],
-    at: usize,
-) -> usize
+// Which of the three edges from the lowest corner of the cell c give a face.
+fn giving(lower: &[f32], upper: &[f32], k: Block, c: Extent) -> EachAxis
     requires { ⌜ InLayers (now lower) (now upper) k (c .z) ⌝ }
     requires { ⌜ T (isCell (boxOf k) (point c)) ⌝ }
-    requires { ⌜ inLayer (point (k .dims)) (point (k .high)) < length (now map) ⌝ }
-    requires { ⌜ (k .low .z < c .z → inLayer (point (k .dims)) (point (k .high)) < length (now «map_below»)) ⌝ }
-    requires { ⌜ at + 6 * length (cellEdges (twoLayers (now lower) (now upper) k (c .z)) (boxOf k) (flagsOf k) (point c)) ≤ length (now indices) ⌝ }
-    ensures { λ r. ⌜ now (indices .exit) ≡ sets (now (indices .entry)) at
-        (cellQuads (twoLayers (now (lower .entry)) (now (upper .entry)) k (c .z)) (point c) first (now (map .entry)) (now (positions .entry)) (now («map_below» .entry))
-        (now («positions_below» .entry)) (boxOf k) (flagsOf k)) ⌝ }
-    ensures { λ r. ⌜ r ≡ at + 6 * length (cellEdges (twoLayers (now (lower .entry)) (now (upper .entry)) k (c .z)) (boxOf k) (flagsOf k) (point c)) ⌝ }
+    ensures { λ r. ⌜ r .x ≡ gives (twoLayers (now (lower .entry)) (now (upper .entry)) k (c .z)) (boxOf k) (flagsOf k) (edge axisX (point c)) ⌝ }
+    ensures { λ r. ⌜ r .y ≡ gives (twoLayers (now (lower .entry)) (now (upper .entry)) k (c .z)) (boxOf k) (flagsOf k) (edge axisY (point c)) ⌝ }
+    ensures { λ r. ⌜ r .z ≡ gives (twoLayers (now (lower .entry)) (now (upper .entry)) k (c .z)) (boxOf k) (flagsOf k) (edge axisZ (point c)) ⌝ }
 {
     let row = k.dims.x as usize;
     let cell = (c.x as usize) + row * (c.y as usize);
@@ -206,94 +191,230 @@ fn make_all_quads(
     let nx = cube::negative(lower[cell + 1]);
     let ny = cube::negative(lower[cell + row]);
     let nz = cube::negative(upper[cell]);
-    let v = Step {
-        back: 0,
-        first: first.here,
-    };
-    let left = Step {
-        back: 1,
-        first: first.here,
-    };
-    let front = Step {
-        back: row,
-        first: first.here,
-    };
-    let across = Step {
-        back: row + 1,
-        first: first.here,
-    };
-    let under = Step {
-        back: 0,
-        first: first.below,
-    };
-    let under_left = Step {
-        back: 1,
-        first: first.below,
-    };
-    let under_front = Step {
-        back: row,
-        first: first.below,
-    };
-    let after_x = maybe_make_quad(
-        own.x,
-        n,
-        nx,
+    EachAxis {
+        x: own.x & (n != nx),
+        y: own.y & (n != ny),
+        z: own.z & (n != nz),
+    }
+}
+
+// One edge: the entry m becomes its number either way, and counts if the edge gives a face.
+fn list_edge(edges: &mut [u32], m: usize, e: u32, counts: bool) -> usize
+    requires { ⌜ m < length (now edges) ⌝ }
+    ensures { λ r. ⌜ now (edges .exit) ≡ set (now (edges .entry)) m e ⌝ }
+    ensures { λ r. ⌜ r ≡ m + one counts ⌝ }
+{
+    edges[m] = e;
+    m + (counted(counts) as usize)
+}
+
+// Of the vertices `from` to `from + n` of the layer, at most 32: the edges that give a face, in their order, an edge along axis a (0, 1, 2) of the j-th
+// vertex as 3 j + a; and how many they are.
+fn list_edges(
+    lower: &[f32],
+    upper: &[f32],
+    k: Block,
+    z: u32,
+    cells: &[u32],
+    from: usize,
+    n: usize,
+    edges: &mut [u32],
+) -> usize
+    requires { ⌜ InLayers (now lower) (now upper) k z ⌝ }
+    requires { ⌜ Cells (boxOf k) z (now cells) (from + n) ⌝ }
+    requires { ⌜ n ≤ 32 ⌝ }
+    requires { ⌜ 3 * n ≤ length (now edges) ⌝ }
+    ensures { λ r. ⌜ take r (now (edges .exit)) ≡
+        listed (twoLayers (now (lower .entry)) (now (upper .entry)) k z) (boxOf k) (flagsOf k) (now (cells .entry)) z from (3 * n) ⌝ }
+    ensures { λ r. ⌜ r ≡ length (listed (twoLayers (now (lower .entry)) (now (upper .entry)) k z) (boxOf k) (flagsOf k) (now (cells .entry)) z from (3 * n)) ⌝ }
+{
+    let mut m = 0usize;
+    for j in 0usize..n {
+        let i = 3 * (from + j);
+        let c = Extent {
+            x: cells[i],
+            y: cells[i + 1],
+            z,
+        };
+        let t = giving(lower, upper, k, c);
+        let e = 3 * (j as u32);
+        m = list_edge(edges, m, e, t.x);
+        m = list_edge(edges, m, e + 1, t.y);
+        m = list_edge(edges, m, e + 2, t.z);
+    }
+    m
+}
+
+// ---- The face of one of them.
+
+// Where the cell of the vertex v stands in its layer.
+fn place_of(cells: &[u32], row: usize, v: usize) -> usize
+    requires { ⌜ 3 * v + 2 < length (now cells) ⌝ }
+    requires { ⌜ placeAt row (now cells) v < 18446744073709551616 ⌝ }
+    ensures { λ r. ⌜ r ≡ placeAt row (now (cells .entry)) v ⌝ }
+{
+    (cells[3 * v] as usize) + row * (cells[3 * v + 1] as usize)
+}
+
+// The vertex v of this layer, by its number alone.
+fn own_vertex(first: u32, positions: &[f32], v: usize) -> Vertex
+    requires { ⌜ 3 * v + 2 < length (now positions) ⌝ }
+    requires { ⌜ first + v < 4294967296 ⌝ }
+    ensures { λ r. ⌜ seen r ≡ own first (now (positions .entry)) v ⌝ }
+{
+    Vertex {
+        number: first + (v as u32),
+        position: Point {
+            x: positions[3 * v],
+            y: positions[3 * v + 1],
+            z: positions[3 * v + 2],
+        },
+    }
+}
+
+// The other three cells round an edge along the axis 0, 1 or 2.
+fn second_way(row: usize, axis: u32) -> Way
+    requires { ⌜ axis < 3 ⌝ }
+    ensures { λ r. ⌜ r ≡ way2 row (axisOf axis) ⌝ }
+{
+    Way {
+        here: axis != 1,
+        back: choose(axis == 0, row, choose(axis == 1, 0, 1)),
+    }
+}
+
+fn third_way(row: usize, axis: u32) -> Way
+    requires { ⌜ axis < 3 ⌝ }
+    ensures { λ r. ⌜ r ≡ way3 row (axisOf axis) ⌝ }
+{
+    Way {
+        here: axis != 0,
+        back: choose(axis == 0, 0, choose(axis == 1, 1, row)),
+    }
+}
+
+fn fourth_way(row: usize, axis: u32) -> Way
+    requires { ⌜ axis < 3 ⌝ }
+    requires { ⌜ row < 4294967296 ⌝ }
+    ensures { λ r. ⌜ r ≡ way4 row (axisOf axis) ⌝ }
+{
+    Way {
+        here: axis == 2,
+        back: choose(axis == 0, row, choose(axis == 1, 1, row + 1)),
+    }
+}
+
+// The first vertex is the edge's own; the other three are so many entries before it in the one map or the other.
+fn put_face(
+    lower: &[f32],
+    row: usize,
+    first: Firsts,
+    cells: &[u32],
+    map: &[u32],
+    positions: &[f32],
+    map_below: &[u32],
+    positions_below: &[f32],
+    from: usize,
+    e: u32,
+    indices: &mut [u32],
+    at: usize,
+)
+    requires { ⌜ Ready (now lower) row (first .here) (now cells) (now map) (now positions) (now «map_below») (from + e / 3) (axisOf (e % 3)) ⌝ }
+    requires { ⌜ at + 6 ≤ length (now indices) ⌝ }
+    ensures { λ r. ⌜ now (indices .exit) ≡ sets (now (indices .entry)) at
+        (quadBy first (now (map .entry)) (now (positions .entry)) (now («map_below» .entry)) (now («positions_below» .entry)) (now (lower .entry)) row (now (cells .entry))
+        from e) ⌝ }
+{
+    let v = from + ((e / 3) as usize);
+    let axis = e % 3;
+    let cell = place_of(cells, row, v);
+    let v1 = own_vertex(first.here, positions, v);
+    let v2 = look(
+        second_way(row, axis),
+        first,
+        map,
+        positions,
+        map_below,
+        positions_below,
         cell,
-        v,
-        front,
-        under,
-        under_front,
-        map,
-        positions,
-        map,
-        positions,
-        map_below,
-        positions_below,
-        map_below,
-        positions_below,
-        indices,
-        at,
     );
-    let after_y = maybe_make_quad(
-        own.y,
-        n,
-        ny,
+    let v3 = look(
+        third_way(row, axis),
+        first,
+        map,
+        positions,
+        map_below,
+        positions_below,
         cell,
-        v,
-        under,
-        left,
-        under_left,
-        map,
-        positions,
-        map_below,
-        positions_below,
-        map,
-        positions,
-        map_below,
-        positions_below,
-        indices,
-        after_x,
     );
-    maybe_make_quad(
-        own.z,
-        n,
-        nz,
+    let v4 = look(
+        fourth_way(row, axis),
+        first,
+        map,
+        positions,
+        map_below,
+        positions_below,
         cell,
-        v,
-        left,
-        front,
-        across,
-        map,
-        positions,
-        map,
-        positions,
-        map,
-        positions,
-        map,
-        positions,
-        indices,
-        after_y,
-    )
+    );
+    make_quad(v1, v2, v3, v4, cube::negative(lower[cell]), indices, at);
+}
+
+// The faces of n vertices, at most 32, and where the next one goes.
+fn face_some(
+    lower: &[f32],
+    upper: &[f32],
+    k: Block,
+    z: u32,
+    first: Firsts,
+    cells: &[u32],
+    map: &[u32],
+    positions: &[f32],
+    map_below: &[u32],
+    positions_below: &[f32],
+    from: usize,
+    n: usize,
+    indices: &mut [u32],
+    at: usize,
+) -> usize
+    requires { ⌜ InLayers (now lower) (now upper) k z ⌝ }
+    requires { ⌜ Standing (twoLayers (now lower) (now upper) k z) (boxOf k) (first .here) z (now cells) (now map) (now positions) ⌝ }
+    requires { ⌜ (k .low .z < z → inLayer (point (k .dims)) (point (k .high)) < length (now «map_below»)) ⌝ }
+    requires { ⌜ Batch (twoLayers (now lower) (now upper) k z) (boxOf k) (flagsOf k) z from n (length (now indices)) at ⌝ }
+    ensures { λ r. ⌜ now (indices .exit) ≡ sets (now (indices .entry)) at
+        (joined (faceOver (twoLayers (now (lower .entry)) (now (upper .entry)) k z) (boxOf k) (first .here) z
+        (record { map = now («map_below» .entry); positions = now («positions_below» .entry); first = first .below }))
+        (someEdges (twoLayers (now (lower .entry)) (now (upper .entry)) k z) (boxOf k) (flagsOf k) z from n)) ⌝ }
+    ensures { λ r. ⌜ r ≡ at + 6 * length (someEdges (twoLayers (now (lower .entry)) (now (upper .entry)) k z) (boxOf k) (flagsOf k) z from n) ⌝ }
+{
+    let row = k.dims.x as usize;
+    let mut edges = [0u32; 96];
+    let m = list_edges(lower, upper, k, z, cells, from, n, &mut edges);
+    for q in 0usize..m {
+        put_face(
+            lower,
+            row,
+            first,
+            cells,
+            map,
+            positions,
+            map_below,
+            positions_below,
+            from,
+            edges[q],
+            indices,
+            at + 6 * q,
+        );
+    }
+    at + 6 * m
+}
+
+fn lesser(a: usize, b: usize) -> usize
+    ensures { λ r. ⌜ r ≡ cond (ltb a b) a b ⌝ }
+{
+    if a < b {
+        return a;
+    }
+    b
 }
 
 // The layer z: the faces of its vertices, in their order, from a place of the indices on, and how many numbers they are.
@@ -320,27 +441,28 @@ pub fn face_layer(
         (record { map = now («map_below» .entry); positions = now («positions_below» .entry); first = first .below })) ⌝ }
     ensures { λ r. ⌜ r ≡ 6 * length (layerEdges (twoLayers (now (lower .entry)) (now (upper .entry)) k z) (boxOf k) (flagsOf k) z) ⌝ }
 {
-    let n = cells.len() / 3;
+    let count = cells.len() / 3;
     let mut used = at;
-    for i in 0usize..n {
-        let c = Extent {
-            x: cells[3 * i],
-            y: cells[3 * i + 1],
-            z,
-        };
-        used = make_all_quads(
+    let mut done = 0usize;
+    while done < count {
+        let n = lesser(32, count - done);
+        used = face_some(
             lower,
             upper,
             k,
-            c,
+            z,
             first,
+            cells,
             map,
             positions,
             map_below,
             positions_below,
+            done,
+            n,
             indices,
             used,
         );
+        done += n;
     }
     used - at
 }

@@ -1,13 +1,12 @@
 -- Clearing the points of a row that are no cells: what holds before, in and after each turn of the loop, and that the row is then cleared point by
--- point; and the place at which a row of cells ends. A loop's proof names these facts, and has no arithmetic of its own. Assumes nothing.
+-- point. A loop's proof names these facts, and has no arithmetic of its own. Assumes nothing.
 use Prim.Native.Nat.{ℕ, zero, suc, _+_, _-_, _*_, _≤_, _<_}
 use native.Mathlib.Numerals.{add-one}
 use native.Mathlib.Omega.{arith}
-use mathlib.Core.List.{List, [], _∷_, map}
+use mathlib.Core.List.{List, map}
 use mathlib.Core.Path.{_≡_, refl, sym, ap, _∙_}
 use mathlib.Core.Bool.{false}
-use lib.Ieee.{Float, nan}
-use lib.ListN.{length, set, replicate, length-set}
+use lib.ListN.{length, set, replicate}
 use lib.Seq.{sets, length-sets}
 use Rattle.lists.specs.Lists.{upTo}
 use Rattle.rules.specs.Grid.{GridPoint, Box}
@@ -16,11 +15,9 @@ use Rattle.lists.proofs.Runs.{upTo-none, upTo-first}
 use Rattle.rules.proofs.Indexes.{BoxFits, box-fits}
 use Rattle.grid.specs.declared.Block.{Block}
 use Rattle.grid.specs.Block.{point, boxOf}
-use Rattle.grid.specs.Layers.{inLayer, InLayers}
 use Rattle.grid.proofs.Bounds.{plane-few, corner-inside}
-use Rattle.grid.proofs.Layers.{in-plane, in-order, in-some-grid, layers-fit, plane-small}
-use Rattle.grid.proofs.LayerWalks.{Row, OnRow}
-use Rattle.grid.proofs.Walks.{Span, Counting, begun, ended, PointSpans, point-spans}
+use Rattle.grid.proofs.Layers.{in-plane, in-order, in-some-grid}
+use Rattle.grid.proofs.Walks.{Span, Counting, begun, PointSpans, point-spans}
 use Rattle.layer_vertices.specs.Marked.{InPart}
 use Rattle.layer_vertices.specs.Cells.{pointsOf, entered, cleared, blanked}
 
@@ -43,11 +40,6 @@ row-blank d b z y l h =
         ∙ ap (λ (k : ℕ). entered d (λ (c : GridPoint). false) (m + 0) (map at (upTo (suc x) k)) (set s (x + d .x * y) nullVertex)) on
         ∙ ap (λ (k : ℕ). entered d (λ (c : GridPoint). false) (m + 0) (map at (upTo (suc x) (suc x + n))) (set s k nullVertex)) (sym e)
         ∙ go n (m + 0) (suc x) (suc i) (set s i nullVertex) (omega arith)
-
--- one point
-pub cleared-one : (d p : GridPoint) (l : List ℕ) {at : ℕ} → at ≡ inLayer d p → set l at nullVertex ≡ cleared d (p ∷ []) l
-unfolding entered
-cleared-one d p l e = ap (λ (n : ℕ). set l n nullVertex) e
 
 -- ---- the loop
 
@@ -104,25 +96,3 @@ module _ {mp : List ℕ} {k : Block} (i : InPart mp k) where
 
 pub part-still : {mp mp' : List ℕ} {k : Block} → InPart mp k → length mp' ≡ length mp → InPart mp' k
 part-still i e = record { dims = i .dims; box = i .box; holds = omega (arith, i .holds) }
-
--- ---- where a row of cells ends
-
-pub record RowEnd (k : Block) (y z at x : ℕ) : Type 0 where
-  pub last : x ≡ k .high .x
-  pub place : at ≡ inLayer (point (k .dims)) (record { x = k .high .x; y = y; z = z })
-  pub in-part : at ≤ inLayer (point (k .dims)) (point (k .high))
-  pub few : at < 1073741824
-
-pub row-end : {lower upper : List Float} {k : Block} {y z at x : ℕ} → Row lower upper k y z → OnRow k y z at x → k .high .x ≤ x → RowEnd k y z at x
-row-end {k = k} {y} {z} {at} {x} r o h =
-    let e : x ≡ k .high .x = ended (o .count) h in
-    let p : GridPoint = record { x = k .high .x; y = y; z = z } in
-    let f = layers-fit (r .layers) in
-    let a = r .along-y in
-    let here : at ≡ inLayer (point (k .dims)) p = o .place ∙ ap (λ (n : ℕ). n + k .dims .x * y) e in
-    record {
-      last = e;
-      place = here;
-      in-part = omega (arith, here, in-order (point (k .dims)) p (point (k .high)) (omega arith) (omega arith));
-      few = omega (arith, here, in-plane (point (k .dims)) p (omega arith) (omega arith), plane-small (r .layers));
-    }

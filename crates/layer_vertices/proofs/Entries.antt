@@ -1,16 +1,16 @@
 -- The layer's part of the map: points enter their numbers one after the other, each at its own place, so that after a layer each entry is that of
 -- its one point or the old one. From the one point that a place has in its layer. Assumes nothing.
-use Prim.Native.Nat.{ℕ, suc, _+_, _*_, _/_, _%_, _≤_, _<_}
+use Prim.Native.Nat.{ℕ, suc, _+_, _≤_, _<_}
 use native.Mathlib.Nat.{add-zero, zero-add, mod-add-div, mod-eq-of-lt, div-eq-of-lt, add-mul-mod-self-left, add-mul-div-left}
 use native.Mathlib.Omega.{arith}
 use mathlib.Core.Bool.{Bool, true, false, _&&_, cond}
 use mathlib.Core.List.{List, [], _∷_, _++_}
 use mathlib.Core.Path.{_≡_, refl, sym, ap, subst, _∙_}
-use lib.Dec.{T, eqb, eqb-refl}
+use lib.Dec.{T, eqb}
 use lib.Ieee.Bits.{is-true}
 use lib.Ieee.Fits.{and-i, and-l, and-r}
 use lib.ListN.{length, getD, set, length-set}
-use lib.Seq.{ext-getD, getD-set-same, getD-set-other}
+use lib.Seq.{ext-getD, getD-set-same, getD-set-other, set-getD}
 use Rattle.lists.specs.Lists.{one, keep, many, place, placed, below}
 use Rattle.rules.specs.Grid.{GridPoint, Box, samePoint, isCell}
 use Rattle.rules.specs.Vertices.{layerCells, nullVertex}
@@ -46,7 +46,7 @@ module _ (d : GridPoint) (has : GridPoint → Bool) where
       entered-length (n + one (has c)) cs (set l (inLayer d c) (cond (has c) n nullVertex)) ∙ length-set l (inLayer d c) (cond (has c) n nullVertex)
 
   -- an entry that is no passed point's
-  entered-apart : (n : ℕ) (l : List ℕ) {cs : List GridPoint} (j : ℕ) → All (λ c. j ≡ inLayer d c → ⊥) cs → getD (entered d has n cs l) j 0 ≡ getD l j 0
+  pub entered-apart : (n : ℕ) (l : List ℕ) {cs : List GridPoint} (j : ℕ) → All (λ c. j ≡ inLayer d c → ⊥) cs → getD (entered d has n cs l) j 0 ≡ getD l j 0
   unfolding entered
   entered-apart n l j none = refl
   entered-apart n l j (more {x = c} p q) =
@@ -86,6 +86,25 @@ module _ (d : GridPoint) (has : GridPoint → Bool) where
   entered-none n m l none = refl
   entered-none n m l (more {x = c} {xs = cs} p q) =
       ap (λ (t : Bool). entered d has (n + one t) cs (set l (inLayer d c) (cond t n nullVertex))) p ∙ entered-none (n + 0) (m + 0) (set l (inLayer d c) nullVertex) q
+
+  -- points none of which has a vertex, nor an entry: nothing changes
+  pub entered-bare : (n : ℕ) (l : List ℕ) {cs : List GridPoint} → All (λ c. (has c ≡ false) × (getD l (inLayer d c) 0 ≡ nullVertex)) cs → entered d has n cs l ≡ l
+  unfolding entered
+  entered-bare n l none = refl
+  entered-bare n l (more {x = c} {xs = cs} p q) =
+      ap (λ (t : Bool). entered d has (n + one t) cs (set l (inLayer d c) (cond t n nullVertex))) (p .0)
+      ∙ ap (λ (v : ℕ). entered d has (n + 0) cs (set l (inLayer d c) v)) (sym (p .1))
+      ∙ ap (entered d has (n + 0) cs) (set-getD l (inLayer d c) 0)
+      ∙ entered-bare (n + 0) l q
+
+-- two tests that agree on the points
+pub entered-same : (d : GridPoint) {has has' : GridPoint → Bool} (n : ℕ) (l : List ℕ) {cs : List GridPoint} → All (λ c. has c ≡ has' c) cs
+    → entered d has n cs l ≡ entered d has' n cs l
+unfolding entered
+entered-same d n l none = refl
+entered-same d {has} {has'} n l (more {x = c} {xs = cs} p q) =
+    ap (λ (t : Bool). entered d has (n + one t) cs (set l (inLayer d c) (cond t n nullVertex))) p
+    ∙ entered-same d (n + one (has' c)) (set l (inLayer d c) (cond (has' c) n nullVertex)) q
 
 -- they may be cleared in two runs
 pub cleared-append : (d : GridPoint) (s t : List GridPoint) (l : List ℕ) → cleared d t (cleared d s l) ≡ cleared d (s ++ t) l

@@ -42,6 +42,10 @@ point-is b p = same-test (isCell (pointsOf b) p) (inBox b p) to from
     from t = let w = within b p t in is-cell (pointsOf b) p (omega arith)
 
 module _ (g : Field) (b : Box) where
+  -- a cell has a vertex if it is a surface cell
+  pub has-cell : (c : GridPoint) → T (isCell b c) → hasVertex g b c ≡ surfaceCell g c
+  has-cell c t = ap (λ (s : Bool). s && surfaceCell g c) (is-true (isCell b c) t)
+
   -- a point on one of the max sides has no vertex
   pub no-vertex : (p : GridPoint) → (T (isCell b p) → ⊥) → hasVertex g b p ≡ false
   no-vertex p h = ap (λ (t : Bool). t && surfaceCell g p) (is-false (isCell b p) h)
@@ -73,7 +77,7 @@ module _ (g : Field) (b : Box) where
         is : (x : ℕ) → b .low .x ≤ x → x < b .high .x → hasVertex g b (record { x = x; y = y; z = z }) ≡ surfaceCell g (record { x = x; y = y; z = z })
         is x m k =
             let p : GridPoint = record { x = x; y = y; z = z } in
-            ap (λ (t : Bool). t && surfaceCell g p) (is-true (isCell b p) (is-cell b p (record { x = (m, k); y = (l, h); z = zs })))
+            has-cell p (is-cell b p (record { x = (m, k); y = (l, h); z = zs }))
 
         cells-kept : keep (hasVertex g b) (rowCells b z y) ≡ keep (surfaceCell g) (rowCells b z y)
         cells-kept = keep-same (all-map (λ (x : ℕ). record { x = x; y = y; z = z }) (upTo-each (b .low .x) (b .high .x) is))

@@ -6,6 +6,7 @@ use denote.Ref.{RefT, now}
 use denote.Triple.Both.{Both}
 use lib.Ieee.{Float}
 use Rattle.layer_vertices.specs.Marked.{Lists, lists}
+use Rattle.layer_vertices.specs.Cells.{Finds, finds}
 
 -- a list that is lent for writing: where a call begins, and where it ends
 abbrev pub Lent : Type 0 → Type 0
@@ -21,3 +22,13 @@ listsBefore positions normals cells strides crossings map =
 abbrev pub listsAfter : Lent Float → Lent Float → Lent ℕ → Lent ℕ → Lent ℕ → Lent ℕ → Lists
 listsAfter positions normals cells strides crossings map =
     listsGiven (positions .exit) (normals .exit) (cells .exit) (strides .exit) (crossings .exit) (map .exit)
+
+-- those that finding the surface cells writes
+abbrev pub findsGiven : RefT (List ℕ) → RefT (List ℕ) → RefT (List ℕ) → Finds
+findsGiven cells strides map = finds (now cells) (now strides) (now map)
+
+abbrev pub findsBefore : Lent ℕ → Lent ℕ → Lent ℕ → Finds
+findsBefore cells strides map = findsGiven (cells .entry) (strides .entry) (map .entry)
+
+abbrev pub findsAfter : Lent ℕ → Lent ℕ → Lent ℕ → Finds
+findsAfter cells strides map = findsGiven (cells .exit) (strides .exit) (map .exit)

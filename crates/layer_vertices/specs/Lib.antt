@@ -1,4 +1,4 @@
 -- What marking a layer leaves of the lent lists.
 pub mod Marked
-pub mod Lent
 pub mod Cells
+pub mod Lent

@@ -1,25 +1,32 @@
-// The vertices of one layer of cells, from the two layers of distances that hold its corners: the Rust's estimate_surface, a layer at a time. The
-// vertices go to the lent lists from a place on, and the entry of each point of the box to the layer's part of the map, which nothing here reads.
+// The vertices of one layer of cells, from the two layers of distances that hold its corners: the Rust's estimate_surface, a layer at a time. First
+// the surface cells are found, row by row, with the entry of each point of the box in the layer's part of the map; then their vertices are worked out,
+// from the cells just listed. All go to the lent lists from a place on.
 ghost use mathlib.Core.Path.{_≡_};
-ghost use mathlib.Core.List.{_∷_, []};
-ghost use Prim.Native.Nat.{_+_, _*_, _<_, _≤_};
-ghost use lib.ListN.{length, set};
+ghost use mathlib.Core.Bool.{_&&_};
+ghost use mathlib.Core.List.{_∷_, [], map as each};
+ghost use Prim.Native.Nat.{_+_, _*_, _<_, _≤_, min};
+ghost use lib.Dec.{leb};
+ghost use lib.ListN.{length, set, take, drop};
 ghost use lib.Seq.{sets};
-ghost use Rattle.lists.specs.Lists.{one, placed};
-ghost use Rattle.rules.specs.Cell.{surface, crossings as crossed, centroid, position, normal};
-ghost use Rattle.rules.specs.Vertices.{rowCells, layerVertices};
+ghost use Rattle.lists.specs.Lists.{placed};
+ghost use Rattle.rules.specs.Vertices.{rowCells, layerVertices, vertexPosition, vertexNormal, vertexCrossings};
 ghost use Rattle.rules.specs.Grid.{index};
+ghost use Rattle.rules.specs.Call.{flatVectors, flatPoints};
 ghost use Rattle.grid.specs.Block.{point, boxOf};
 ghost use Rattle.grid.specs.Inside.{PointInside};
 ghost use Rattle.grid.specs.Layers.{inLayer, twoLayers, InLayers};
+ghost use Rattle.layer_estimates.specs.Estimates.{RoomFor};
 ghost use Rattle.layer_vertices.specs.Marked.{marked, lastEntry, Room, InPart};
-ghost use Rattle.layer_vertices.specs.Lent.{listsGiven, listsBefore, listsAfter};
-ghost use Rattle.layer_vertices.specs.Cells.{advanced, pointsOf, passed, blanked, found, cellLeft, CellReady};
+ghost use Rattle.layer_vertices.specs.Cells.{pointsOf, hasVertex, blanked, found, Passes, RoomToFind, layerFound, classOf, classes, noneMarked, Numbering, Numbered};
+ghost use Rattle.layer_vertices.specs.Lent.{listsGiven, listsBefore, listsAfter, findsGiven, findsBefore, findsAfter};
 use grid::Block;
 use grid::Extent;
 
 // The map's entry of a cell without a vertex, and of a point of the box that is no cell.
 pub const NULL_VERTEX: u32 = 4294967295;
+
+// What stands there of a surface cell between its classing and its number: anything but NULL_VERTEX.
+const MARK: u32 = 0;
 
 // Where the next vertex goes: its place in the lists, and the number that it gets. In a call for the whole box the two are the same; who has the box
 // layer by layer begins each layer's lists anew, while the numbers run on.
@@ -28,31 +35,7 @@ pub struct Next {
     pub number: u32,
 }
 
-// A surface cell's position, normal and number of crossings, at a place of their lists.
-fn estimate_surface_in_cube(
-    d: &[f32; 8],
-    c: Extent,
-    place: usize,
-    positions: &mut [f32],
-    normals: &mut [f32],
-    crossings: &mut [u8],
-)
-    requires { ⌜ (3 * place + 2 < length (now positions)) × ((3 * place + 2 < length (now normals)) × (place < length (now crossings))) ⌝ }
-    ensures { λ _. ⌜ (let p = position (point c) (centroid (now (d .entry))) in
-        now (positions .exit) ≡ sets (now (positions .entry)) (3 * place) (p .x ∷ p .y ∷ p .z ∷ [])) ⌝ }
-    ensures { λ _. ⌜ (let n = normal (now (d .entry)) (centroid (now (d .entry))) in
-        now (normals .exit) ≡ sets (now (normals .entry)) (3 * place) (n .x ∷ n .y ∷ n .z ∷ [])) ⌝ }
-    ensures { λ _. ⌜ now (crossings .exit) ≡ set (now (crossings .entry)) place (crossed (now (d .entry))) ⌝ }
-{
-    let from = 3 * place;
-    let average = cube::centroid_of_edge_intersections(d);
-    let s = average.point;
-    stores::put_vector(positions, from, cube::position_in(c.x, c.y, c.z, s));
-    stores::put_vector(normals, from, cube::sdf_gradient(d, s));
-    crossings[place] = average.crossings;
-}
-
-// Its cell and its stride, at the same place.
+// Its cell and its stride, at a place of their lists.
 fn put_cell(dims: Extent, c: Extent, place: usize, cells: &mut [u32], strides: &mut [u32])
     requires { ⌜ PointInside (point dims) (point c) ⌝ }
     requires { ⌜ (3 * place + 2 < length (now cells)) × (place < length (now strides)) ⌝ }
@@ -64,31 +47,49 @@ fn put_cell(dims: Extent, c: Extent, place: usize, cells: &mut [u32], strides: &
     stores::put_three(cells, 3 * place, c.x, c.y, c.z);
 }
 
-// One cell, by its corner values, its lowest corner and its place in the layer: a vertex and its number, or the entry of none.
-fn mark_cell(
-    d: &[f32; 8],
+// ---- A row of cells is classed first, into its own entries of the map, by a loop that neither branches nor stops early; then only the cells that
+// it marked are visited.
+
+// The entry of a cell by how many of its corners are negative: a mark, or no vertex.
+fn class_entry(negatives: u32) -> u32
+    ensures { λ r. ⌜ r ≡ classOf (leb 1 negatives && leb negatives 7) ⌝ }
+{
+    if (1 <= negatives) & (negatives <= 7) {
+        return MARK;
+    }
+    NULL_VERTEX
+}
+
+// n cells in a row, `at` being the place of the first one's lowest corner.
+fn class_row(lower: &[f32], upper: &[f32], at: usize, row: usize, n: usize, map: &mut [u32])
+    requires { ⌜ (at + n + row < length (now lower)) × (at + n + row < length (now upper)) ⌝ }
+    requires { ⌜ at + n ≤ length (now map) ⌝ }
+    ensures { λ _. ⌜ now (map .exit) ≡ sets (now (map .entry)) at (classes (now (lower .entry)) (now (upper .entry)) at row n) ⌝ }
+{
+    for j in 0usize..n {
+        let low = grid::signs::side_negatives(lower, upper, at + j, row);
+        let high = grid::signs::side_negatives(lower, upper, at + j + 1, row);
+        map[at + j] = class_entry(low + high);
+    }
+}
+
+// A cell that is marked gets the next number.
+fn number_cell(
     dims: Extent,
     c: Extent,
     at: usize,
     next: Next,
-    positions: &mut [f32],
-    normals: &mut [f32],
     cells: &mut [u32],
     strides: &mut [u32],
-    crossings: &mut [u8],
     map: &mut [u32],
 ) -> Next
-    requires { ⌜ CellReady (now d) (point dims) (point c) at next (listsGiven positions normals cells strides crossings map) ⌝ }
-    ensures { λ r. ⌜ listsAfter positions normals cells strides crossings map
-        ≡ cellLeft (now (d .entry)) (point c) at (index (point dims) (point c)) next (listsBefore positions normals cells strides crossings map) ⌝ }
-    ensures { λ r. ⌜ r ≡ advanced next (one (surface (now (d .entry)))) ⌝ }
+    requires { ⌜ Numbering (point dims) (point c) at 1 next (findsGiven cells strides map) ⌝ }
+    ensures { λ r. ⌜ Numbered (point dims) (point c) 1 next (findsBefore cells strides map) r (findsAfter cells strides map) ⌝ }
 {
-    if !cube::is_surface(d) {
-        map[at] = NULL_VERTEX;
+    if map[at] == NULL_VERTEX {
         return next;
     }
     let place = next.place;
-    estimate_surface_in_cube(d, c, place, positions, normals, crossings);
     put_cell(dims, c, place, cells, strides);
     map[at] = next.number;
     Next {
@@ -97,59 +98,151 @@ fn mark_cell(
     }
 }
 
-// The row y of the layer z. Each x side is read once: the upper side of a cell is the lower one of the next. The row's last point is no cell.
-fn mark_row(
+// The marked ones of n cells in a row, c being the first.
+fn number_some(
+    dims: Extent,
+    c: Extent,
+    at: usize,
+    n: u32,
+    next: Next,
+    cells: &mut [u32],
+    strides: &mut [u32],
+    map: &mut [u32],
+) -> Next
+    requires { ⌜ Numbering (point dims) (point c) at n next (findsGiven cells strides map) ⌝ }
+    ensures { λ r. ⌜ Numbered (point dims) (point c) n next (findsBefore cells strides map) r (findsAfter cells strides map) ⌝ }
+{
+    let mut state = next;
+    for j in 0u32..n {
+        let p = Extent {
+            x: c.x + j,
+            y: c.y,
+            z: c.z,
+        };
+        state = number_cell(dims, p, at + (j as usize), state, cells, strides, map);
+    }
+    state
+}
+
+// None of eight entries is a mark. Tested at once, without a branch.
+fn none_of_eight(map: &[u32], at: usize) -> bool
+    requires { ⌜ at + 8 ≤ length (now map) ⌝ }
+    ensures { λ r. ⌜ r ≡ noneMarked (now (map .entry)) at 8 ⌝ }
+{
+    let a = (map[at] == NULL_VERTEX) & (map[at + 1] == NULL_VERTEX);
+    let b = (map[at + 2] == NULL_VERTEX) & (map[at + 3] == NULL_VERTEX);
+    let c = (map[at + 4] == NULL_VERTEX) & (map[at + 5] == NULL_VERTEX);
+    let d = (map[at + 6] == NULL_VERTEX) & (map[at + 7] == NULL_VERTEX);
+    (a & b) & (c & d)
+}
+
+// At most eight entries of which none is a mark, as far as that is seen at once: yes is said of eight alone.
+fn none_of(map: &[u32], at: usize, n: u32) -> bool
+    requires { ⌜ (n ≤ 8) × (at + n ≤ length (now map)) ⌝ }
+    ensures { λ r. ⌜ r ≡ (leb 8 n && noneMarked (now (map .entry)) at n) ⌝ }
+{
+    if n < 8 {
+        return false;
+    }
+    none_of_eight(map, at)
+}
+
+// The marked ones of at most eight cells in a row, which are left at once where that is seen.
+fn number_eight(
+    dims: Extent,
+    c: Extent,
+    at: usize,
+    n: u32,
+    next: Next,
+    cells: &mut [u32],
+    strides: &mut [u32],
+    map: &mut [u32],
+) -> Next
+    requires { ⌜ n ≤ 8 ⌝ }
+    requires { ⌜ Numbering (point dims) (point c) at n next (findsGiven cells strides map) ⌝ }
+    ensures { λ r. ⌜ Numbered (point dims) (point c) n next (findsBefore cells strides map) r (findsAfter cells strides map) ⌝ }
+{
+    if none_of(map, at, n) {
+        return next;
+    }
+    number_some(dims, c, at, n, next, cells, strides, map)
+}
+
+fn lesser(a: u32, b: u32) -> u32
+    ensures { λ r. ⌜ r ≡ min a b ⌝ }
+{
+    if a < b {
+        return a;
+    }
+    b
+}
+
+// The marked ones of a row's n cells, eight at a time.
+fn number_row(
+    dims: Extent,
+    c: Extent,
+    at: usize,
+    n: u32,
+    next: Next,
+    cells: &mut [u32],
+    strides: &mut [u32],
+    map: &mut [u32],
+) -> Next
+    requires { ⌜ Numbering (point dims) (point c) at n next (findsGiven cells strides map) ⌝ }
+    ensures { λ r. ⌜ Numbered (point dims) (point c) n next (findsBefore cells strides map) r (findsAfter cells strides map) ⌝ }
+{
+    let mut state = next;
+    let mut j = 0u32;
+    while j < n {
+        let m = lesser(8, n - j);
+        let p = Extent {
+            x: c.x + j,
+            y: c.y,
+            z: c.z,
+        };
+        state = number_eight(dims, p, at + (j as usize), m, state, cells, strides, map);
+        j += m;
+    }
+    state
+}
+
+// The row y of the layer z. The row's last point is no cell.
+fn find_row(
     lower: &[f32],
     upper: &[f32],
     k: Block,
     y: u32,
     z: u32,
     next: Next,
-    positions: &mut [f32],
-    normals: &mut [f32],
     cells: &mut [u32],
     strides: &mut [u32],
-    crossings: &mut [u8],
     map: &mut [u32],
 ) -> Next
     requires { ⌜ InLayers (now lower) (now upper) k z ⌝ }
     requires { ⌜ (k .low .y ≤ y) × (y < k .high .y) ⌝ }
     requires { ⌜ inLayer (point (k .dims)) (point (k .high)) < length (now map) ⌝ }
-    requires { ⌜ Room next (found (twoLayers (now lower) (now upper) k z) (boxOf k) (rowCells (pointsOf (boxOf k)) z y))
-        (listsGiven positions normals cells strides crossings map) ⌝ }
-    ensures { λ r. ⌜ listsAfter positions normals cells strides crossings map
-        ≡ passed (twoLayers (now (lower .entry)) (now (upper .entry)) k z) (boxOf k) next (rowCells (pointsOf (boxOf k)) z y)
-        (listsBefore positions normals cells strides crossings map) ⌝ }
-    ensures { λ r. ⌜ r ≡ advanced next (found (twoLayers (now (lower .entry)) (now (upper .entry)) k z) (boxOf k) (rowCells (pointsOf (boxOf k)) z y)) ⌝ }
+    requires { ⌜ RoomToFind next (found (hasVertex (twoLayers (now lower) (now upper) k z) (boxOf k)) (rowCells (pointsOf (boxOf k)) z y))
+        (findsGiven cells strides map) ⌝ }
+    ensures { λ r. ⌜ Passes (point (k .dims)) (hasVertex (twoLayers (now (lower .entry)) (now (upper .entry)) k z) (boxOf k)) next
+        (findsBefore cells strides map) (rowCells (pointsOf (boxOf k)) z y) r (findsAfter cells strides map) ⌝ }
 {
     let from = k.low.x;
-    let end = k.high.x;
+    let n = k.high.x - from;
     let row = k.dims.x as usize;
-    let mut at = (from as usize) + row * (y as usize);
-    let mut low = grid::corners::side_between(lower, upper, at, row);
-    let mut state = next;
-    for x in from..end {
-        let high = grid::corners::side_between(lower, upper, at + 1, row);
-        let d = grid::corners::corners(low, high);
-        state = mark_cell(
-            &d,
-            k.dims,
-            Extent { x, y, z },
-            at,
-            state,
-            positions,
-            normals,
-            cells,
-            strides,
-            crossings,
-            map,
-        );
-        low = high;
-        at += 1;
-    }
-    let last = at;
+    let at = (from as usize) + row * (y as usize);
+    let last = at + (n as usize);
+    class_row(lower, upper, at, row, n as usize, map);
     map[last] = NULL_VERTEX;
-    state
+    number_row(
+        k.dims,
+        Extent { x: from, y, z },
+        at,
+        n,
+        next,
+        cells,
+        strides,
+        map,
+    )
 }
 
 // The row y of a layer's part of the map, where none of the box's points is a cell.
@@ -168,7 +261,76 @@ fn clear_row(k: Block, y: u32, map: &mut [u32])
     }
 }
 
-// The layer z of cells: how many vertices it has, all of them in the lists and their numbers in the layer's part of the map. The layer's last row has no cells.
+// The layer z of cells: its surface cells, and the entries of its points. The layer's last row has no cells.
+fn find_layer(
+    lower: &[f32],
+    upper: &[f32],
+    k: Block,
+    z: u32,
+    next: Next,
+    cells: &mut [u32],
+    strides: &mut [u32],
+    map: &mut [u32],
+) -> usize
+    requires { ⌜ InLayers (now lower) (now upper) k z ⌝ }
+    requires { ⌜ inLayer (point (k .dims)) (point (k .high)) < length (now map) ⌝ }
+    requires { ⌜ RoomToFind next (length (layerVertices (twoLayers (now lower) (now upper) k z) (boxOf k) z)) (findsGiven cells strides map) ⌝ }
+    ensures { λ r. ⌜ findsAfter cells strides map
+        ≡ layerFound (twoLayers (now (lower .entry)) (now (upper .entry)) k z) (boxOf k) z next (findsBefore cells strides map) ⌝ }
+    ensures { λ r. ⌜ r ≡ length (layerVertices (twoLayers (now (lower .entry)) (now (upper .entry)) k z) (boxOf k) z) ⌝ }
+{
+    let from = k.low.y;
+    let end = k.high.y;
+    let first = next.place;
+    let mut state = next;
+    for y in from..end {
+        state = find_row(lower, upper, k, y, z, state, cells, strides, map);
+    }
+    clear_row(k, end, map);
+    state.place - first
+}
+
+// The vertices of `count` surface cells that the list holds from a place on, at the same place of their lists.
+fn estimate_part(
+    lower: &[f32],
+    upper: &[f32],
+    k: Block,
+    z: u32,
+    place: usize,
+    count: usize,
+    cells: &[u32],
+    positions: &mut [f32],
+    normals: &mut [f32],
+    crossings: &mut [u8],
+)
+    requires { ⌜ InLayers (now lower) (now upper) k z ⌝ }
+    requires { ⌜ count ≡ length (layerVertices (twoLayers (now lower) (now upper) k z) (boxOf k) z) ⌝ }
+    requires { ⌜ 3 * (place + count) ≤ length (now cells) ⌝ }
+    requires { ⌜ take (3 * count) (drop (3 * place) (now cells)) ≡ flatPoints (layerVertices (twoLayers (now lower) (now upper) k z) (boxOf k) z) ⌝ }
+    requires { ⌜ RoomFor (place + count) (now positions) (now normals) (now crossings) ⌝ }
+    ensures { λ r. ⌜ (let g = twoLayers (now (lower .entry)) (now (upper .entry)) k z in
+        now (positions .exit) ≡ sets (now (positions .entry)) (3 * place) (flatVectors (each (vertexPosition g) (layerVertices g (boxOf k) z)))) ⌝ }
+    ensures { λ r. ⌜ (let g = twoLayers (now (lower .entry)) (now (upper .entry)) k z in
+        now (normals .exit) ≡ sets (now (normals .entry)) (3 * place) (flatVectors (each (vertexNormal g) (layerVertices g (boxOf k) z)))) ⌝ }
+    ensures { λ r. ⌜ (let g = twoLayers (now (lower .entry)) (now (upper .entry)) k z in
+        now (crossings .exit) ≡ sets (now (crossings .entry)) place (each (vertexCrossings g) (layerVertices g (boxOf k) z))) ⌝ }
+{
+    let here = 3 * place;
+    let end = here + 3 * count;
+    layer_estimates::estimate_layer(
+        lower,
+        upper,
+        k,
+        z,
+        &cells[here..end],
+        place,
+        positions,
+        normals,
+        crossings,
+    );
+}
+
+// The layer z of cells: how many vertices it has, all of them in the lists and their numbers in the layer's part of the map.
 pub fn mark_layer(
     lower: &[f32],
     upper: &[f32],
@@ -189,28 +351,20 @@ pub fn mark_layer(
         ≡ marked (twoLayers (now (lower .entry)) (now (upper .entry)) k z) (boxOf k) z next (listsBefore positions normals cells strides crossings map) ⌝ }
     ensures { λ r. ⌜ r ≡ length (layerVertices (twoLayers (now (lower .entry)) (now (upper .entry)) k z) (boxOf k) z) ⌝ }
 {
-    let from = k.low.y;
-    let end = k.high.y;
-    let first = next.place;
-    let mut state = next;
-    for y in from..end {
-        state = mark_row(
-            lower,
-            upper,
-            k,
-            y,
-            z,
-            state,
-            positions,
-            normals,
-            cells,
-            strides,
-            crossings,
-            map,
-        );
-    }
-    clear_row(k, end, map);
-    state.place - first
+    let count = find_layer(lower, upper, k, z, next, cells, strides, map);
+    estimate_part(
+        lower,
+        upper,
+        k,
+        z,
+        next.place,
+        count,
+        cells,
+        positions,
+        normals,
+        crossings,
+    );
+    count
 }
 
 // The part of the map of the box's last layer, where no point is a cell.

@@ -52,6 +52,14 @@ use Rattle.marks.proofs.stored.floats_are.Kinds as floats-are-kinds
 use Rattle.marks.proofs.stored.floats_are.Reads as floats-are
 use Rattle.judge.proofs.answer_for.Kinds as answer-for-kinds
 use Rattle.judge.proofs.answer_for.Reads as answer-for
+use Rattle.grid.proofs.scan.bad_layer.Kinds as bad-layer-kinds
+use Rattle.grid.proofs.scan.bad_layer.Reads as bad-layer
+use Rattle.grid.proofs.signs.counted.Kinds as counted-kinds
+use Rattle.grid.proofs.signs.counted.Reads as counted
+use Rattle.grid.proofs.signs.side_negatives.Kinds as side-negatives-kinds
+use Rattle.grid.proofs.signs.side_negatives.Reads as side-negatives
+use Rattle.grid.proofs.signs.surface_count.Kinds as surface-count-kinds
+use Rattle.grid.proofs.signs.surface_count.Reads as surface-count
 use Rattle.grid.proofs.corners.side_between.Kinds as side-between-kinds
 use Rattle.grid.proofs.corners.side_between.Reads as side-between
 use Rattle.stores.proofs.put_vector.Kinds as put-vector-kinds
@@ -60,6 +68,8 @@ use Rattle.stores.proofs.put_three.Kinds as put-three-kinds
 use Rattle.stores.proofs.put_three.Reads as put-three
 use Rattle.stores.proofs.put_six.Kinds as put-six-kinds
 use Rattle.stores.proofs.put_six.Reads as put-six
+use Rattle.layer_estimates.proofs.estimate_layer.Kinds as estimate-layer-kinds
+use Rattle.layer_estimates.proofs.estimate_layer.Reads as estimate-layer
 use Rattle.layer_vertices.proofs.mark_layer.Kinds as mark-layer-kinds
 use Rattle.layer_vertices.proofs.mark_layer.Reads as mark-layer
 use Rattle.layer_vertices.proofs.clear_layer.Kinds as clear-layer-kinds
@@ -106,7 +116,10 @@ pub count-layer-once : OneOutcome 2 count-layer-kinds.ps count-layer-kinds.r cou
 count-layer-once κs a o o' l l' = let s = l ∙ sym l' in λ i. record { result = s i; last = o .last }
 
 pub count-box-once : OneOutcome 1 count-box-kinds.ps count-box-kinds.r count-box.Learnt
-count-box-once κs a o o' l l' = let s = l ∙ sym l' in λ i. record { result = s i; last = o .last }
+count-box-once κs a o o' l l' =
+    let b = l .0 ∙ sym (l' .0) in
+    let t = l .1 ∙ sym (l' .1) in
+    λ i. record { result = record { bad = b i; vertices = t i .vertices; indices = t i .indices }; last = o .last }
 
 pub owns-once : OneOutcome 0 owns-kinds.ps owns-kinds.r owns.Learnt
 owns-once κs a o o' l l' = let s = l ∙ sym l' in λ i. record { result = s i; last = o .last }
@@ -122,6 +135,18 @@ either-once κs a o o' l l' = let s = l ∙ sym l' in λ i. record { result = s 
 
 pub bad-distance-once : OneOutcome 1 bad-distance-kinds.ps bad-distance-kinds.r bad-distance.Learnt
 bad-distance-once κs a o o' l l' = let s = l ∙ sym l' in λ i. record { result = s i; last = o .last }
+
+pub bad-layer-once : OneOutcome 1 bad-layer-kinds.ps bad-layer-kinds.r bad-layer.Learnt
+bad-layer-once κs a o o' l l' = let s = l ∙ sym l' in λ i. record { result = s i; last = o .last }
+
+pub counted-once : OneOutcome 0 counted-kinds.ps counted-kinds.r counted.Learnt
+counted-once κs a o o' l l' = let s = l .0 ∙ sym (l' .0) in λ i. record { result = s i; last = o .last }
+
+pub side-negatives-once : OneOutcome 2 side-negatives-kinds.ps side-negatives-kinds.r side-negatives.Learnt
+side-negatives-once κs a o o' l l' = let s = l .0 ∙ sym (l' .0) in λ i. record { result = s i; last = o .last }
+
+pub surface-count-once : OneOutcome 0 surface-count-kinds.ps surface-count-kinds.r surface-count.Learnt
+surface-count-once κs a o o' l l' = let s = l .0 ∙ sym (l' .0) in λ i. record { result = s i; last = o .last }
 
 -- the answer alone
 pub answer-for-once : OneOutcome 1 answer-for-kinds.ps answer-for-kinds.r answer-for.Learnt
@@ -169,6 +194,14 @@ put-three-once κs a o o' l l' = let s = l ∙ sym l' in λ i. record { result =
 
 pub put-six-once : OneOutcome 1 put-six-kinds.ps put-six-kinds.r put-six.Learnt
 put-six-once κs a o o' l l' = let s = l ∙ sym l' in λ i. record { result = tt; last = (s i, (tt, (tt, (tt, (tt, (tt, (tt, (tt, tt)))))))) }
+
+-- the vertices of a layer's surface cells: their three lists
+pub estimate-layer-once : OneOutcome 6 estimate-layer-kinds.ps estimate-layer-kinds.r estimate-layer.Learnt
+estimate-layer-once κs a o o' l l' =
+    let p = l .0 ∙ sym (l' .0) in
+    let n = l .1 .0 ∙ sym (l' .1 .0) in
+    let x = l .1 .1 ∙ sym (l' .1 .1) in
+    λ i. record { result = tt; last = (tt, (tt, (tt, (tt, (tt, (tt, (p i, (n i, (x i, tt))))))))) }
 
 -- a layer's vertices: how many, the five lists, and the layer's part of the map
 pub mark-layer-once : OneOutcome 8 mark-layer-kinds.ps mark-layer-kinds.r mark-layer.Learnt

@@ -1,39 +1,58 @@
--- The invariant: the counts are those of the cells before the layer z. Assumes nothing.
+-- The invariant: the flag says whether a layer of points up to z has a distance beyond the cap, and the counts are those of the cells before the layer z.
+-- Assumes nothing.
 use Prim.Native.Nat.{_+_, _-_}
+use native.Mathlib.Omega.{arith}
+use mathlib.Core.Path.{_∙_}
+use borrow.Author.Needs.{needs}
+use Rattle.rules.specs.Call.{badLayer}
 use Rattle.grid.specs.Block.{boxOf, fieldOf}
 use Rattle.grid.specs.Order.{boxTo}
-use Rattle.grid.proofs.Walks.{Counting, begun, cell-spans, AtLayer, at-layer, box-done}
+use Rattle.grid.proofs.Runs.{box-is}
+use Rattle.grid.proofs.Walks.{Ahead, ahead-begun, ahead-more, ahead-ended, cell-spans, AtLayer, at-layer, box-done}
 use Rattle.grid.proofs.Order.{box-begins}
 use Rattle.count.proofs.Tallies.{Counts, counts-none, counts-all, Step, step}
 use Rattle.count.proofs.count_box.Statement.{statement}
 use Rattle.count.proofs.count_box.Tie as tie
 
 abbrev Inv-loop : tie.InvT-loop
-Inv-loop sdf k from end vertices₀ indices₀ z₀ vertices indices z = Counting from end z × Counts (fieldOf sdf k) k (boxTo (boxOf k) z) vertices indices
+Inv-loop sdf k from end bad₀ vertices₀ indices₀ z₀ bad vertices indices z =
+    Ahead (badLayer (fieldOf sdf k) (boxOf k)) from end z bad × Counts (fieldOf sdf k) k (boxTo (boxOf k) z) vertices indices
 
 abbrev μ-loop : tie.MeasureT-loop
-μ-loop sdf k from end vertices₀ indices₀ z₀ vertices indices z = end - z
+μ-loop sdf k from end bad₀ vertices₀ indices₀ z₀ bad vertices indices z = end - z
 
 -- the places that a later one leads back to
 abbrev entry-of : tie.At-loop Inv-loop μ-loop → tie.Start Inv-loop μ-loop
-entry-of c = c .before .before
+entry-of c = c .before .before .before
 
 abbrev turn-of : tie.After-count-part Inv-loop μ-loop → tie.In-loop Inv-loop μ-loop
-turn-of c = c .before
+turn-of c = c .before .before .before
 
 -- the layer of a turn, and what it adds
 here : (c : tie.In-loop Inv-loop μ-loop) → let a = entry-of (c .before) .args in AtLayer (a .k) (c .before .loop .z)
-here c = at-layer (entry-of (c .before) .pre) (c .before .loop .inv .0) (c .loop-test .taken)
+here c = at-layer (entry-of (c .before) .pre) (c .before .loop .inv .0 .count) (c .loop-test .taken)
 
 more : (c : tie.After-count-part Inv-loop μ-loop) → let a = entry-of (turn-of c .before) .args in let w = turn-of c .before .loop in let r = c .count-part .result in
     Step (fieldOf (a .sdf .now) (a .k)) (a .k) (boxTo (boxOf (a .k)) (w .z + 1)) (w .vertices) (w .indices) (r .vertices) (r .indices)
 more c = let h = here (turn-of c) in step (turn-of c .before .loop .inv .1) (record { same = c .count-part .ensures }) (h .grows) (h .short)
 
+bad-layer-requires : tie.Need-bad-layer-requires Inv-loop μ-loop
+bad-layer-requires c κs = let z = cell-spans (c .before .pre) .z in (c .before .pre, omega arith)
+
 loop-holds : tie.Need-loop-holds Inv-loop μ-loop
-loop-holds c = let s = c .before in (begun (cell-spans (s .pre) .z), counts-none (box-begins (boxOf (s .args .k))))
+loop-holds c = let s = c .before .before in (ahead-begun (cell-spans (s .pre) .z) (c .bad-layer .ensures), counts-none (box-begins (boxOf (s .args .k))))
+
+add-bad-layer : tie.Need-add-bad-layer Inv-loop μ-loop
+add-bad-layer c = let t = here c .turn in omega arith
+
+bad-layer-requires-2 : tie.Need-bad-layer-requires-2 Inv-loop μ-loop
+bad-layer-requires-2 c κs = let t = here c .turn in (entry-of (c .before) .pre, omega arith)
+
+either-requires : tie.Need-either-requires Inv-loop μ-loop
+either-requires c κs = search needs
 
 count-part-requires : tie.Need-count-part-requires Inv-loop μ-loop
-count-part-requires c κs = (entry-of (c .before) .pre, here c .turn .here)
+count-part-requires c κs = let t = c .before .before in (entry-of (t .before) .pre, here t .turn .here)
 
 add-vertices : tie.Need-add-vertices Inv-loop μ-loop
 add-vertices c = more (c .before) .vertices-fit
@@ -48,10 +67,17 @@ loop-less : tie.Need-loop-less Inv-loop μ-loop
 loop-less c = here (turn-of (c .before .before)) .turn .less
 
 loop-again : tie.Need-loop-again Inv-loop μ-loop
-loop-again c = (here (turn-of (c .before .before)) .turn .next, more (c .before .before) .counts)
+loop-again c =
+    let p = c .before .before in
+    let t = turn-of p in
+    (ahead-more (t .before .loop .inv .0) (here t .turn) (p .before .before .bad-layer2 .ensures) (p .before .either .ensures), more p .counts)
 
 returns : tie.Need-returns Inv-loop μ-loop
-returns c = let w = c .before .loop in counts-all (w .inv .1) (box-done (entry-of (c .before) .args .k) (w .inv .0) (c .loop-test .left))
+returns c =
+    let a = entry-of (c .before) .args in
+    let w = c .before .loop in
+    let bad = ahead-ended (w .inv .0) (c .loop-test .left) ∙ box-is (a .sdf .now) (a .k) in
+    (bad, counts-all (w .inv .1) (box-done (a .k) (w .inv .0 .count) (c .loop-test .left)))
 
 pub count-box-spec : {M : Type 1} → statement M
 count-box-spec =
@@ -59,7 +85,11 @@ count-box-spec =
     (tie.spec
     Inv-loop
     μ-loop
+    bad-layer-requires
     loop-holds
+    add-bad-layer
+    bad-layer-requires-2
+    either-requires
     count-part-requires
     add-vertices
     add-indices

@@ -4,9 +4,10 @@ use native.Mathlib.Nat.{add-zero, add-assoc}
 use mathlib.Core.Path.{_≡_, refl, sym, ap, _∙_}
 use native.Mathlib.Omega.{arith}
 use Rattle.grid.specs.Corners.{sideBetween}
-use Rattle.count.specs.Runs.{sideNegatives, surfaceAt, surfaceRun}
+use Rattle.grid.specs.Signs.{sideNegatives, surfaceAt}
+use Rattle.count.specs.Runs.{surfaceRun}
 use Rattle.count.proofs.Runs.{none-counted, one-more}
-use Rattle.count.proofs.Rows.{surface-by-sides}
+use Rattle.grid.proofs.Sides.{surface-by-sides}
 use borrow.Author.Needs.{needs}
 use Rattle.count.proofs.surface_cells.Statement.{statement}
 use Rattle.count.proofs.surface_cells.Tie as tie

@@ -4,13 +4,14 @@ use mathlib.Core.Path.{_≡_, ap, sym, _∙_}
 use borrow.Author.Tests.{lt-ltb, le-ltb}
 use lib.Dec.{ltb}
 use lib.ListN.{length}
-use Rattle.rules.specs.Call.{Answer, answers, badDistance, roomAnswer}
+use Rattle.rules.specs.Call.{answers, badDistance, roomAnswer}
 use Rattle.count.specs.declared.Tally.{Tally}
+use Rattle.count.specs.Tally.{counts}
 use Rattle.grid.specs.Block.{point, boxOf, flagsOf, fieldOf, callOf}
 use Rattle.grid.specs.Inside.{Inside}
 use Rattle.grid.proofs.Faults.{Faultless, no-fault, faultless-inside}
 use Rattle.judge.specs.AsRules.{roomOf}
-use Rattle.judge.proofs.Judging.{says-fault, says-4, says-5, says-room, counts, few-vertices}
+use Rattle.judge.proofs.Judging.{says-fault, says-4, says-5, says-room, tally-counts, few-vertices}
 use borrow.Author.Needs.{needs}
 use Rattle.judge.proofs.answer_for.Statement.{statement}
 use Rattle.judge.proofs.answer_for.Tie as tie
@@ -43,7 +44,7 @@ map-long : (c : tie.Else2) → let a = start-2 c .args in ltb (a .room .map) (le
 map-long c = let a = start-2 c .args in le-ltb (a .room .map) (length (a .sdf .now)) (c .if2 .left)
 
 distances-good : (c : tie.Else3) → let a = start-3 c .args in badDistance (fieldOf (a .sdf .now) (a .k)) (boxOf (a .k)) ≡ false
-distances-good c = sym (c .before .bad-distance .ensures) ∙ c .if3 .left
+distances-good c = sym (c .before .count-box .ensures .0) ∙ c .if3 .left
 
 -- ---- the needs
 
@@ -71,8 +72,8 @@ returns-2 c =
     let a = start-1 e .args in
     c .refused2 .ensures ∙ says-4 (callOf (a .sdf .now) (a .k)) (roomOf (a .room)) (faultless e) (lt-ltb (a .room .map) (length (a .sdf .now)) (t .if2 .taken))
 
-bad-distance-requires : tie.Need-bad-distance-requires
-bad-distance-requires c κs = inside (passed-of c)
+count-box-requires : tie.Need-count-box-requires
+count-box-requires c κs = inside (passed-of c)
 
 refused-requires-3 : tie.Need-refused-requires-3
 refused-requires-3 c κs = search needs
@@ -82,27 +83,25 @@ returns-3 c =
     let t = c .before in
     let e = t .before .before in
     let a = start-2 e .args in
-    let bad = sym (t .before .bad-distance .ensures) ∙ t .if3 .taken in
+    let bad = sym (t .before .count-box .ensures .0) ∙ t .if3 .taken in
     c .refused3 .ensures ∙ says-5 (callOf (a .sdf .now) (a .k)) (roomOf (a .room)) (faultless (passed-of e)) (map-long e) bad
-
-count-box-requires : tie.Need-count-box-requires
-count-box-requires c κs = inside (passed-of (c .before .before))
 
 room-answer-requires : tie.Need-room-answer-requires
 room-answer-requires c κs =
-    let e = passed-of (c .before .before .before) in
+    let n = c .before in
+    let e = passed-of (n .before) in
     let a = start-1 e .args in
-    few-vertices (a .sdf .now) (a .k) (inside e) (c .count-box .result) (c .count-box .ensures)
+    few-vertices (a .sdf .now) (a .k) (inside e) (counts (n .count-box .result)) (n .count-box .ensures .1)
 
 returns-4 : tie.Need-returns-4
 returns-4 c =
-    let n = c .before in
-    let d = n .before in
-    let m = d .before .before in
+    let d = c .before in
+    let n = d .before in
+    let m = n .before in
     let a = start-3 d .args in
     let l = a .sdf .now in
     let k = a .k in
-    let e = n .count-box .ensures ∙ counts (fieldOf l k) (boxOf k) (flagsOf k) in
+    let e = n .count-box .ensures .1 ∙ tally-counts (fieldOf l k) (boxOf k) (flagsOf k) in
     c .room-answer .ensures ∙ ap (λ (t : Tally). roomAnswer (roomOf (a .room)) (t .vertices) (t .indices)) e
     ∙ says-room (callOf l k) (roomOf (a .room)) (faultless (passed-of m)) (map-long m) (distances-good d)
 
@@ -115,9 +114,8 @@ answer-for-spec =
     returns
     refused-requires-2
     returns-2
-    bad-distance-requires
+    count-box-requires
     refused-requires-3
     returns-3
-    count-box-requires
     room-answer-requires
     returns-4)

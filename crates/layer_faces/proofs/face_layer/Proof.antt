@@ -1,65 +1,51 @@
--- The invariant: the indices are the faces of the vertices before the i-th; after the last, those of the layer. Assumes nothing.
-use Prim.Native.Nat.{_+_, _-_, _*_, _/_, _≤_, _<_}
-use mathlib.Core.Path.{_≡_, refl, ap, _∙_}
+-- The invariant: the indices are the faces of the vertices before `done`, batch after batch; after the last, those of the layer. Assumes nothing.
+use Prim.Native.Nat.{_-_, _/_, _≤_}
+use mathlib.Core.Path.{_≡_}
 use native.Mathlib.Omega.{arith}
-use lib.ListN.{length, getD}
-use lib.Seq.{sets}
-use Rattle.rules.specs.Grid.{GridPoint, Field}
+use lib.ListN.{length}
+use Rattle.rules.specs.Grid.{Field}
 use Rattle.rules.specs.Vertices.{layerVertices}
 use Rattle.grid.specs.Block.{boxOf, flagsOf}
 use Rattle.grid.specs.Layers.{twoLayers}
 use Rattle.layer_faces.specs.Below.{Kept}
-use Rattle.layer_faces.proofs.Cells.{cell-faces}
-use Rattle.layer_faces.proofs.Vertices.{count-is, AtVertex, at-vertex, Faced, faced-none, faced-more, faced-room, faced-length, faced-all}
+use Rattle.layer_faces.proofs.Lookups.{keptOf}
+use Rattle.layer_faces.proofs.Chosen.{Lesser, lesser}
+use Rattle.layer_faces.proofs.Vertices.{count-is, Faced, faced-none, faced-more, faced-room, faced-length, faced-all}
 use borrow.Author.Needs.{needs}
 use Rattle.layer_faces.proofs.face_layer.Statement.{statement}
 use Rattle.layer_faces.proofs.face_layer.Tie as tie
 
 abbrev Inv-loop : tie.InvT-loop
-Inv-loop lower upper k z first cells map positions map-below positions-below indices₀ at n used₀ i₀ indices used i =
-    (i ≤ n) × Faced (twoLayers lower upper k z) (boxOf k) (flagsOf k) (first .here) z (record { map = map-below; positions = positions-below; first = first .below }) indices₀ at
-    i used indices
+Inv-loop lower upper k z first cells map positions map-below positions-below indices₀ at count used₀ done₀ indices used done =
+    (done ≤ count) × Faced (twoLayers lower upper k z) (boxOf k) (flagsOf k) (first .here) z (keptOf first map-below positions-below) indices₀ at done used indices
 
 abbrev μ-loop : tie.MeasureT-loop
-μ-loop lower upper k z first cells map positions map-below positions-below indices₀ at n used₀ i₀ indices used i = n - i
+μ-loop lower upper k z first cells map positions map-below positions-below indices₀ at count used₀ done₀ indices used done = count - done
 
 -- ---- the places that a later one leads back to
 
 abbrev entry-of : tie.At-loop Inv-loop μ-loop → tie.Start Inv-loop μ-loop
 entry-of c = c .before .before .before .before .before .before .before .before .before
 
-abbrev turn-of : tie.After-make-all-quads-arg Inv-loop μ-loop → tie.In-loop Inv-loop μ-loop
-turn-of c = c .before .before .before
-
-abbrev call-of : tie.After-slice-known2 Inv-loop μ-loop → tie.After-make-all-quads Inv-loop μ-loop
+abbrev call-of : tie.After-slice-known2 Inv-loop μ-loop → tie.After-face-some Inv-loop μ-loop
 call-of c = c .before .before
+
+abbrev size-of : tie.After-slice-known2 Inv-loop μ-loop → tie.After-lesser Inv-loop μ-loop
+size-of c = call-of c .before .before
 
 abbrev grid-of : tie.Start Inv-loop μ-loop → Field
 grid-of s = let a = s .args in twoLayers (a .lower .now) (a .upper .now) (a .k) (a .z)
 
 abbrev kept-of : tie.Start Inv-loop μ-loop → Kept
-kept-of s = let a = s .args in record { map = a .map-below .now; positions = a .positions-below .now; first = a .first .below }
+kept-of s = let a = s .args in keptOf (a .first) (a .map-below .now) (a .positions-below .now)
 
--- ---- the vertex of a turn
+-- ---- the vertices of a batch
 
 count : (s : tie.Start Inv-loop μ-loop) → length (s .args .cells .now) / 3 ≡ length (layerVertices (grid-of s) (boxOf (s .args .k)) (s .args .z))
-count s = let a = s .args in count-is (grid-of s) (boxOf (a .k)) (a .first .here) (a .z) (a .cells .now) (a .map .now) (a .positions .now) (s .pre .1 .0) (s .pre .0 .here)
+count s = let a = s .args in count-is (grid-of s) (boxOf (a .k)) (a .z) (a .cells .now) (s .pre .1 .0 .cells)
 
-within : (c : tie.In-loop Inv-loop μ-loop) → let s = entry-of (c .before) in c .before .loop .i < length (layerVertices (grid-of s) (boxOf (s .args .k)) (s .args .z))
-within c = let h = c .loop-test .taken in omega (arith, count (entry-of (c .before)))
-
-abbrev cell-of : tie.In-loop Inv-loop μ-loop → GridPoint
-cell-of c =
-    let a = entry-of (c .before) .args in
-    let i = c .before .loop .i in
-    record { x = getD (a .cells .now) (3 * i) 0; y = getD (a .cells .now) (3 * i + 1) 0; z = a .z }
-
-here : (c : tie.In-loop Inv-loop μ-loop) → let s = entry-of (c .before) in let a = s .args in
-    AtVertex (grid-of s) (boxOf (a .k)) (a .first .here) (a .z) (a .cells .now) (a .map .now) (a .positions .now) (s .pre .1 .0) (s .pre .0 .here) (c .before .loop .i) (cell-of c)
-here c =
-    let s = entry-of (c .before) in
-    let a = s .args in
-    at-vertex (grid-of s) (boxOf (a .k)) (a .first .here) (a .z) (a .cells .now) (a .map .now) (a .positions .now) (s .pre .1 .0) (s .pre .0 .here) (c .before .loop .i) (within c)
+size : (c : tie.After-lesser Inv-loop μ-loop) → Lesser 32 (length (entry-of (c .before .before) .args .cells .now) / 3 - c .before .before .loop .done) (c .lesser .result)
+size c = lesser 32 (length (entry-of (c .before .before) .args .cells .now) / 3 - c .before .before .loop .done) (c .lesser .ensures)
 
 -- ---- the needs
 
@@ -69,72 +55,54 @@ loop-holds c =
     let a = s .args in
     (omega arith, faced-none (grid-of s) (boxOf (a .k)) (flagsOf (a .k)) (a .first .here) (a .z) (kept-of s) (a .indices .now) (a .at))
 
-mul-t19 : tie.Need-mul-t19 Inv-loop μ-loop
-mul-t19 c =
-    let h = here c .reads in
-    let g = entry-of (c .before) .good in
-    omega (arith, entry-of (c .before) .good .1 .1 .1 .1 .1 .0)
+sub-lesser : tie.Need-sub-lesser Inv-loop μ-loop
+sub-lesser c = search needs
 
-mul-t20 : tie.Need-mul-t20 Inv-loop μ-loop
-mul-t20 c = omega (arith, here c .reads, entry-of (c .before) .good .1 .1 .1 .1 .1 .0)
+lesser-requires : tie.Need-lesser-requires Inv-loop μ-loop
+lesser-requires c κs = search needs
 
-shared-slice-read-t22 : tie.Need-shared-slice-read-t22 Inv-loop μ-loop
-shared-slice-read-t22 c = omega (arith, here (c .before) .reads)
-
-mul-t23 : tie.Need-mul-t23 Inv-loop μ-loop
-mul-t23 c = omega (arith, here (c .before) .reads, entry-of (c .before .before) .good .1 .1 .1 .1 .1 .0)
-
-add-t24 : tie.Need-add-t24 Inv-loop μ-loop
-add-t24 c = omega (arith, here (c .before) .reads, entry-of (c .before .before) .good .1 .1 .1 .1 .1 .0)
-
-mul-t25 : tie.Need-mul-t25 Inv-loop μ-loop
-mul-t25 c = omega (arith, here (c .before) .reads, entry-of (c .before .before) .good .1 .1 .1 .1 .1 .0)
-
-shared-slice-read-t27 : tie.Need-shared-slice-read-t27 Inv-loop μ-loop
-shared-slice-read-t27 c = omega (arith, here (c .before .before) .reads)
-
-make-all-quads-requires : tie.Need-make-all-quads-requires Inv-loop μ-loop
-make-all-quads-requires c κs =
-    let t = turn-of c in
+face-some-requires : tie.Need-face-some-requires Inv-loop μ-loop
+face-some-requires c κs =
+    let l = c .before in
+    let t = l .before in
     let s = entry-of (t .before) in
     let a = s .args in
-    let w = t .before .loop in (
+    let h = t .loop-test .taken in
+    let n = size l in (
       s .pre .0,
       (
-        here t .cell,
+        s .pre .1 .0,
         (
-          s .pre .1 .0 .holds,
-          (
-            s .pre .1 .1 .0,
-            faced-room (grid-of s) (boxOf (a .k)) (flagsOf (a .k)) (a .first .here) (a .z) (kept-of s) (w .inv .1)
-                (cell-of t) (within t) (here t .is) (s .pre .1 .1 .1),
-          ),
+          s .pre .1 .1 .0,
+          faced-room (grid-of s) (boxOf (a .k)) (flagsOf (a .k)) (a .first .here) (a .z) (kept-of s) (t .before .loop .inv .1) (l .lesser .result)
+              (omega (arith, count s, n .second)) (n .first) (s .pre .1 .1 .1),
         ),
       ),
     )
 
-add-i : tie.Need-add-i Inv-loop μ-loop
-add-i c =
-    let t = turn-of (call-of c .before) in
-    let h = here t .reads in
-    omega (arith, entry-of (t .before) .good .1 .1 .1 .1 .1 .0)
+add-done : tie.Need-add-done Inv-loop μ-loop
+add-done c =
+    let l = size-of c in
+    let h = l .before .loop-test .taken in
+    omega (arith, size l .second, entry-of (l .before .before) .good .1 .1 .1 .1 .1 .0)
 
 loop-less : tie.Need-loop-less Inv-loop μ-loop
-loop-less c = let h = turn-of (call-of c .before) .loop-test .taken in omega arith
+loop-less c =
+    let l = size-of c in
+    let h = l .before .loop-test .taken in
+    omega (arith, size l .some (omega arith) (omega arith), size l .second)
 
 loop-again : tie.Need-loop-again Inv-loop μ-loop
 loop-again c =
     let m = call-of c in
-    let t = turn-of (m .before) in
+    let l = size-of c in
+    let t = l .before in
     let s = entry-of (t .before) in
     let a = s .args in
-    let w = t .before .loop in
-    let e = cell-faces (grid-of s) (boxOf (a .k)) (flagsOf (a .k)) (a .z) (a .first) (a .cells .now) (a .map .now) (a .positions .now) (a .map-below .now)
-    (a .positions-below .now) (s .pre .1 .0) (cell-of t) refl in
     let h = t .loop-test .taken in (
-      omega arith,
-      faced-more (grid-of s) (boxOf (a .k)) (flagsOf (a .k)) (a .first .here) (a .z) (kept-of s) (w .inv .1) (cell-of t) (within t) (here t .is)
-          (m .make-all-quads .ensures .0 ∙ ap (sets (w .indices) (w .used)) e) (m .make-all-quads .ensures .1),
+      omega (arith, size l .second),
+      faced-more (grid-of s) (boxOf (a .k)) (flagsOf (a .k)) (a .first .here) (a .z) (kept-of s) (t .before .loop .inv .1) (l .lesser .result)
+          (m .face-some .ensures .0) (m .face-some .ensures .1),
     )
 
 sub-result : tie.Need-sub-result Inv-loop μ-loop
@@ -164,15 +132,10 @@ face-layer-spec =
     Inv-loop
     μ-loop
     loop-holds
-    mul-t19
-    mul-t20
-    shared-slice-read-t22
-    mul-t23
-    add-t24
-    mul-t25
-    shared-slice-read-t27
-    make-all-quads-requires
-    add-i
+    sub-lesser
+    lesser-requires
+    face-some-requires
+    add-done
     loop-less
     loop-again
     sub-result

@@ -3,7 +3,7 @@ use mathlib.Core.Path.{ap, ap₂, _∙_}
 use lib.Ieee.{lt}
 use lib.Seq.{sets}
 use Rattle.layer_faces.specs.Quads.{seen}
-use Rattle.layer_faces.proofs.Puts.{quad-picked}
+use Rattle.layer_faces.proofs.Chosen.{quad-picked}
 use borrow.Author.Needs.{needs}
 use Rattle.layer_faces.proofs.make_quad.Statement.{statement}
 use Rattle.layer_faces.proofs.make_quad.Tie as tie

@@ -1,175 +1,82 @@
--- The invariant: the lists are what the rows before y leave; after the last row of cells and the one behind it, that is what the rules say of the
--- layer. Assumes nothing.
-use Prim.Native.Nat.{ℕ, _+_, _-_, _*_}
-use native.Mathlib.Nat.{le-refl}
-use mathlib.Core.List.{List, _++_}
-use mathlib.Core.Path.{refl, sym, ap, _∙_}
+-- The cells that were found are lent for their vertices, and the two halves make the whole. Assumes nothing.
 use native.Mathlib.Omega.{arith}
-use lib.ListN.{length, replicate}
-use lib.Seq.{length-sets}
-use Rattle.rules.specs.Vertices.{rowCells}
-use Rattle.grid.specs.Block.{point, boxOf}
+use Rattle.grid.specs.Block.{boxOf}
 use Rattle.grid.specs.Layers.{twoLayers}
-use Rattle.grid.specs.Order.{layerTo}
-use Rattle.grid.proofs.Order.{layer-begins, layer-grows}
-use Rattle.grid.proofs.Walks.{Counting, AtRow, ended}
-use Rattle.grid.proofs.Layers.{layers-fit}
-use Rattle.grid.proofs.LayerWalks.{row-of, layer-begun}
-use Rattle.layer_vertices.specs.declared.Next.{Next}
 use Rattle.layer_vertices.specs.Marked.{lists}
-use Rattle.layer_vertices.specs.Cells.{pointsOf}
-use Rattle.layer_vertices.proofs.Points.{layer-closes, side-y}
-use Rattle.layer_vertices.proofs.Clearing.{row-blank}
-use Rattle.layer_vertices.proofs.Passing.{SameLengths, Passes, passes-none, passes-more, passes-cleared, passes-lengths, passes-room, layer-finds, layer-passed}
+use Rattle.layer_vertices.specs.Cells.{finds}
+use Rattle.layer_vertices.proofs.Finding.{part-found, marked-found}
 use borrow.Author.Needs.{needs}
 use Rattle.layer_vertices.proofs.mark_layer.Statement.{statement}
 use Rattle.layer_vertices.proofs.mark_layer.Tie as tie
 
-abbrev Inv-loop : tie.InvT-loop
-Inv-loop lower upper k z positions₀ normals₀ cells₀ strides₀ crossings₀ map₀ from end first state₀ y₀ positions normals cells strides crossings map state y =
-    Counting from end y
-    × Passes (twoLayers lower upper k z) (boxOf k) state₀ (lists positions₀ normals₀ cells₀ strides₀ crossings₀ map₀) (layerTo (pointsOf (boxOf k)) z y) state
-    (lists positions normals cells strides crossings map)
-
-abbrev μ-loop : tie.MeasureT-loop
-μ-loop lower upper k z positions₀ normals₀ cells₀ strides₀ crossings₀ map₀ from end first state₀ y₀ positions normals cells strides crossings map state y = end - y
-
 -- ---- the places that a later one leads back to
 
-abbrev entry-of : tie.At-loop Inv-loop μ-loop → tie.Start Inv-loop μ-loop
-entry-of c = c .before .before .before .before .before .before .before .before .before
+abbrev begin-of : tie.After-find-layer-arg3 → tie.Start
+begin-of c = c .before .before .before .before .before .before .before .before .before .before .before
 
-abbrev turn-of : tie.After-mark-row-arg6 Inv-loop μ-loop → tie.In-loop Inv-loop μ-loop
-turn-of c = c .before .before .before .before .before .before
-
-abbrev call-of : tie.After-slice-known12 Inv-loop μ-loop → tie.After-mark-row Inv-loop μ-loop
-call-of c = c .before .before .before .before .before .before .before .before .before .before .before .before
-
-here : (c : tie.In-loop Inv-loop μ-loop) → AtRow (entry-of (c .before) .args .k) (entry-of (c .before) .args .z) (c .before .loop .y)
-here c = row-of (entry-of (c .before) .pre .0) (c .before .loop .inv .0) (c .loop-test .taken)
+abbrev found-of : tie.After-estimate-part-arg4 → tie.After-find-layer
+found-of c = c .before .before .before .before .before .before .before .before .before .before
 
 -- ---- the needs
 
-loop-holds : tie.Need-loop-holds Inv-loop μ-loop
-loop-holds c =
-    let s = c .before .before .before .before .before .before .before .before in
-    (layer-begun (s .pre .0), passes-none (layer-begins (pointsOf (boxOf (s .args .k))) (s .args .z)))
+find-layer-requires : tie.Need-find-layer-requires
+find-layer-requires c κs = search needs
 
-mark-row-requires : tie.Need-mark-row-requires Inv-loop μ-loop
-mark-row-requires c κs =
-    let t = turn-of c in
-    let s = entry-of (t .before) in
+estimate-part-requires : tie.Need-estimate-part-requires
+estimate-part-requires c κs =
+    let f = found-of c in
+    let s = begin-of (f .before) in
     let a = s .args in
-    let w = t .before .loop in
-    let long = passes-lengths (w .inv .1) .map in
-    let map = s .pre .1 .0 in
+    let r = s .pre .1 .1 in
     let g = twoLayers (a .lower .now) (a .upper .now) (a .k) (a .z) in
-    let within = layer-finds g (boxOf (a .k)) (a .z) (w .y) (layers-fit (s .pre .0)) (s .pre .0 .here) (w .inv .0 .low) (here t .turn .next .high) in (
+    let e = f .find-layer .ensures in
+    let p = part-found g (boxOf (a .k)) (a .z) (a .next) (finds (a .cells .now) (a .strides .now) (a .map .now)) (e .0) (e .1) (r .cells) in
+    let n = e .1 in (
       s .pre .0,
       (
-        here t .turn .here,
+        n,
         (
-          omega arith,
-          passes-room (w .inv .1) (rowCells (pointsOf (boxOf (a .k))) (a .z) (w .y)) (s .pre .1 .1) within,
+          p .0,
+          (p .1, record { positions = omega (arith, r .positions); normals = omega (arith, r .normals); crossings = omega (arith, r .crossings) }),
         ),
       ),
     )
 
-add-y : tie.Need-add-y Inv-loop μ-loop
-add-y c = here (turn-of (call-of c .before)) .turn .fits
+same-length : tie.Need-same-length
+same-length c = search needs
 
-loop-less : tie.Need-loop-less Inv-loop μ-loop
-loop-less c = here (turn-of (call-of c .before)) .turn .less
+same-length-2 : tie.Need-same-length-2
+same-length-2 c = search needs
 
-loop-again : tie.Need-loop-again Inv-loop μ-loop
-loop-again c =
-    let m = call-of c in
-    let t = turn-of (m .before) in
-    let a = entry-of (t .before) .args in
-    let w = t .before .loop in
-    let b = pointsOf (boxOf (a .k)) in
-    let more = layer-grows b (a .z) (w .y) (w .inv .0 .low) in
-    (here t .turn .next, passes-more (w .inv .1) (rowCells b (a .z) (w .y)) (m .mark-row .ensures .0) (m .mark-row .ensures .1) more)
+same-length-3 : tie.Need-same-length-3
+same-length-3 c = search needs
 
--- ---- after the rows of cells, the last row
+same-length-4 : tie.Need-same-length-4
+same-length-4 c = search needs
 
-abbrev done-of : tie.After-clear-row Inv-loop μ-loop → tie.After-loop Inv-loop μ-loop
-done-of c = c .before .before
+same-length-5 : tie.Need-same-length-5
+same-length-5 c = search needs
 
-abbrev cleared-of : tie.After-struct-known Inv-loop μ-loop → tie.After-clear-row Inv-loop μ-loop
-cleared-of c = c .before .before .before
+same-length-6 : tie.Need-same-length-6
+same-length-6 c = search needs
 
-lengths : (c : tie.After-struct-known Inv-loop μ-loop) → let a = entry-of (done-of (cleared-of c) .before) .args in let w = done-of (cleared-of c) .before .loop in
-    SameLengths (lists (w .positions) (w .normals) (w .cells) (w .strides) (w .crossings) (w .map))
-    (lists (a .positions .now) (a .normals .now) (a .cells .now) (a .strides .now) (a .crossings .now) (a .map .now))
-lengths c = passes-lengths (done-of (cleared-of c) .before .loop .inv .1)
-
-clear-row-requires : tie.Need-clear-row-requires Inv-loop μ-loop
-clear-row-requires c κs =
-    let l = c .before in
-    let s = entry-of (l .before) in
-    let p = s .pre .0 in
-    let long = passes-lengths (l .before .loop .inv .1) .map in
-    (record { dims = p .dims; box = p .box; holds = omega (arith, s .pre .1 .0) }, (layers-fit p .y .0, le-refl (s .args .k .high .y)))
-
-sub-result : tie.Need-sub-result Inv-loop μ-loop
-sub-result c =
-    let e = ap (λ (n : Next). n .place) (done-of (cleared-of c) .before .loop .inv .1 .on) in
-    omega arith
-
-same-length : tie.Need-same-length Inv-loop μ-loop
-same-length c = lengths c .positions
-
-same-length-2 : tie.Need-same-length-2 Inv-loop μ-loop
-same-length-2 c = lengths c .normals
-
-same-length-3 : tie.Need-same-length-3 Inv-loop μ-loop
-same-length-3 c = lengths c .cells
-
-same-length-4 : tie.Need-same-length-4 Inv-loop μ-loop
-same-length-4 c = lengths c .strides
-
-same-length-5 : tie.Need-same-length-5 Inv-loop μ-loop
-same-length-5 c = lengths c .crossings
-
-same-length-6 : tie.Need-same-length-6 Inv-loop μ-loop
-same-length-6 c =
-    let m = cleared-of c in
-    let w = done-of m .before .loop in
-    let a = entry-of (done-of m .before) .args in
-    let blanks : List ℕ = replicate (a .k .high .x + 1 - a .k .low .x) 4294967295 in
-    ap length (m .clear-row .ensures) ∙ length-sets (w .map) (a .k .low .x + a .k .dims .x * a .k .high .y) blanks ∙ lengths c .map
-
-returns : tie.Need-returns Inv-loop μ-loop
+returns : tie.Need-returns
 returns c =
-    let m = cleared-of c in
-    let l = done-of m in
-    let s = entry-of (l .before) in
-    let a = s .args in
-    let w = l .before .loop in
-    let b = boxOf (a .k) in
-    let f = layers-fit (s .pre .0) in
+    let m = c .before .before .before .before .before .before in
+    let f = found-of (m .before) in
+    let a = begin-of (f .before) .args in
     let g = twoLayers (a .lower .now) (a .upper .now) (a .k) (a .z) in
-    let last = rowCells (pointsOf b) (a .z) (a .k .high .y) in
-    let rows = ap (λ (n : ℕ). layerTo (pointsOf b) (a .z) n ++ last) (ended (w .inv .0) (l .loop-test .left)) ∙ sym (layer-closes b (a .z) (f .y .0)) in
-    let whole = passes-cleared (w .inv .1) last (side-y g b (a .z)) (m .clear-row .ensures ∙ row-blank (point (a .k .dims)) b (a .z) (a .k .high .y) (w .map) (f .x .0)) refl in
-    let d = layer-passed f (s .pre .0 .here) rows whole in
-    let e = ap (λ (n : Next). n .place) (d .1) in
-    (d .0, omega arith)
+    let e = f .find-layer .ensures in
+    let v = m .estimate-part .ensures in
+    let s = lists (a .positions .now) (a .normals .now) (a .cells .now) (a .strides .now) (a .crossings .now) (a .map .now) in
+    (marked-found g (boxOf (a .k)) (a .z) (a .next) s (e .0) (v .0) (v .1 .0) (v .1 .1), e .1)
 
 pub mark-layer-spec : {M : Type 1} → statement M
 mark-layer-spec =
     tie.close
     (tie.spec
-    Inv-loop
-    μ-loop
-    loop-holds
-    mark-row-requires
-    add-y
-    loop-less
-    loop-again
-    clear-row-requires
-    sub-result
+    find-layer-requires
+    estimate-part-requires
     same-length
     same-length-2
     same-length-3

@@ -1,0 +1,39 @@
+// Signs counted: how many corners of a cell's side are negative, and whether that many of eight make a surface cell. A yes is 1, so that a loop over a
+// row neither branches nor stops early.
+ghost use mathlib.Core.Path.{_≡_};
+ghost use mathlib.Core.Bool.{_&&_};
+ghost use Prim.Native.Nat.{_+_, _<_, _≤_};
+ghost use lib.Dec.{leb};
+ghost use lib.ListN.{length};
+ghost use Rattle.lists.specs.Lists.{one};
+ghost use Rattle.grid.specs.Corners.{sideBetween};
+ghost use Rattle.grid.specs.Signs.{sideNegatives};
+
+pub fn counted(yes: bool) -> u32
+    ensures { λ r. ⌜ r ≡ one yes ⌝ }
+    ensures { λ r. ⌜ r ≤ 1 ⌝ }
+{
+    yes as u32
+}
+
+// How many corners of a side are negative.
+pub fn side_negatives(lower: &[f32], upper: &[f32], at: usize, row: usize) -> u32
+    requires { ⌜ (at + row < length (now lower)) × (at + row < length (now upper)) ⌝ }
+    ensures { λ r. ⌜ r ≡ sideNegatives (sideBetween (now (lower .entry)) (now (upper .entry)) at row) ⌝ }
+    ensures { λ r. ⌜ r ≤ 4 ⌝ }
+{
+    let s = crate::corners::side_between(lower, upper, at, row);
+    let a = counted(cube::negative(s.a));
+    let b = counted(cube::negative(s.b));
+    let c = counted(cube::negative(s.c));
+    let d = counted(cube::negative(s.d));
+    a + b + c + d
+}
+
+// 1 where 1 to 7 of 8 corners are negative.
+pub fn surface_count(negatives: u32) -> u32
+    ensures { λ r. ⌜ r ≡ one (leb 1 negatives && leb negatives 7) ⌝ }
+    ensures { λ r. ⌜ r ≤ 1 ⌝ }
+{
+    counted((1 <= negatives) & (negatives <= 7))
+}

@@ -1,0 +1,209 @@
+// The vertices of one layer's surface cells: position, normal and number of crossings of each, the Rust's estimate_surface_in_cube. 32 cells are
+// taken at a time through local arrays, their corner values side by side, so that the compiler works out several cells at once. The entries of a
+// batch past its last cell are worked out too, and written nowhere.
+ghost use mathlib.Core.Path.{_≡_};
+ghost use mathlib.Core.List.{map};
+ghost use Prim.Native.Nat.{_+_, _*_, _≤_, min};
+ghost use lib.ListN.{length};
+ghost use lib.Seq.{sets};
+ghost use Rattle.lists.specs.Lists.{upTo};
+ghost use Rattle.rules.specs.Vertices.{layerVertices, vertexPosition, vertexNormal, vertexCrossings};
+ghost use Rattle.rules.specs.Call.{flatVectors, flatPoints};
+ghost use Rattle.grid.specs.Block.{boxOf};
+ghost use Rattle.grid.specs.Layers.{twoLayers, InLayers};
+ghost use Rattle.layer_estimates.specs.Estimates.{RoomFor, lists, written, estimated, Batch, Gathered, Solved, vertexAt};
+use cube::Point;
+use grid::Block;
+
+// The eight corner values of the cells `from` to `from + n` of the list, corner by corner: corner i of the j-th stands at 32 i + j.
+fn gather(
+    lower: &[f32],
+    upper: &[f32],
+    row: usize,
+    cells: &[u32],
+    from: usize,
+    n: usize,
+    corners: &mut [f32],
+)
+    requires { ⌜ Batch (now lower) (now upper) row (now cells) from n ⌝ }
+    requires { ⌜ length (now corners) ≡ 256 ⌝ }
+    ensures { λ r. ⌜ Gathered (now (lower .entry)) (now (upper .entry)) row (now (cells .entry)) from (now (corners .exit)) n ⌝ }
+{
+    for j in 0usize..n {
+        let c = 3 * (from + j);
+        let at = (cells[c] as usize) + row * (cells[c + 1] as usize);
+        let low = grid::corners::side_between(lower, upper, at, row);
+        let high = grid::corners::side_between(lower, upper, at + 1, row);
+        corners[j] = low.a;
+        corners[32 + j] = high.a;
+        corners[64 + j] = low.b;
+        corners[96 + j] = high.b;
+        corners[128 + j] = low.c;
+        corners[160 + j] = high.c;
+        corners[192 + j] = low.d;
+        corners[224 + j] = high.d;
+    }
+}
+
+// The centroid and the gradient of each of the 32, axis by axis, and the number of its crossings.
+fn solve(corners: &[f32], centroids: &mut [f32], gradients: &mut [f32], counts: &mut [u8])
+    requires { ⌜ (length (now corners) ≡ 256) × ((length (now centroids) ≡ 96) × ((length (now gradients) ≡ 96) × (length (now counts) ≡ 32))) ⌝ }
+    ensures { λ r. ⌜ Solved (now (corners .entry)) (now (centroids .exit)) (now (gradients .exit)) (now (counts .exit)) 32 ⌝ }
+{
+    for j in 0usize..32 {
+        let d = [
+            corners[j],
+            corners[32 + j],
+            corners[64 + j],
+            corners[96 + j],
+            corners[128 + j],
+            corners[160 + j],
+            corners[192 + j],
+            corners[224 + j],
+        ];
+        let average = cube::centroid_of_edge_intersections(&d);
+        let s = average.point;
+        let g = cube::sdf_gradient(&d, s);
+        centroids[j] = s.x;
+        centroids[32 + j] = s.y;
+        centroids[64 + j] = s.z;
+        gradients[j] = g.x;
+        gradients[32 + j] = g.y;
+        gradients[64 + j] = g.z;
+        counts[j] = average.crossings;
+    }
+}
+
+// The first n of them, to the lists from a place on.
+fn put(
+    cells: &[u32],
+    from: usize,
+    n: usize,
+    centroids: &[f32],
+    gradients: &[f32],
+    counts: &[u8],
+    place: usize,
+    positions: &mut [f32],
+    normals: &mut [f32],
+    crossings: &mut [u8],
+)
+    requires { ⌜ (n ≤ 32) × (3 * (from + n) ≤ length (now cells)) ⌝ }
+    requires { ⌜ (length (now centroids) ≡ 96) × ((length (now gradients) ≡ 96) × (length (now counts) ≡ 32)) ⌝ }
+    requires { ⌜ RoomFor (place + n) (now positions) (now normals) (now crossings) ⌝ }
+    ensures { λ r. ⌜ lists (now (positions .exit)) (now (normals .exit)) (now (crossings .exit))
+        ≡ written place (map (vertexAt (now (cells .entry)) from (now (centroids .entry)) (now (gradients .entry)) (now (counts .entry))) (upTo 0 n))
+        (lists (now (positions .entry)) (now (normals .entry)) (now (crossings .entry))) ⌝ }
+{
+    for j in 0usize..n {
+        let c = 3 * (from + j);
+        let at = 3 * (place + j);
+        let s = Point {
+            x: centroids[j],
+            y: centroids[32 + j],
+            z: centroids[64 + j],
+        };
+        let g = Point {
+            x: gradients[j],
+            y: gradients[32 + j],
+            z: gradients[64 + j],
+        };
+        stores::put_vector(
+            positions,
+            at,
+            cube::position_in(cells[c], cells[c + 1], cells[c + 2], s),
+        );
+        stores::put_vector(normals, at, g);
+        crossings[place + j] = counts[j];
+    }
+}
+
+// n cells, at most 32.
+fn estimate_some(
+    lower: &[f32],
+    upper: &[f32],
+    row: usize,
+    cells: &[u32],
+    from: usize,
+    n: usize,
+    place: usize,
+    positions: &mut [f32],
+    normals: &mut [f32],
+    crossings: &mut [u8],
+)
+    requires { ⌜ Batch (now lower) (now upper) row (now cells) from n ⌝ }
+    requires { ⌜ RoomFor (place + n) (now positions) (now normals) (now crossings) ⌝ }
+    ensures { λ r. ⌜ lists (now (positions .exit)) (now (normals .exit)) (now (crossings .exit))
+        ≡ written place (map (estimated (now (lower .entry)) (now (upper .entry)) row (now (cells .entry))) (upTo from (from + n)))
+        (lists (now (positions .entry)) (now (normals .entry)) (now (crossings .entry))) ⌝ }
+{
+    let mut corners = [0.0f32; 256];
+    let mut centroids = [0.0f32; 96];
+    let mut gradients = [0.0f32; 96];
+    let mut counts = [0u8; 32];
+    gather(lower, upper, row, cells, from, n, &mut corners);
+    solve(&corners, &mut centroids, &mut gradients, &mut counts);
+    put(
+        cells,
+        from,
+        n,
+        &centroids,
+        &gradients,
+        &counts,
+        place,
+        positions,
+        normals,
+        crossings,
+    );
+}
+
+fn lesser(a: usize, b: usize) -> usize
+    ensures { λ r. ⌜ r ≡ min a b ⌝ }
+{
+    if a < b {
+        return a;
+    }
+    b
+}
+
+// All cells of the layer z, which `cells` holds in their order and nothing else: their vertices to the lists from a place on.
+pub fn estimate_layer(
+    lower: &[f32],
+    upper: &[f32],
+    k: Block,
+    z: u32,
+    cells: &[u32],
+    place: usize,
+    positions: &mut [f32],
+    normals: &mut [f32],
+    crossings: &mut [u8],
+)
+    requires { ⌜ InLayers (now lower) (now upper) k z ⌝ }
+    requires { ⌜ now cells ≡ flatPoints (layerVertices (twoLayers (now lower) (now upper) k z) (boxOf k) z) ⌝ }
+    requires { ⌜ RoomFor (place + length (layerVertices (twoLayers (now lower) (now upper) k z) (boxOf k) z)) (now positions) (now normals) (now crossings) ⌝ }
+    ensures { λ r. ⌜ (let g = twoLayers (now (lower .entry)) (now (upper .entry)) k z in
+        now (positions .exit) ≡ sets (now (positions .entry)) (3 * place) (flatVectors (map (vertexPosition g) (layerVertices g (boxOf k) z)))) ⌝ }
+    ensures { λ r. ⌜ (let g = twoLayers (now (lower .entry)) (now (upper .entry)) k z in
+        now (normals .exit) ≡ sets (now (normals .entry)) (3 * place) (flatVectors (map (vertexNormal g) (layerVertices g (boxOf k) z)))) ⌝ }
+    ensures { λ r. ⌜ (let g = twoLayers (now (lower .entry)) (now (upper .entry)) k z in
+        now (crossings .exit) ≡ sets (now (crossings .entry)) place (map (vertexCrossings g) (layerVertices g (boxOf k) z))) ⌝ }
+{
+    let row = k.dims.x as usize;
+    let count = cells.len() / 3;
+    let mut done = 0usize;
+    while done < count {
+        let n = lesser(32, count - done);
+        estimate_some(
+            lower,
+            upper,
+            row,
+            cells,
+            done,
+            n,
+            place + done,
+            positions,
+            normals,
+            crossings,
+        );
+        done += n;
+    }
+}

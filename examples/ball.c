@@ -1,8 +1,8 @@
 /* ball.c: meshes a ball and prints its counts, its first triangle, how many vertices have each number of crossings and
  * the volume that its triangles enclose.
  *
- * The usual way to call: once with empty lists to learn V and I, then with lists of that length. The volume
- * shows which way triangles wind: turned the other way it would be below zero. */
+ * The usual way to call: V and I are asked for, then lists of that length are lent. The volume shows which way
+ * triangles wind: turned the other way it would be below zero. */
 
 #include "bed.h"
 
@@ -30,6 +30,18 @@ static void fill_with_ball(float middle, float radius) {
         float z = (float)(i / SIDE / SIDE) - middle;
         sdf[i] = sqrtf(x * x + y * y + z * z) - radius;
     }
+}
+
+/* V and I, with nothing lent but, in words, the map. */
+static uint32_t count_whole_grid(struct mesh *m) {
+    return bed_answer(
+        sdf, POINTS,
+        SIDE, SIDE, SIDE,
+        0, 0, 0,
+        SIDE - 1, SIDE - 1, SIDE - 1,
+        false, false, false,
+        0, 0, 0, 0, 0, POINTS, 0,
+        &m->vertices, &m->indices_used);
 }
 
 static uint32_t mesh_whole_grid(struct mesh *m) {
@@ -114,7 +126,7 @@ int main(void) {
     struct mesh m = {0};
     const double radius = 7, of_the_ball = 4.0 / 3.0 * 3.14159265358979 * radius * radius * radius;
     fill_with_ball(9.5f, (float)radius);
-    uint32_t answer = mesh_whole_grid(&m);
+    uint32_t answer = count_whole_grid(&m);
     if (answer != BED_VERTICES_SHORT) {
         fprintf(stderr, "answer %u where a lack of room was awaited\n", (unsigned)answer);
         return 1;

@@ -153,8 +153,7 @@ enum bed_answer {
  * vertex number, or BED_NO_VERTEX for a cell without a vertex and for a point that is no cell, on the
  * box's max sides. A flat box has only such points. Everything else keeps what it held: the rest of those
  * buffers, and every map entry of a point outside the box. What the buffers held before never matters:
- * inside the box no entry of an earlier call is left. To learn V and I, call with empty lists and a map,
- * then lend enough and call again; where V is 0 the first call is already done.
+ * inside the box no entry of an earlier call is left. bed_answer tells V and I before anything is lent.
  *
  * Cutting a box into blocks: a cut on an axis at k, min <= k < max there, gives a lower piece from min to
  * k + 1 and an upper piece from k to max on that axis; a piece may be cut again. On the cut axis the lower
@@ -180,6 +179,37 @@ uint32_t bed_surface_nets(
     uint8_t *crossings, size_t crossings_len,
     uint32_t *stride_to_index, size_t stride_to_index_len,
     uint32_t *indices, size_t indices_len,
+    uint64_t *vertex_count, uint64_t *index_count);
+
+/* Tells what bed_surface_nets answers with lists of these lengths, with no list lent: so how much to lend. It
+ * reads the distances of the box and writes the two counts.
+ *
+ * In:
+ *   sdf .. max_plane_z      as in bed_surface_nets.
+ *   positions_len ..        the lengths of its seven lists, in elements and in its order. They are only
+ *   indices_len             compared.
+ *
+ * Out, on every answer:
+ *   vertex_count     V and I, as in bed_surface_nets: both 0 on answers 1 to 5.
+ *   index_count
+ *
+ * The usual way: ask with sdf_len for the map and 0 for all other lengths. If BED_DONE, BED_VERTICES_SHORT or
+ * BED_INDICES_SHORT answers, then bed_surface_nets answers BED_DONE with the same V and I on lists of 3 V, 3 V,
+ * 3 V, V and V numbers, a map of sdf_len and I indices, or longer ones. Any other answer is its answer too,
+ * however much is lent beside such a map.
+ *
+ * The counts may not overlap the grid or each other; their pointers are aligned and never null. sdf may be
+ * null only where its length is 0. (The enumeration of the same name is written `enum bed_answer`.)
+ */
+uint32_t bed_answer(
+    const float *sdf, size_t sdf_len,
+    uint32_t dim_x, uint32_t dim_y, uint32_t dim_z,
+    uint32_t min_x, uint32_t min_y, uint32_t min_z,
+    uint32_t max_x, uint32_t max_y, uint32_t max_z,
+    bool max_plane_x, bool max_plane_y, bool max_plane_z,
+    uint64_t positions_len, uint64_t normals_len, uint64_t cells_len,
+    uint64_t strides_len, uint64_t crossings_len,
+    uint64_t stride_to_index_len, uint64_t indices_len,
     uint64_t *vertex_count, uint64_t *index_count);
 
 /* Tests whether the mesh of a box has no hole: whether every point of the box with a distance below zero
@@ -333,6 +363,29 @@ uint32_t bed_write_mesh(
     const uint32_t *indices, size_t indices_len,
     uint8_t *file, size_t file_len,
     uint64_t *byte_count);
+
+/* Writes one record of a mesh file into lent bytes, seven words and their sum: for who writes a file piece by
+ * piece and never holds all of it.
+ *
+ * In:
+ *   at               where in the lent bytes the record begins.
+ *   kind, a .. f     its first seven words: 1 and the bits of a position and a normal; 2, three indices and
+ *                    three zeros; 3, the two counts and four zeros. They are written as they are, whatever
+ *                    they say: a file that the reader refuses can be written so.
+ *
+ * Lent for writing:
+ *   file             the bytes: 32 of them, with at 0, for a record alone, or more.
+ *
+ * Answers BED_FILE_DONE, where the 32 bytes from at on are written and all others kept; or BED_FILE_ROOM, where
+ * at + 32 is above file_len and nothing is changed. The records of a mesh's vertices, of its triangles and the
+ * closing one, one after the other, are its file, byte for byte as bed_write_mesh writes it.
+ *
+ * The file's pointer may be null only where its length is 0.
+ */
+uint32_t bed_write_record(
+    uint8_t *file, size_t file_len,
+    uint64_t at,
+    uint32_t kind, uint32_t a, uint32_t b, uint32_t c, uint32_t d, uint32_t e, uint32_t f);
 
 /* Reads the mesh of a file into lent lists. The whole file is checked before anything is written.
  *

@@ -178,27 +178,38 @@ def _box(dims, low, high):
     return low, high if high is not None else tuple(max(size, 1) - 1 for size in dims)
 
 
+def _asked(distances, dims, low, high, max_plane):
+    """the grid, and with it the box and the max plane as the library takes them"""
+    grid, dims = _grid(distances, dims)
+    return grid, [*_lent(grid), *_numbers(dims, *_box(dims, low, high)), *_flags(max_plane)]
+
+
+def _counted(grid, asked):
+    """V and I, asked with nothing lent but a map as long as the grid"""
+    vertices, indices = ctypes.c_uint64(), ctypes.c_uint64()
+    lengths = [ctypes.c_uint64(length) for length in (0, 0, 0, 0, 0, len(grid), 0)]
+    answer = _call("bed_answer", *asked, *lengths, ctypes.byref(vertices), ctypes.byref(indices))
+    _done(answer if answer not in (6, 7) else 0)
+    return vertices.value, indices.value
+
+
 # ---- the functions of include/bed.h
+
+def counts(distances, dims=None, min=(0, 0, 0), max=None, max_plane=(False, False, False)):
+    """How many vertices and indices surface_nets makes of the same words."""
+    return _counted(*_asked(distances, dims, min, max, max_plane))
+
 
 def surface_nets(distances, dims=None, min=(0, 0, 0), max=None, max_plane=(False, False, False)):
     """Meshes a box of a grid, the whole one where no box is given."""
-    grid, dims = _grid(distances, dims)
-    min, max = _box(dims, min, max)
-    counts = ctypes.c_uint64(), ctypes.c_uint64()
-    fixed = [*_lent(grid), *_numbers(dims, min, max), *_flags(max_plane)]
+    grid, asked = _asked(distances, dims, min, max, max_plane)
+    vertices, indices = _counted(grid, asked)
     stride_to_index = _room(_NUMBER, len(grid))
     ctypes.memset(stride_to_index, 255, ctypes.sizeof(stride_to_index))
-
-    def mesh(vertices, indices):
-        rooms = [_room(_FLOAT, 3 * vertices), _room(_FLOAT, 3 * vertices), _room(_NUMBER, 3 * vertices),
-                 _room(_NUMBER, vertices), _room(_BYTE, vertices), stride_to_index, _room(_NUMBER, indices)]
-        lists = [part for room in rooms for part in _lent(room)]
-        return _call("bed_surface_nets", *fixed, *lists, *map(ctypes.byref, counts)), rooms
-
-    answer, rooms = mesh(0, 0)
-    if answer in (6, 7):
-        answer, rooms = mesh(*(count.value for count in counts))
-    _done(answer)
+    rooms = [_room(_FLOAT, 3 * vertices), _room(_FLOAT, 3 * vertices), _room(_NUMBER, 3 * vertices),
+             _room(_NUMBER, vertices), _room(_BYTE, vertices), stride_to_index, _room(_NUMBER, indices)]
+    lists = [part for room in rooms for part in _lent(room)]
+    _done(_call("bed_surface_nets", *asked, *lists, ctypes.byref(ctypes.c_uint64()), ctypes.byref(ctypes.c_uint64())))
     positions, normals, cells, strides, crossings, stride_to_index, indices = rooms
     return Mesh(_given(positions, 3), _given(normals, 3), _given(indices), _given(cells, 3), _given(strides),
                 _given(crossings), _given(stride_to_index))
@@ -242,6 +253,14 @@ def write_mesh(mesh):
     file, count = _room(_BYTE, 32 * (len(positions) // 3 + len(indices) // 3 + 1)), ctypes.c_uint64()
     _done(_call("bed_write_mesh", *_lent(positions), *_lent(normals), *_lent(indices), *_lent(file), ctypes.byref(count)))
     return bytes(file)[:count.value]
+
+
+def write_record(file, at, words):
+    """Writes one record of a mesh file, seven words and their sum, into 32 bytes of a buffer, in their place."""
+    if memoryview(file).readonly:
+        raise TypeError("the bytes are written in their place: a buffer for writing is wanted")
+    kind, a, b, c, d, e, f = words
+    _done(_call("bed_write_record", *_lent(_read(_BYTE, file)), ctypes.c_uint64(at), *_numbers((kind, a, b, c, d, e, f))))
 
 
 def check_mesh(file):

@@ -1,7 +1,7 @@
 //! Mesh files over lent bytes: nothing is opened or allocated, and what is not written is kept.
 
 use crate::environment::DefaultEnvironment;
-use crate::raw::{bed_check_mesh, bed_read_mesh, bed_write_mesh};
+use crate::raw::{bed_check_mesh, bed_read_mesh, bed_write_mesh, bed_write_record};
 use std::fmt;
 
 /// How many vertices and triangles a file held.
@@ -127,6 +127,20 @@ pub fn write_mesh(
         )
     };
     FileRefusal::of(answer, bytes)
+}
+
+/// Writes one record of a mesh file, seven words and their sum, over the 32 lent bytes from `at` on: for who
+/// writes a file piece by piece. The words are written as they are, whatever they say.
+///
+/// The records of a mesh's vertices, of its triangles and the closing one, one after the other, are its file as
+/// [`write_mesh`] writes it. All other bytes are kept. It is refused with [`FileRefusal::Room`] alone, where
+/// the record would end past the lent bytes, and then changes nothing.
+pub fn write_record(file: &mut [u8], at: u64, words: [u32; 7]) -> Result<(), FileRefusal> {
+    let [kind, a, b, c, d, e, f] = words;
+    // SAFETY: the pointer and the length come from a slice that is borrowed mutably. No float is worked with.
+    let answer =
+        unsafe { bed_write_record(file.as_mut_ptr(), file.len(), at, kind, a, b, c, d, e, f) };
+    FileRefusal::of(answer, ())
 }
 
 /// Reads the mesh of a whole file into the starts of the lent lists, three numbers a vertex and a

@@ -44,6 +44,37 @@ extern "C" {
         index_count: *mut u64,
     ) -> u32;
 
+    /// The answer number of [`bed_surface_nets`] with lists of these lengths, 0 to 7, and V and I.
+    ///
+    /// # Safety
+    ///
+    /// As above; the lengths are only compared.
+    pub fn bed_answer(
+        sdf: *const f32,
+        sdf_len: usize,
+        dim_x: u32,
+        dim_y: u32,
+        dim_z: u32,
+        min_x: u32,
+        min_y: u32,
+        min_z: u32,
+        max_x: u32,
+        max_y: u32,
+        max_z: u32,
+        max_plane_x: bool,
+        max_plane_y: bool,
+        max_plane_z: bool,
+        positions_len: u64,
+        normals_len: u64,
+        cells_len: u64,
+        strides_len: u64,
+        crossings_len: u64,
+        stride_to_index_len: u64,
+        indices_len: u64,
+        vertex_count: *mut u64,
+        index_count: *mut u64,
+    ) -> u32;
+
     /// Tests whether the box's points below zero all lie from min + 1 to max - 2, and returns the answer
     /// number, 0 to 3.
     ///
@@ -100,6 +131,24 @@ extern "C" {
         file: *mut u8,
         file_len: usize,
         byte_count: *mut u64,
+    ) -> u32;
+
+    /// Writes one record, seven words and their sum, into lent bytes and returns the answer number: 0 or 29.
+    ///
+    /// # Safety
+    ///
+    /// As for [`bed_surface_nets`].
+    pub fn bed_write_record(
+        file: *mut u8,
+        file_len: usize,
+        at: u64,
+        kind: u32,
+        a: u32,
+        b: u32,
+        c: u32,
+        d: u32,
+        e: u32,
+        f: u32,
     ) -> u32;
 
     /// Reads the mesh of a file into lent lists and returns the answer number: 0 or 21 to 29.

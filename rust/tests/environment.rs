@@ -2,7 +2,7 @@
 //! library's own function gives other bits there, or the test could not see a guard that does nothing.
 #![cfg(any(target_arch = "x86_64", target_arch = "aarch64"))]
 
-use bed::{is_enclosed, raw, surface_nets_lent, Counts, Lent, MaxPlane, Refusal};
+use bed::{counts, is_enclosed, raw, surface_nets_lent, Counts, Lent, MaxPlane, Refusal};
 
 const SIDE: u32 = 6;
 const POINTS: usize = (SIDE as usize).pow(3);
@@ -187,7 +187,8 @@ fn every_environment_gives_the_same_bits() {
     }
 }
 
-/// One subnormal distance below zero at the box's corner: where it counts as zero the box is enclosed.
+/// One subnormal distance below zero at the box's corner: where it counts as zero the box is enclosed and has
+/// no vertex.
 #[test]
 fn a_subnormal_distance_is_seen() {
     let mut grid = [1.0; POINTS];
@@ -195,6 +196,7 @@ fn a_subnormal_distance_is_seen() {
     let max = [SIDE - 1; 3];
     control::write(control::SUBNORMALS_ARE_ZERO);
     let enclosed = is_enclosed(&grid, [SIDE; 3], [0; 3], max);
+    let counted = counts(&grid, [SIDE; 3], [0; 3], max, MaxPlane::ALL);
     let mut unguarded = false;
     // SAFETY: as in the crate.
     let answer = unsafe {
@@ -215,5 +217,6 @@ fn a_subnormal_distance_is_seen() {
     };
     control::write(control::DEFAULT);
     assert_eq!(enclosed, Ok(false));
+    assert_eq!(counted.map(|counts| counts.vertices), Ok(1));
     assert_eq!((answer, unguarded), (0, true));
 }

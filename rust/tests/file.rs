@@ -1,8 +1,8 @@
 //! Mesh files through the wrapper: Ball there and back, cut at every length, and a refusal of each kind.
 
 use bed::{
-    check_mesh, file_len, read_mesh, surface_nets, write_mesh, FileCounts, FileRefusal, MaxPlane,
-    SurfaceNetsBuffer,
+    check_mesh, file_len, read_mesh, surface_nets, write_mesh, write_record, FileCounts,
+    FileRefusal, MaxPlane, SurfaceNetsBuffer,
 };
 
 /// Document 01's Ball, meshed: 8 vertices, 6 triangles.
@@ -86,6 +86,69 @@ fn a_file_is_the_records_of_request_2() {
     assert_eq!(file[32..64], record([2, 0, 0, 0, 0, 0, 0]));
     assert_eq!(file[64..96], record([3, 1, 1, 0, 0, 0, 0]));
     assert_eq!(file[96..], [7; 4]);
+}
+
+/// The seven words of each record: vertices, triangles, the closing one.
+fn words_of(mesh: &SurfaceNetsBuffer) -> Vec<[u32; 7]> {
+    let vertices = mesh.positions.iter().zip(&mesh.normals).map(|(p, n)| {
+        let ([a, b, c], [d, e, f]) = (p.map(f32::to_bits), n.map(f32::to_bits));
+        [1, a, b, c, d, e, f]
+    });
+    let triangles = mesh
+        .indices
+        .chunks_exact(3)
+        .map(|t| [2, t[0], t[1], t[2], 0, 0, 0]);
+    let counts = [mesh.positions.len(), mesh.indices.len() / 3].map(|count| count as u32);
+    let closing = [3, counts[0], counts[1], 0, 0, 0, 0];
+    vertices.chain(triangles).chain([closing]).collect()
+}
+
+#[test]
+fn single_records_make_the_file() {
+    let mesh = ball();
+    let file = file_of(&mesh);
+    let mut apart = Vec::new();
+    let mut in_a_row = vec![7; file.len() + 5];
+    for (number, words) in words_of(&mesh).into_iter().enumerate() {
+        let mut piece = [7; 32];
+        assert_eq!(write_record(&mut piece, 0, words), Ok(()));
+        apart.extend(piece);
+        assert_eq!(
+            write_record(&mut in_a_row, 32 * number as u64, words),
+            Ok(())
+        );
+    }
+    assert_eq!(apart, file);
+    assert_eq!(in_a_row[..file.len()], file);
+    assert_eq!(in_a_row[file.len()..], [7; 5]);
+}
+
+#[test]
+fn a_record_past_the_room_is_refused() {
+    let words = [1, 2, 3, 4, 5, 6, u32::MAX];
+    for (length, at, room) in [
+        (32, 0, true),
+        (31, 0, false),
+        (0, 0, false),
+        (32, 1, false),
+        (40, 8, true),
+        (40, 9, false),
+        (40, 41, false),
+        (40, u64::MAX - 31, false),
+        (40, u64::MAX, false),
+    ] {
+        let mut file = vec![7; length];
+        let written = write_record(&mut file, at, words);
+        if room {
+            let at = at as usize;
+            assert_eq!(written, Ok(()));
+            assert_eq!(file[at..at + 32], record(words));
+            file[at..at + 32].fill(7);
+        } else {
+            assert_eq!(written, Err(FileRefusal::Room));
+        }
+        assert_eq!(file, vec![7; length], "all others are kept");
+    }
 }
 
 #[test]

@@ -1,9 +1,11 @@
 //! The words of a command line: files in their order, and options, each with a value.
 
 use crate::failure::Failure;
+use crate::machine;
 use bed::MaxPlane;
 use std::ffi::{OsStr, OsString};
 use std::path::{Path, PathBuf};
+use std::str::FromStr;
 
 pub struct Arguments {
     command: &'static str,
@@ -87,14 +89,36 @@ impl Arguments {
         }
     }
 
+    /// How much memory a grid may take, in bytes.
+    pub fn memory(&self) -> Result<u128, Failure> {
+        let Some(text) = self.text("--memory") else {
+            return Ok(machine::memory().map_or(u128::MAX, |bytes| bytes / 2));
+        };
+        size(text).ok_or_else(|| {
+            self.wrong("--memory wants a number of bytes, or one with K, M or G after it")
+        })
+    }
+
     pub fn max_plane(&self) -> Result<MaxPlane, Failure> {
         let letters = self.text("--max-plane").unwrap_or("-");
         flags(letters).ok_or_else(|| self.wrong("--max-plane wants letters of x, y and z, or -"))
     }
 }
 
+/// A number of bytes; K, M and G are 1,024 of the one before.
+fn size(word: &str) -> Option<u128> {
+    let (digits, unit) = match word.split_at_checked(word.len().checked_sub(1)?)? {
+        (digits, "K") => (digits, 10),
+        (digits, "M") => (digits, 20),
+        (digits, "G") => (digits, 30),
+        _ => (word, 0),
+    };
+    let count: u64 = number(digits)?;
+    Some(u128::from(count) << unit)
+}
+
 /// A number in digits alone.
-pub fn number(word: &str) -> Option<u32> {
+pub fn number<N: FromStr>(word: &str) -> Option<N> {
     let digits = word.bytes().all(|byte| byte.is_ascii_digit());
     word.parse().ok().filter(|_| digits)
 }
@@ -117,4 +141,40 @@ pub fn flags(letters: &str) -> Option<MaxPlane> {
         }
     }
     Some(flags).filter(|_| !letters.is_empty())
+}
+
+#[cfg(test)]
+mod tests {
+    use super::*;
+
+    #[test]
+    fn sizes() {
+        for (word, bytes) in [
+            ("0", 0),
+            ("17", 17),
+            ("3K", 3 << 10),
+            ("16M", 16 << 20),
+            ("4G", 4 << 30),
+            ("18446744073709551615G", u128::from(u64::MAX) << 30),
+        ] {
+            assert_eq!(size(word), Some(bytes), "{word}");
+        }
+        for word in [
+            "",
+            "K",
+            "-1",
+            "+1",
+            "1.5G",
+            "1 G",
+            "1k",
+            "1T",
+            "1GG",
+            "G1",
+            "1é",
+            "é",
+            "18446744073709551616",
+        ] {
+            assert_eq!(size(word), None, "{word}");
+        }
+    }
 }

@@ -1,8 +1,8 @@
-//! Blocks of one grid, meshed on all cores, each by a call of its own.
+//! Blocks of one grid, meshed on all cores.
 
 use crate::failure::Failure;
 use crate::grid::Grid;
-use crate::progress;
+use crate::progress::{self, Steps};
 use bed::{Block, Lent, Refusal, SurfaceNetsBuffer};
 use std::sync::atomic::{AtomicBool, AtomicUsize, Ordering};
 use std::sync::{mpsc, Mutex};
@@ -18,7 +18,7 @@ pub fn counted(grid: &Grid, block: &Block) -> Result<bed::Counts, Refusal> {
     };
     let answer = bed::surface_nets_lent(
         &grid.distances,
-        grid.dims,
+        grid.header.dims,
         block.min,
         block.max,
         block.max_plane,
@@ -30,55 +30,77 @@ pub fn counted(grid: &Grid, block: &Block) -> Result<bed::Counts, Refusal> {
     }
 }
 
-/// Meshes every block and hands each mesh to `after`, with the block's place; what that gives back comes in the blocks'
-/// order. The first failure in that order, of those that came about, ends it. `place` names a block in words.
+/// Meshes every block of a grid in memory and hands each mesh to `after`, with the block's place. `place` names a block in
+/// words.
 pub fn mesh_all<T: Send>(
     grid: &Grid,
     blocks: &[Block],
     place: impl Fn(usize) -> String + Sync,
     after: impl Fn(usize, &SurfaceNetsBuffer) -> Result<T, Failure> + Sync,
 ) -> Result<Vec<T>, Failure> {
-    let one = |number: usize, buffer: &mut SurfaceNetsBuffer| {
-        let Block {
-            min,
-            max,
-            max_plane,
-        } = blocks[number];
-        bed::surface_nets(&grid.distances, grid.dims, min, max, max_plane, buffer)
-            .map_err(|refusal| Failure::refused(place(number), refusal.number(), refusal))?;
-        after(number, buffer)
+    let steps = Steps {
+        count: blocks.len() as u64,
+        name: "blocks",
     };
+    on_all_cores(
+        blocks.len(),
+        steps,
+        |number, buffer: &mut SurfaceNetsBuffer, report| {
+            let Block {
+                min,
+                max,
+                max_plane,
+            } = blocks[number];
+            let dims = grid.header.dims;
+            bed::surface_nets(&grid.distances, dims, min, max, max_plane, buffer)
+                .map_err(|refusal| Failure::refused(place(number), refusal.number(), refusal))?;
+            let result = after(number, buffer)?;
+            report(buffer.positions.len());
+            Ok(result)
+        },
+    )
+}
+
+/// Does jobs on all cores, each worker with a memory of its own; what they give comes in the jobs' order. The first
+/// failure in that order, of those that came about, ends it. A job reports its steps, with the new vertices of each.
+pub fn on_all_cores<Memory: Default, T: Send>(
+    jobs: usize,
+    steps: Steps,
+    one: impl Fn(usize, &mut Memory, &dyn Fn(usize)) -> Result<T, Failure> + Sync,
+) -> Result<Vec<T>, Failure> {
     let next = AtomicUsize::new(0);
     let failed = AtomicBool::new(false);
-    let results: Vec<_> = blocks.iter().map(|_| Mutex::new(None)).collect();
+    let results: Vec<_> = (0..jobs).map(|_| Mutex::new(None)).collect();
     let work = |reports: mpsc::Sender<u64>| {
-        let mut buffer = SurfaceNetsBuffer::default();
+        let mut memory = Memory::default();
+        let report = |vertices: usize| {
+            // Nobody listens once the display is done.
+            let _ = reports.send(vertices as u64);
+        };
         while !failed.load(Ordering::Relaxed) {
             let number = next.fetch_add(1, Ordering::Relaxed);
             let Some(slot) = results.get(number) else {
                 break;
             };
-            let result = one(number, &mut buffer);
+            let result = one(number, &mut memory, &report);
             if result.is_err() {
                 failed.store(true, Ordering::Relaxed);
             }
             *slot.lock().expect("no worker panics") = Some(result);
-            // Nobody listens once the display is done.
-            let _ = reports.send(buffer.positions.len() as u64);
         }
     };
     let cores = thread::available_parallelism().map_or(1, usize::from);
     let start = Instant::now();
     thread::scope(|scope| {
         let (sender, reports) = mpsc::channel();
-        for _ in 0..cores.min(blocks.len()) {
+        for _ in 0..cores.min(jobs) {
             let sender = sender.clone();
             scope.spawn(|| work(sender));
         }
         drop(sender);
-        progress::show(reports, blocks.len(), start);
+        progress::show(reports, steps, start);
     });
-    // After a failure the blocks that no worker came to have no result.
+    // After a failure the jobs that no worker came to have no result.
     let results = results
         .into_iter()
         .filter_map(|slot| slot.into_inner().expect("no worker panics"));

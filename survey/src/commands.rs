@@ -2,14 +2,15 @@
 
 use crate::arguments::Arguments;
 use crate::failure::Failure;
-use crate::grid::{self, Grid, Numbers};
+use crate::grid::{self, Grid, Numbers, Source, Stored};
+use crate::layered::{self, Work};
 use crate::npy::Header;
 use crate::plan::{self, Plan};
-use crate::{blocks, help, kept, mesh, npy, page, ply, weighing};
-use bed::{Block, FixtureRefusal, MaxPlane};
+use crate::{blocks, help, kept, mesh, npy, ply, survey, weighing};
+use bed::{Block, FixtureRefusal};
 use std::ffi::OsString;
 use std::fs;
-use std::path::{Path, PathBuf};
+use std::path::Path;
 
 const GRID_OPTIONS: [&str; 2] = ["--dims", "--type"];
 
@@ -35,7 +36,7 @@ pub fn run(words: &[OsString]) -> Result<String, Failure> {
         return Ok(version());
     }
     match command {
-        "survey" => survey(rest),
+        "survey" => survey::survey(rest),
         "mesh" => mesh(rest),
         "info" => info(rest),
         "volume" => volume(rest),
@@ -50,11 +51,11 @@ fn version() -> String {
     format!("bed {}\n", env!("CARGO_PKG_VERSION"))
 }
 
-fn options<const N: usize>(own: [&'static str; N]) -> Vec<&'static str> {
+pub fn options<const N: usize>(own: [&'static str; N]) -> Vec<&'static str> {
     own.into_iter().chain(GRID_OPTIONS).collect()
 }
 
-fn read_grid(arguments: &Arguments, place: usize) -> Result<Grid, Failure> {
+pub fn open_grid(arguments: &Arguments, place: usize) -> Result<Source, Failure> {
     let named = arguments.text("--type");
     let numbers = Numbers::named(named.unwrap_or("float32"))
         .ok_or_else(|| arguments.wrong("--type wants float32, int16 or int8"))?;
@@ -62,14 +63,18 @@ fn read_grid(arguments: &Arguments, place: usize) -> Result<Grid, Failure> {
     if named.is_some() && dims.is_none() {
         return Err(arguments.wrong("--type is for raw numbers and wants --dims"));
     }
-    grid::read(
+    grid::open(
         arguments.file(place),
         dims.map(|dims| Header { dims, numbers }),
     )
 }
 
+fn read_grid(arguments: &Arguments, place: usize) -> Result<Grid, Failure> {
+    open_grid(arguments, place)?.whole()
+}
+
 /// A file that is read must not be the one that is written.
-fn apart(arguments: &Arguments, read: &Path, written: &Path) -> Result<(), Failure> {
+pub fn apart(arguments: &Arguments, read: &Path, written: &Path) -> Result<(), Failure> {
     match (fs::canonicalize(read), fs::canonicalize(written)) {
         (Ok(one), Ok(other)) if one == other => {
             Err(arguments.wrong(format!("{} would be written over", read.display())))
@@ -83,11 +88,12 @@ fn mesh(words: &[OsString]) -> Result<String, Failure> {
         "mesh",
         words,
         1,
-        &options(["-o", "--box", "--max-plane", "--ply"]),
+        &options(["-o", "--box", "--max-plane", "--ply", "--memory"]),
     )?;
     let (name, output) = (arguments.file(0), arguments.output()?);
     let corners = arguments.numbers("--box")?;
     let max_plane = arguments.max_plane()?;
+    let memory = arguments.memory()?;
     let viewed = arguments.path("--ply");
     for written in [Some(output), viewed].into_iter().flatten() {
         apart(&arguments, name, written)?;
@@ -95,40 +101,93 @@ fn mesh(words: &[OsString]) -> Result<String, Failure> {
     if viewed == Some(output) {
         return Err(arguments.wrong("-o and --ply name one file"));
     }
-    let grid = read_grid(&arguments, 0)?;
+    let source = open_grid(&arguments, 0)?;
     let [x0, y0, z0, x1, y1, z1] = corners.unwrap_or_else(|| {
-        let [x, y, z] = grid.highest();
+        let [x, y, z] = source.header.highest();
         [0, 0, 0, x, y, z]
     });
-    let block = Block {
-        min: [x0, y0, z0],
-        max: [x1, y1, z1],
-        max_plane,
+    let meshed = Meshed {
+        name,
+        block: Block {
+            min: [x0, y0, z0],
+            max: [x1, y1, z1],
+            max_plane,
+        },
+        output,
+        viewed,
     };
-    let place = |_| name.display().to_string();
-    let said = blocks::mesh_all(&grid, &[block], place, |_, buffer| {
-        let lists = mesh::of_call(buffer);
-        let mut files = vec![kept::Beside::write(output, &lists.file(output)?)?];
-        if let Some(viewed) = viewed {
-            files.push(kept::Beside::write(viewed, &ply::written(&lists))?);
-        }
-        kept::rename(files)?;
-        Ok(format!(
-            "vertices {} triangles {}\n",
-            lists.vertices(),
-            lists.triangles()
-        ))
-    })?;
-    Ok(said.concat())
+    if source.header.in_memory() > memory {
+        meshed.by_layers(&source.stored()?)
+    } else {
+        meshed.in_memory(&source.whole()?)
+    }
+}
+
+/// What `bed mesh` is to do.
+struct Meshed<'a> {
+    name: &'a Path,
+    block: Block,
+    output: &'a Path,
+    viewed: Option<&'a Path>,
+}
+
+impl Meshed<'_> {
+    fn place(&self) -> String {
+        self.name.display().to_string()
+    }
+
+    fn in_memory(&self, grid: &Grid) -> Result<String, Failure> {
+        let place = |_| self.place();
+        let said = blocks::mesh_all(grid, &[self.block], place, |_, buffer| {
+            let lists = mesh::of_call(buffer);
+            let file = lists.file(self.output)?;
+            let mut files = vec![kept::Beside::write(self.output, &file)?];
+            if let Some(viewed) = self.viewed {
+                files.push(kept::Beside::write(viewed, &ply::written(&lists))?);
+            }
+            kept::rename(files)?;
+            Ok(counted(lists.vertices() as u64, lists.triangles() as u64))
+        })?;
+        Ok(said.concat())
+    }
+
+    fn by_layers(&self, grid: &Stored) -> Result<String, Failure> {
+        let steps = layered::steps(2, &[self.block]);
+        let said = blocks::on_all_cores(1, steps, |_, _: &mut (), report| {
+            let work = Work {
+                grid,
+                block: self.block,
+                place: self.place(),
+                report,
+            };
+            let begun = work.vertices(self.output)?;
+            let (vertices, triangles) = (begun.vertices.into(), begun.triangles.into());
+            let viewed = self.viewed;
+            let mut viewed = viewed
+                .map(|name| ply::InParts::create(name, vertices, triangles))
+                .transpose()?;
+            let mut files = vec![work.triangles(begun, |taken| match &mut viewed {
+                Some(viewed) => viewed.add(&taken.lists),
+                None => Ok(()),
+            })?];
+            if let Some(viewed) = viewed {
+                files.push(viewed.synced()?);
+            }
+            kept::rename(files)?;
+            Ok(counted(vertices, triangles))
+        })?;
+        Ok(said.concat())
+    }
+}
+
+fn counted(vertices: u64, triangles: u64) -> String {
+    format!("vertices {vertices} triangles {triangles}\n")
 }
 
 fn info(words: &[OsString]) -> Result<String, Failure> {
     let arguments = Arguments::read("info", words, 1, &[])?;
     let (_, counts) = mesh::checked(arguments.file(0))?;
-    Ok(format!(
-        "vertices {} triangles {}\n",
-        counts.vertices, counts.triangles
-    ))
+    Ok(counted(counts.vertices, counts.triangles))
 }
 
 fn volume(words: &[OsString]) -> Result<String, Failure> {
@@ -165,16 +224,12 @@ fn check_plan(words: &[OsString]) -> Result<String, Failure> {
     for (block, line) in plan.blocks.iter().zip(&plan.lines) {
         accepted(&grid, block, || named_block(name, path, *line))?;
     }
-    said += &format!(
-        "vertices {} triangles {}\n",
-        whole.vertices,
-        whole.indices / 3
-    );
+    said += &counted(whole.vertices, whole.indices / 3);
     Ok(said)
 }
 
 /// Asks the library whether the blocks are a plan of the whole.
-fn held(path: &Path, plan: &Plan) -> Result<(), Failure> {
+pub fn held(path: &Path, plan: &Plan) -> Result<(), Failure> {
     match bed::check_plan(&plan.blocks, &plan.whole) {
         Ok(true) => Ok(()),
         Ok(false) => Err(Failure::NoPlan {
@@ -184,7 +239,7 @@ fn held(path: &Path, plan: &Plan) -> Result<(), Failure> {
     }
 }
 
-fn accepted(
+pub fn accepted(
     grid: &Grid,
     block: &Block,
     place: impl Fn() -> String,
@@ -193,7 +248,7 @@ fn accepted(
         .map_err(|refusal| Failure::refused(place(), refusal.number(), refusal))
 }
 
-fn named_block(grid: &Path, plan: &Path, line: usize) -> String {
+pub fn named_block(grid: &Path, plan: &Path, line: usize) -> String {
     format!(
         "{}: the block of {}, line {line}",
         grid.display(),
@@ -207,94 +262,18 @@ fn cut(words: &[OsString]) -> Result<String, Failure> {
     apart(&arguments, fixtures, output)?;
     let mut grid = read_grid(&arguments, 1)?;
     cut_out(fixtures, name, &mut grid)?;
-    kept::write(output, &npy::written(grid.dims, &grid.distances))?;
+    kept::write(output, &npy::written(grid.header.dims, &grid.distances))?;
     Ok(String::new())
 }
 
 /// Cuts the fixtures of a file out of a grid. Refusals of the grid name the grid.
-fn cut_out(path: &Path, name: &Path, grid: &mut Grid) -> Result<(), Failure> {
+pub fn cut_out(path: &Path, name: &Path, grid: &mut Grid) -> Result<(), Failure> {
     let fixtures = fs::read(path).map_err(|error| Failure::file(path, error))?;
-    bed::cut_fixtures(&fixtures, grid.dims, &mut grid.distances).map_err(|refusal| {
+    bed::cut_fixtures(&fixtures, grid.header.dims, &mut grid.distances).map_err(|refusal| {
         let place = match refusal {
             FixtureRefusal::Dimensions | FixtureRefusal::GridLength => name,
             _ => path,
         };
         Failure::refused(place.display(), refusal.number(), refusal)
     })
-}
-
-fn survey(words: &[OsString]) -> Result<String, Failure> {
-    let arguments = Arguments::read("survey", words, 1, &options(["-o", "--plan", "--fixtures"]))?;
-    let (name, output) = (arguments.file(0), arguments.output()?);
-    let fixtures = arguments.path("--fixtures");
-    let path = arguments.path("--plan");
-    for read in [Some(name), fixtures, path].into_iter().flatten() {
-        apart(&arguments, read, output)?;
-    }
-    let plan = path.map(plan::read).transpose()?;
-    if let (Some(path), Some(plan)) = (path, &plan) {
-        held(path, plan)?;
-    }
-    let mut grid = read_grid(&arguments, 0)?;
-    if let Some(fixtures) = fixtures {
-        cut_out(fixtures, name, &mut grid)?;
-    }
-    let whole = plan
-        .as_ref()
-        .map_or_else(|| whole_of(&grid), |plan| plan.whole);
-    let needed = accepted(&grid, &whole, || name.display().to_string())?;
-    let enclosed = bed::is_enclosed(&grid.distances, grid.dims, whole.min, whole.max)
-        .map_err(|refusal| Failure::refused(name.display(), refusal.number(), refusal))?;
-    let blocks = plan
-        .as_ref()
-        .map_or(vec![whole], |plan| plan.blocks.clone());
-    let names = match &plan {
-        Some(_) => (1..=blocks.len())
-            .map(|number| numbered(output, number))
-            .collect(),
-        None => vec![output.to_path_buf()],
-    };
-    let place = |number: usize| match (path, &plan) {
-        (Some(path), Some(plan)) => named_block(name, path, plan.lines[number]),
-        _ => name.display().to_string(),
-    };
-    let meshed = blocks::mesh_all(&grid, &blocks, place, |number, buffer| {
-        let lists = mesh::of_call(buffer);
-        let file = kept::Beside::write(&names[number], &lists.file(&names[number])?)?;
-        Ok((page::Weighed::of(&lists), file))
-    })?;
-    let (weighed, files): (Vec<_>, Vec<_>) = meshed.into_iter().unzip();
-    // Only when every block is meshed and synced does the first file change.
-    kept::rename(files)?;
-    Ok(page::Page {
-        name,
-        grid: &grid,
-        fixtures,
-        plan: path,
-        whole,
-        needed,
-        enclosed,
-        weighed: &weighed,
-        names: &names,
-    }
-    .text())
-}
-
-fn whole_of(grid: &Grid) -> Block {
-    Block {
-        min: [0; 3],
-        max: grid.highest(),
-        max_plane: MaxPlane::NONE,
-    }
-}
-
-/// BED.mesh becomes BED.001.mesh.
-fn numbered(output: &Path, number: usize) -> PathBuf {
-    let mut name = output.file_stem().unwrap_or_default().to_os_string();
-    name.push(format!(".{number:03}"));
-    if let Some(extension) = output.extension() {
-        name.push(".");
-        name.push(extension);
-    }
-    output.with_file_name(name)
 }

@@ -23,22 +23,30 @@ numbers, the lowest byte first, x innermost:
   --type float32           or int16, or int8
 ";
 
+/// What the commands that mesh say of large grids.
+const MEMORY: &str = "  --memory SIZE            how much memory the grid may take with a map of its cells, eight bytes a point: a number of
+                           bytes, or one with K, M or G after it; else half the machine's memory
+
+A grid that takes more stays in its file and is taken layer by layer, twice, in memory for some ten layers and what one of
+them brings out. The mesh file is the same, byte for byte. If the grid's file changes meanwhile, nothing is written.
+";
+
 pub fn of(command: &str) -> Option<String> {
-    let (text, grid) = match command {
-        "survey" => (SURVEY, true),
-        "mesh" => (MESH, true),
-        "info" => (INFO, false),
-        "volume" => (VOLUME, false),
-        "ply" => (PLY, false),
-        "plan" => (PLAN, true),
-        "cut" => (CUT, true),
+    let parts: &[&str] = match command {
+        "survey" => &[SURVEY, MEMORY, LAYERS, GRID],
+        "mesh" => &[MESH, MEMORY, GRID],
+        "info" => &[INFO],
+        "volume" => &[VOLUME],
+        "ply" => &[PLY],
+        "plan" => &[PLAN, GRID],
+        "cut" => &[CUT, GRID],
         _ => return None,
     };
-    Some(format!("{text}{}", if grid { GRID } else { "" }))
+    Some(parts.concat())
 }
 
 const SURVEY: &str = "\
-bed survey GRID [--plan PLAN] [--fixtures FIXTURES] -o BED.mesh
+bed survey GRID [--plan PLAN] [--fixtures FIXTURES] [--memory SIZE] -o BED.mesh
 
 Cuts the fixtures out of the grid, meshes it, writes the mesh file and prints one page: the mesh, whether its skin has no
 hole, its volume, and what each rests on. With a plan, which is checked first, the blocks are meshed on all cores, and
@@ -50,8 +58,15 @@ page and ends nothing.
   -o BED.mesh              the mesh file
 ";
 
+/// What a survey says of large grids beside it.
+const LAYERS: &str = "\
+The hole verdict and the volume are asked layer by layer too, and the page says what that leaves unproved. Fixtures are
+cut out of grids in memory alone. With a plan each block reads the layers that it lies in, so that blocks
+which are cut on z alone are the quickest.
+";
+
 const MESH: &str = "\
-bed mesh GRID -o BED.mesh [--box X0,Y0,Z0,X1,Y1,Z1] [--max-plane xyz] [--ply BED.ply]
+bed mesh GRID -o BED.mesh [--box X0,Y0,Z0,X1,Y1,Z1] [--max-plane xyz] [--ply BED.ply] [--memory SIZE]
 
 Meshes a box of the grid and writes the mesh file. The file keeps its old content until the new one is whole.
 

@@ -4,6 +4,7 @@ use crate::failure::Failure;
 use std::collections::BTreeSet;
 use std::fs::{self, File};
 use std::io::{self, Write};
+use std::os::unix::fs::FileExt;
 use std::path::{Path, PathBuf};
 use std::process;
 
@@ -15,14 +16,54 @@ pub struct Beside {
 
 impl Beside {
     pub fn write(name: &Path, bytes: &[u8]) -> Result<Self, Failure> {
-        let fail = |error: io::Error| Failure::file(name, error);
-        let target = target(name)?;
-        let (mut file, part) = part_of(&target).map_err(fail)?;
-        let beside = Self { part, name: target };
-        file.write_all(bytes)
-            .and_then(|()| file.sync_all())
-            .map_err(fail)?;
-        Ok(beside)
+        let part = Part::create(name)?;
+        part.write(bytes)?;
+        part.synced()
+    }
+}
+
+/// A file beside its name that is written piece by piece. If it is not [`synced`](Part::synced), it is removed.
+pub struct Part {
+    file: File,
+    beside: Beside,
+}
+
+impl Part {
+    pub fn create(name: &Path) -> Result<Self, Failure> {
+        let name = target(name)?;
+        let (file, part) = part_of(&name).map_err(|error| Failure::file(&name, error))?;
+        let beside = Beside { part, name };
+        Ok(Self { file, beside })
+    }
+
+    fn fail(&self, error: io::Error) -> Failure {
+        Failure::file(&self.beside.name, error)
+    }
+
+    /// Writes after what was written last.
+    pub fn write(&self, bytes: &[u8]) -> Result<(), Failure> {
+        let mut file = &self.file;
+        file.write_all(bytes).map_err(|error| self.fail(error))
+    }
+
+    pub fn write_at(&self, place: u64, bytes: &[u8]) -> Result<(), Failure> {
+        let written = self.file.write_all_at(bytes, place);
+        written.map_err(|error| self.fail(error))
+    }
+
+    /// Whether these bytes were written at this place.
+    pub fn holds(&self, place: u64, bytes: &[u8]) -> Result<bool, Failure> {
+        let mut found = vec![0; bytes.len()];
+        match self.file.read_exact_at(&mut found, place) {
+            Ok(()) => Ok(found == bytes),
+            Err(error) if error.kind() == io::ErrorKind::UnexpectedEof => Ok(false),
+            Err(error) => Err(self.fail(error)),
+        }
+    }
+
+    pub fn synced(self) -> Result<Beside, Failure> {
+        self.file.sync_all().map_err(|error| self.fail(error))?;
+        Ok(self.beside)
     }
 }
 

@@ -4,16 +4,21 @@
 mod arguments;
 mod blocks;
 mod commands;
+mod enclosing;
 mod failure;
 mod grid;
 mod help;
 mod kept;
+mod layered;
+mod machine;
 mod mesh;
 mod npy;
 mod page;
 mod plan;
 mod ply;
 mod progress;
+mod records;
+mod survey;
 mod weighing;
 
 use failure::Failure;

@@ -6,10 +6,22 @@ use std::io::{self, Read};
 const MAGIC: &[u8] = b"\x93NUMPY";
 
 /// What the header says: the dimensions x, y, z, which stand there as z, y, x, and the kind of number.
-#[derive(Debug, PartialEq)]
+#[derive(Clone, Copy, Debug, PartialEq)]
 pub struct Header {
     pub dims: [u32; 3],
     pub numbers: Numbers,
+}
+
+impl Header {
+    /// The highest point. Dimensions of 0 have none, and the library refuses them whatever the box.
+    pub fn highest(&self) -> [u32; 3] {
+        self.dims.map(|size| size.saturating_sub(1))
+    }
+
+    /// What the grid takes in memory as floats with a map of its cells: eight bytes a point.
+    pub fn in_memory(&self) -> u128 {
+        8 * self.dims.map(u128::from).iter().product::<u128>()
+    }
 }
 
 /// Reads the header and leaves the file at the first number.

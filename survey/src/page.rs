@@ -1,17 +1,17 @@
 //! The page of a survey: what was found, and of each thing what it rests on. Proved: a theorem about the library says
 //! it. Counted: this run counted it. Not claimed: nobody says it.
 
-use crate::grid::Grid;
 use crate::mesh::Lists;
-use crate::weighing;
+use crate::npy::Header;
+use crate::{records, weighing};
 use bed::{Block, VolumeError};
 use std::path::{Path, PathBuf};
 
 /// The mesh of one block in numbers.
 pub struct Weighed {
-    vertices: usize,
-    triangles: usize,
-    sixfold: Result<i128, VolumeError>,
+    pub vertices: usize,
+    pub triangles: usize,
+    pub sixfold: Result<i128, VolumeError>,
 }
 
 impl Weighed {
@@ -26,7 +26,9 @@ impl Weighed {
 
 pub struct Page<'a> {
     pub name: &'a Path,
-    pub grid: &'a Grid,
+    pub header: Header,
+    /// Whether the grid stayed in its file and was taken layer by layer.
+    pub by_layers: bool,
     pub fixtures: Option<&'a Path>,
     pub plan: Option<&'a Path>,
     pub whole: Block,
@@ -54,13 +56,13 @@ impl Page<'_> {
     }
 
     fn grid(&self, lines: &mut Lines) {
-        let [x, y, z] = self.grid.dims;
+        let [x, y, z] = self.header.dims;
         lines.found(
             "grid",
             format!(
                 "{}: {x} x {y} x {z} points, {}",
                 self.name.display(),
-                self.grid.numbers.name()
+                self.header.numbers.name()
             ),
         );
         let (min, max) = (self.whole.min, self.whole.max);
@@ -68,6 +70,14 @@ impl Page<'_> {
             "box",
             format!("{min:?} to {max:?}, max planes {}", letters(&self.whole)),
         );
+        if self.by_layers {
+            lines.found(
+                "layers",
+                "taken one by one, since the grid in memory takes more than --memory".into(),
+            );
+            lines.rests("proved: what all layers bring out, joined, is what the whole call makes");
+            lines.rests("compared: each block's vertices, made two times; the mesh is of the grid as it was read the second time");
+        }
         if let Some(fixtures) = self.fixtures {
             lines.found("fixtures", format!("{}: cut out", fixtures.display()));
             lines.rests("proved: a point takes the negated value of the solid where that is greater, and else stays");
@@ -124,6 +134,9 @@ impl Page<'_> {
             );
             lines.rests("not claimed: that there is one, or none; a border of points above zero closes the bed");
         }
+        if self.by_layers {
+            lines.rests("not proved: that the layers' answers, each asked by itself, make up the whole grid's");
+        }
     }
 
     fn volume(&self, lines: &mut Lines) {
@@ -150,7 +163,9 @@ impl Page<'_> {
             return;
         }
         lines.rests("proved: the exact sum of the determinants, coordinates rounded down to 1/256, of each call's triangles");
-        if self.weighed.iter().any(|one| one.triangles > 16_384) {
+        if self.by_layers {
+            lines.rests("not proved: the sum of several calls for one mesh; each takes triangles of one layer, 16384 at most");
+        } else if self.weighed.iter().any(|one| one.triangles > 16_384) {
             lines.rests("not proved: the sum of several calls for one mesh; each takes 16384 triangles at most");
         }
         if self.plan.is_some() {
@@ -169,7 +184,11 @@ impl Page<'_> {
             ),
         }
         if !self.names.is_empty() {
-            lines.rests("proved: read back, a file gives the same bits, and every shorter beginning is refused");
+            lines.rests(if self.by_layers {
+                records::RESTS
+            } else {
+                "proved: read back, a file gives the same bits, and every shorter beginning is refused"
+            });
             lines.rests("not claimed: that the disk keeps what it was told to sync");
         }
     }

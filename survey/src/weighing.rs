@@ -18,6 +18,55 @@ pub fn sixfold(lists: &Lists) -> Result<i128, VolumeError> {
     Ok(sum)
 }
 
+/// The volume of a mesh that comes layer by layer. A triangle has its corners in its own layer and the one before.
+pub struct InLayers {
+    /// Of the last layer and this one.
+    positions: Vec<f32>,
+    /// How many of them are of the last one.
+    last: usize,
+    /// The number of the first vertex whose position is here.
+    first: u32,
+    indices: Vec<u32>,
+    /// Six times the volume so far.
+    pub sixfold: Result<i128, VolumeError>,
+}
+
+impl Default for InLayers {
+    fn default() -> Self {
+        Self {
+            positions: Vec::new(),
+            last: 0,
+            first: 0,
+            indices: Vec::new(),
+            sixfold: Ok(0),
+        }
+    }
+}
+
+impl InLayers {
+    pub fn add(&mut self, lists: &Lists) {
+        let Ok(sum) = self.sixfold else {
+            return;
+        };
+        self.positions.drain(..self.last);
+        self.first += (self.last / 3) as u32;
+        self.last = self.positions.len();
+        self.positions.extend(lists.positions);
+        self.indices.clear();
+        let numbers = lists.indices.iter();
+        // A number below the first would come out as one that has no position, and is refused.
+        self.indices
+            .extend(numbers.map(|number| number.wrapping_sub(self.first)));
+        let here = Lists {
+            positions: &self.positions,
+            normals: &[],
+            indices: &self.indices,
+            crossings: None,
+        };
+        self.sixfold = sixfold(&here).map(|more| sum + more);
+    }
+}
+
 /// A six-fold sum in cubed grid steps, to three places, the rest left off.
 pub fn in_grid_steps(sixfold: i128) -> String {
     const CUBED_STEP: u128 = 6 * 256 * 256 * 256;
@@ -45,6 +94,34 @@ mod tests {
             };
             assert_eq!(sixfold(&lists), Ok(times as i128 * 256 * 256 * 256));
         }
+    }
+
+    #[test]
+    fn a_layer_outside_is_refused() {
+        let lists = |positions: &'static [f32], indices: &'static [u32]| Lists {
+            positions,
+            normals: positions,
+            indices,
+            crossings: None,
+        };
+        let mut volume = InLayers::default();
+        volume.add(&lists(&[0.0, 0.0, 0.0, 1.0, 0.0, 0.0], &[]));
+        volume.add(&lists(
+            &[0.0, 1.0, 0.0, 0.0, 0.0, 1.0],
+            &[0, 2, 1, 0, 1, 3, 0, 3, 2, 1, 2, 3],
+        ));
+        assert_eq!(volume.sixfold, Ok(256 * 256 * 256));
+        volume.add(&lists(&[], &[]));
+        volume.add(&lists(&[128.0, 128.0, 128.0], &[4, 4, 4]));
+        assert_eq!(volume.sixfold, Ok(256 * 256 * 256));
+        let mut early = InLayers::default();
+        early.add(&lists(&[0.0; 6], &[]));
+        early.add(&lists(&[0.0; 6], &[]));
+        early.add(&lists(&[0.0; 3], &[1, 2, 3]));
+        assert_eq!(early.sixfold, Err(VolumeError::NoVertex));
+        volume.add(&lists(&[128.0, 129.0, 128.0], &[]));
+        volume.add(&lists(&[0.0; 9], &[]));
+        assert_eq!(volume.sixfold, Err(VolumeError::Outside));
     }
 
     #[test]

@@ -5,10 +5,8 @@ import os
 import pty
 import random
 import re
-import signal
 import subprocess
 import sys
-import time
 
 from common import *
 
@@ -229,37 +227,15 @@ def surveys():
     expect("a plan without blocks", one["files"].startswith("none") and one["mesh"] == "0 vertices, 0 triangles")
 
 
-def stopped_run(reader, writer):
-    """what a survey writes to this error stream, and whether it was stopped amid its blocks, for more than a second"""
-    words = [BED, "survey", f"{TANK}/tank.npy", "--plan", f"{TANK}/tank.plan", "-o", "block.mesh"]
-    run = subprocess.Popen(words, stdout=subprocess.DEVNULL, stderr=writer)
-    os.close(writer)
-    while run.poll() is None and not glob.glob("*.part"):
-        time.sleep(0.001)
-    stopped = False
-    if run.poll() is None:
-        run.send_signal(signal.SIGSTOP)
-        time.sleep(1.2)
-        stopped = 0 < len(glob.glob("*.part")) < 150
-        run.send_signal(signal.SIGCONT)
-    seen = b""
-    try:
-        while piece := os.read(reader, 4096):
-            seen += piece
-    except OSError:  # so a terminal ends
-        pass
-    expect("surveyed", run.wait() == 0)
-    return seen, stopped
-
-
 def progress():
     """on a terminal, once a second has passed; none in a pipe"""
-    seen, stopped = stopped_run(*pty.openpty())
+    words = "survey", f"{TANK}/tank.npy", "--plan", f"{TANK}/tank.plan", "-o", "block.mesh"
+    seen, stopped = stopped_run(*pty.openpty(), *words)
     if stopped:
         expect(f"progress on a terminal: {seen}", re.search(rb"\r\d+ of 200 blocks, \d+ vertices", seen) and seen.endswith(b"\r\x1b[K"))
     else:
         print("progress: the run was too quick to be stopped amid its blocks, skipped")
-    seen, _ = stopped_run(*os.pipe())
+    seen, _ = stopped_run(*os.pipe(), *words)
     expect("none in a pipe", seen == b"")
     reader, writer = pty.openpty()
     subprocess.run([BED, "mesh", BALL_FILE, "-o", "out.mesh"], stdout=subprocess.DEVNULL, stderr=writer)

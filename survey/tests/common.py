@@ -1,12 +1,15 @@
 """What the tests of the command share: grids as files, runs of the command, and plain readings of mesh files and PLY that take
 nothing from the repository's own code."""
 import atexit
+import glob
 import os
 import shutil
+import signal
 import struct
 import subprocess
 import sys
 import tempfile
+import time
 
 BED = os.environ["BED"]
 failures = []
@@ -34,6 +37,29 @@ def bed(*words):
     """status, output, errors of a run"""
     done = subprocess.run([BED, *map(str, words)], capture_output=True, text=True, stdin=subprocess.DEVNULL)
     return done.returncode, done.stdout, done.stderr
+
+
+def stopped_run(reader, writer, *words):
+    """what a run writes to this error stream, and whether it was stopped amid its work, for more than a second, with some of its
+    files begun"""
+    run = subprocess.Popen([BED, *words], stdout=subprocess.DEVNULL, stderr=writer)
+    os.close(writer)
+    while run.poll() is None and not glob.glob("*.part"):
+        time.sleep(0.001)
+    stopped = False
+    if run.poll() is None:
+        run.send_signal(signal.SIGSTOP)
+        time.sleep(1.2)
+        stopped = 0 < len(glob.glob("*.part")) < 150
+        run.send_signal(signal.SIGCONT)
+    seen = b""
+    try:
+        while piece := os.read(reader, 4096):
+            seen += piece
+    except OSError:  # so a terminal ends
+        pass
+    expect("done", run.wait() == 0)
+    return seen, stopped
 
 
 def npy(numbers, dims, kind="<f4", order="False", shape=None):

@@ -1,5 +1,5 @@
-/* header.c: what bed.h has beside the library's functions: the version, the names of the answers and the size of a mesh
- * file. Built as C and as C++. */
+/* header.c: what bed.h has beside the library's functions: the version, the names of the answers, the size of a mesh
+ * file; and a function and an enumeration of one name. Built as C and as C++. */
 #include "bed.h"
 
 #include <stdio.h>
@@ -46,9 +46,21 @@ static int size(void)
                : 1;
 }
 
+/* Document 01's Ball, asked about with a map and nothing else. */
+static int one_name(void)
+{
+    float ball[27];
+    uint64_t vertices = 0, indices = 0;
+    for (int i = 0; i < 27; i++)
+        ball[i] = i == 13 ? -1.0f : 1.0f;
+    enum bed_answer wanted = BED_VERTICES_SHORT;
+    uint32_t answer = bed_answer(ball, 27, 3, 3, 3, 0, 0, 0, 2, 2, 2, false, false, false, 0, 0, 0, 0, 0, 27, 0, &vertices, &indices);
+    return answer == (uint32_t)wanted && vertices == 8 && indices == 18 ? 0 : 1;
+}
+
 int main(void)
 {
-    if (names() != 0 || size() != 0) {
+    if (names() != 0 || size() != 0 || one_name() != 0) {
         puts("bed.h: not as it should be");
         return 1;
     }

@@ -1,6 +1,7 @@
-"""power_cut [TIMES]: kills `bed mesh` at random moments, 1,000 times or TIMES, runs that were done before not counted, while it writes one of two meshes over the other,
-and looks each time that the file is one of the two, whole. What a killed run left beside it is a beginning of one, and
-`bed info` refuses it with 21 unless it is the whole. BED names the command.
+"""power_cut [TIMES]: kills `bed mesh` at random moments, 1,000 times or TIMES, runs that were done before not counted, while it writes
+one of two meshes over the other, of grids in memory, and as often of grids that are taken layer by layer, and looks each time that the
+file is one of the two, whole. What a killed run left beside it is a beginning of one, and `bed info` refuses it with 21 unless it is
+the whole. BED names the command.
 
 A kill is not a power cut: what the system was told to write it still writes. That the bytes are synced before the file gets
 its name, and the folder after it, is read from the calls that the run makes, where strace is there."""
@@ -26,13 +27,13 @@ def grid(name):
     return put(name, npy(random.randbytes(SIDE ** 3), (SIDE,) * 3, "|i1"))
 
 
-def run(name):
-    return subprocess.Popen([BED, "mesh", name, "-o", "bed.mesh"], stdout=subprocess.DEVNULL, stderr=subprocess.DEVNULL)
+def run(name, more):
+    return subprocess.Popen([BED, "mesh", name, "-o", "bed.mesh", *more], stdout=subprocess.DEVNULL, stderr=subprocess.DEVNULL)
 
 
-def meshed(name):
+def meshed(name, more):
     start = time.monotonic()
-    expect("meshed", run(name).wait() == 0)
+    expect("meshed", run(name, more).wait() == 0)
     return got("bed.mesh"), time.monotonic() - start
 
 
@@ -50,15 +51,14 @@ def beginnings(wholes, asked):
     return len(left), asked
 
 
-def kills():
-    grids = grid("one.npy"), grid("two.npy")
-    wholes, times = zip(*[meshed(name) for name in grids for _ in range(5)])
+def kills(grids, *more):
+    wholes, times = zip(*[meshed(name, more) for name in grids for _ in range(5)])
     wholes, longest = set(wholes), sorted(times)[len(times) // 2] * 1.2
     expect("two meshes", len(wholes) == 2)
     runs = killed = writing = changed = asked = 0
     before = got("bed.mesh")
     while killed < TIMES:
-        started = run(grids[runs % 2])
+        started = run(grids[runs % 2], more)
         runs += 1
         time.sleep(random.uniform(0, longest))
         started.send_signal(signal.SIGKILL)
@@ -69,16 +69,17 @@ def kills():
         before = now
         left, asked = beginnings(wholes, asked)
         writing += left
-    print(f"{runs} runs, {killed} of them killed, {writing} while writing; {changed} times the new mesh was there; files of "
+    print(f"{' '.join(more) or 'in memory'}: {runs} runs, {killed} of them killed, {writing} while writing; {changed} times the new mesh was there; files of "
           f"{len(before)} bytes; {asked} beginnings refused")
     expect("some were killed while writing", writing > 0 or TIMES < 100)
+    return wholes
 
 
-def synced():
+def synced(*more):
     if not shutil.which("strace"):
         print("strace is not there: the order of the calls is not looked at")
         return
-    subprocess.run(["strace", "-f", "-y", "-o", "calls", "-e", "trace=write,fsync,rename,renameat,renameat2", BED, "mesh", "one.npy", "-o", "bed.mesh"],
+    subprocess.run(["strace", "-f", "-y", "-o", "calls", "-e", "trace=write,fsync,rename,renameat,renameat2", BED, "mesh", "one.npy", "-o", "bed.mesh", *more],
                    stdout=subprocess.DEVNULL, check=True)
     calls = [line.split(None, 1)[1] for line in open("calls") if ".part" in line or "fsync" in line]
     kinds = [call.split("(")[0].rstrip("at2") for call in calls]
@@ -87,6 +88,9 @@ def synced():
     print("the calls: written, synced, renamed, the folder synced")
 
 
-kills()
+GRIDS = grid("one.npy"), grid("two.npy")
+LAYERS = "--memory", "1"
+expect("the same meshes", kills(GRIDS) == kills(GRIDS, *LAYERS))
 synced()
+synced(*LAYERS)
 finish("power cut: the old mesh or the whole new one, every time")

@@ -56,6 +56,20 @@ def ball():
     expect("the file", len(file) == 32 * 15 and bed.check_mesh(file) == (8, 6))
     expect("read back", rows(again.positions) == rows(mesh.positions) and again.indices.tolist() == mesh.indices.tolist()
            and rows(again.normals) == rows(mesh.normals))
+    expect("its counts alone", bed.counts(grid, (3, 3, 3)) == (8, 18) and bed.counts(grid, (3, 3, 3), max_plane=(True,) * 3) == (8, 36))
+    refused(2, bed.counts, grid, (3, 3, 3), max=(3, 2, 2))
+    pieces = bytearray(len(file))
+    bits = struct.Struct("<6f")
+    words = [(1, *struct.unpack("<6I", bits.pack(*position, *normal))) for position, normal in zip(rows(mesh.positions), rows(mesh.normals))]
+    corners = mesh.indices.tolist()
+    words += [(2, *corners[at:at + 3], 0, 0, 0) for at in range(0, len(corners), 3)]
+    for number, record in enumerate([*words, (3, 8, 6, 0, 0, 0, 0)]):
+        bed.write_record(pieces, 32 * number, record)
+    expect("the file, record by record", bytes(pieces) == file)
+    refused(29, bed.write_record, pieces, len(file) - 31, words[0])
+    refused(29, bed.write_record, pieces, 2 ** 64 - 1, words[0])
+    expect("and no more", bytes(pieces) == file)
+    wrong(bed.write_record, bytes(32), 0, words[0])
     refused(21, bed.read_mesh, file[:-1])
     refused(21, bed.check_mesh, b"")
     refused(28, bed.check_mesh, file + b"\0")

@@ -2,13 +2,15 @@
 -- the contract of each exported function is said once more by the places of its parameters, in the order of include/bed.h. Assumes nothing.
 use Prim.Native.Nat.{ℕ}
 use mathlib.Core.Path.{_≡_}
-use mathlib.Core.List.{List}
+use mathlib.Core.List.{List, [], _∷_}
 use lib.Ieee.{Float}
 use lib.ListN.{length}
 use contract.Lifetimes.{Lfts}
 use denote.Triple.Clauses.{Lasts, atExit}
 use borrow.Fn.Kinds.{PK, RK, Out, Dens, resT, endedOf}
-use Rattle.rules.specs.Call.{answer, room}
+use Rattle.rules.specs.Call.{Room, Answer, answer, room}
+use Rattle.grid.specs.declared.Extent.{Extent}
+use Rattle.grid.specs.declared.EachAxis.{EachAxis}
 use Rattle.grid.specs.Block.{point}
 use Rattle.whole_box.specs.LentLists.{buffersGiven}
 use Rattle.surface_nets.specs.AsRules.{callMade}
@@ -17,18 +19,23 @@ use Rattle.mesh_file.specs.Mesh.{Mesh, mesh, Held}
 use Rattle.mesh_file.specs.Writing.{writing, written}
 use Rattle.mesh_file.specs.Reading.{Bytes, readOf, checked, readingIn, filledIn}
 use Rattle.mesh_file.specs.declared.Read.{Read}
+use Rattle.mesh_record.specs.Written.{recordAnswer, recordWritten}
 use Rattle.fixtures.specs.Cut.{cutAnswer, cutGrid}
 use Rattle.layers.specs.Memory.{memory, lengths, startAnswer}
 use Rattle.layers.specs.Offer.{output, left, roomIn, layerAnswer, stateAfter, leaves}
 use Rattle.layers.specs.Words.{stateOf, wordsOn}
-use Rattle.bed.specs.Boundary.{extent, planes, said}
+use Rattle.bed.specs.Boundary.{extent, planes, roomAsked, said}
 use Rattle.bed.specs.Layered.{blockAsked, wordsStarted}
 use Rattle.bed.proofs.bed_surface_nets.Kinds as nets-kinds
 use Rattle.bed.proofs.bed_surface_nets.Reads as nets
+use Rattle.bed.proofs.asking.bed_answer.Kinds as ask-kinds
+use Rattle.bed.proofs.asking.bed_answer.Reads as ask
 use Rattle.bed.proofs.enclosed.bed_is_enclosed.Kinds as enclosed-kinds
 use Rattle.bed.proofs.enclosed.bed_is_enclosed.Reads as enclosed
 use Rattle.bed.proofs.files.bed_write_mesh.Kinds as write-kinds
 use Rattle.bed.proofs.files.bed_write_mesh.Reads as write
+use Rattle.bed.proofs.files.bed_write_record.Kinds as record-kinds
+use Rattle.bed.proofs.files.bed_write_record.Reads as record-reads
 use Rattle.bed.proofs.files.bed_read_mesh.Kinds as read-kinds
 use Rattle.bed.proofs.files.bed_read_mesh.Reads as read
 use Rattle.bed.proofs.files.bed_check_mesh.Kinds as check-kinds
@@ -61,6 +68,39 @@ pub surface-nets-by-place : (u : NetsCall)
     ≡ answer (callMade (sdf .now) (extent dx dy dz) (extent lx ly lz) (extent hx hy hz) (planes px py pz))
     (room (buffersGiven positions normals cells strides crossings map indices)))
 surface-nets-by-place u = u .fits .0
+
+-- ---- bed_answer: sdf, dimensions, min, max, the max plane on each axis, the lengths of the seven lists, V, I
+
+abbrev pub AskCall : Type 0
+AskCall = Called 3 ask-kinds.ps ask-kinds.r ask.Learnt
+
+module _ (u : AskCall) where
+  abbrev pub gridAsked : List Float
+  gridAsked = let (sdf, _) = u .args in sdf .now
+
+  abbrev pub dimsAsked : Extent
+  dimsAsked = let (_, (dx, (dy, (dz, _)))) = u .args in extent dx dy dz
+
+  abbrev pub lowAsked : Extent
+  lowAsked = let (_, (_, (_, (_, (lx, (ly, (lz, _))))))) = u .args in extent lx ly lz
+
+  abbrev pub highAsked : Extent
+  highAsked = let (_, (_, (_, (_, (_, (_, (_, (hx, (hy, (hz, _)))))))))) = u .args in extent hx hy hz
+
+  abbrev pub planeAsked : EachAxis
+  planeAsked = let (_, (_, (_, (_, (_, (_, (_, (_, (_, (_, (px, (py, (pz, _))))))))))))) = u .args in planes px py pz
+
+  abbrev pub lengthsAsked : Room
+  lengthsAsked =
+      let (_, (_, (_, (_, (_, (_, (_, (_, (_, (_, (_, (_, (_, (positions, (normals, (cells, (strides, (crossings, (map, (indices, _)))))))))))))))))))) = u .args in
+      roomAsked positions normals cells strides crossings map indices
+
+  -- the answer number with V and I
+  abbrev pub answerAsked : Answer
+  answerAsked = let (_, (_, (_, (_, (_, (_, (_, (_, (_, (_, (_, (_, (_, (_, (_, (_, (_, (_, (_, (_, (v, (i, _)))))))))))))))))))))) = u .last in said (u .result) v i
+
+  pub answer-by-place : answerAsked ≡ answer (callMade gridAsked dimsAsked lowAsked highAsked planeAsked) lengthsAsked
+  answer-by-place = u .fits
 
 -- ---- bed_is_enclosed: sdf, dimensions, min, max, the yes or no
 
@@ -96,6 +136,27 @@ module _ (u : WriteCall) where
       × ((bytesCounted ≡ writing meshGiven (length fileLent) .bytes)
       × Held meshGiven))
   write-by-place = u .fits
+
+-- ---- bed_write_record: the file, the place in it, seven words
+
+abbrev pub RecordCall : Type 0
+RecordCall = Called 1 record-kinds.ps record-kinds.r record-reads.Learnt
+
+module _ (u : RecordCall) where
+  abbrev pub roomLent : List ℕ
+  roomLent = let (file, _) = u .args in file .now
+
+  abbrev pub placeGiven : ℕ
+  placeGiven = let (_, (at, _)) = u .args in at
+
+  abbrev pub wordsGiven : List ℕ
+  wordsGiven = let (_, (_, (kind, (a, (b, (c, (d, (e, (f, _))))))))) = u .args in kind ∷ a ∷ b ∷ c ∷ d ∷ e ∷ f ∷ []
+
+  abbrev pub roomLeft : List ℕ
+  roomLeft = let (file, _) = u .last in file
+
+  pub record-by-place : (u .result ≡ recordAnswer placeGiven roomLent) × (roomLeft ≡ recordWritten wordsGiven placeGiven roomLent)
+  record-by-place = u .fits
 
 -- ---- bed_read_mesh: the file, positions, normals, indices, the two counts
 

@@ -1,6 +1,8 @@
-// Mesh files for C and Rust (document 02, request 2): thin functions over mesh_file. The file is lent memory; include/bed.h says the rest.
+// Mesh files for C and Rust (document 02, request 2): thin functions over mesh_file and, for one record, mesh_record. The file is lent memory; include/bed.h says the rest.
 ghost use mathlib.Core.Path.{_≡_};
+ghost use mathlib.Core.List.{[], _∷_};
 ghost use lib.ListN.{length};
+ghost use Rattle.mesh_record.specs.Written.{recordAnswer, recordWritten};
 ghost use Rattle.mesh_file.specs.Mesh.{mesh, Held};
 ghost use Rattle.mesh_file.specs.Writing.{writing, written};
 ghost use Rattle.mesh_file.specs.Reading.{Bytes, readOf, checked, readingIn, filledIn};
@@ -21,6 +23,25 @@ pub extern "C" fn bed_write_mesh(
     let wrote = mesh_file::write_mesh(positions, normals, indices, file);
     *byte_count = wrote.bytes as u64;
     wrote.answer
+}
+
+// One record, its seven words and their sum, at a place of the lent bytes: 0, or 29 where it would end past them.
+#[no_mangle]
+pub extern "C" fn bed_write_record(
+    file: &mut [u8],
+    at: u64,
+    kind: u32,
+    a: u32,
+    b: u32,
+    c: u32,
+    d: u32,
+    e: u32,
+    f: u32,
+) -> u32
+    ensures { λ r. ⌜ r ≡ recordAnswer at (now (file .entry)) ⌝ }
+    ensures { λ _. ⌜ now (file .exit) ≡ recordWritten (kind ∷ a ∷ b ∷ c ∷ d ∷ e ∷ f ∷ []) at (now (file .entry)) ⌝ }
+{
+    mesh_record::put_record(file, at as usize, kind, a, b, c, d, e, f)
 }
 
 #[no_mangle]

@@ -2,11 +2,15 @@
 -- their arguments. The bytes that one call left are the bytes that the other is passed; nothing else is asked of them. Assumes nothing.
 use Prim.Native.Nat.{ℕ, _<_, _≤_}
 use mathlib.Core.Path.{_≡_}
-use mathlib.Core.List.{List}
+use mathlib.Core.List.{List, map}
 use lib.ListN.{length, take}
-use Rattle.mesh_file.specs.Mesh.{Mesh, mesh, vertexCount, triangleCount, fileOf}
+use Rattle.lists.specs.Lists.{joined, over}
+use Rattle.lists.proofs.Lists.{All}
+use Rattle.mesh_file.specs.Mesh.{Mesh, mesh, vertexCount, triangleCount, fileOf, fileLength, meshWords}
 use Rattle.mesh_file.specs.Writing.{wrote}
 use Rattle.mesh_file.specs.declared.Read.{Read}
+use Rattle.mesh_record.proofs.put_record.Kinds as put-record-kinds
+use Rattle.mesh_record.proofs.put_record.Reads as put-record
 use Rattle.mesh_file.proofs.check_file.Kinds as check-file-kinds
 use Rattle.mesh_file.proofs.check_file.Reads as check-file
 use Rattle.mesh_file.proofs.write_mesh.Kinds as write-mesh-kinds
@@ -14,10 +18,36 @@ use Rattle.mesh_file.proofs.write_mesh.Reads as write-mesh
 use Rattle.mesh_file.proofs.read_mesh.Kinds as read-mesh-kinds
 use Rattle.mesh_file.proofs.read_mesh.Reads as read-mesh
 use Rattle.bed.proofs.Places.{Called, WriteCall, meshGiven, fileLent, fileLeft, bytesCounted, write-by-place}
+use Rattle.bed.proofs.Places.{RecordCall, roomLent, placeGiven, wordsGiven, roomLeft, record-by-place}
 use Rattle.bed.proofs.Places.{ReadCall, fileRead, listsLent, listsLeft, verticesCounted, trianglesCounted, read-by-place}
 use Rattle.bed.proofs.Places.{CheckCall, fileChecked, countsChecked, check-by-place}
-use Rattle.kept_mesh.specs.Filed.{Writes, Reads, Checks, meshRead, Room, ReadBack, RefusedCut}
+use Rattle.kept_mesh.specs.Filed.{Writes, Puts, wordsPut, Apart, InARow, Reads, Checks, meshRead, Room, ReadBack, RefusedCut}
 use Rattle.kept_mesh.proofs.Filed.{write-then-read, write-then-cut, read-is-written, same-read-same-file, read-then-write, check-then-read}
+use Rattle.kept_mesh.proofs.Records.{records-apart, records-in-a-row, apart-is-write, row-is-write}
+
+-- ---- mesh_record: put_record
+
+abbrev pub PutRun : Type 0
+PutRun = Called 1 put-record-kinds.ps put-record-kinds.r put-record.Learnt
+
+abbrev pub putOf : PutRun → Puts
+putOf u =
+    let (file, (at, (kind, (a, (b, (c, (d, (e, (f, _))))))))) = u .args in
+    record {
+      kind = kind;
+      a = a;
+      b = b;
+      c = c;
+      d = d;
+      e = e;
+      f = f;
+      at = at;
+      lent = file .now;
+      says = u .result;
+      left = u .last .0;
+      answered = u .fits .0;
+      kept = u .fits .1;
+    }
 
 -- ---- mesh_file: write_mesh, read_mesh and check_file
 
@@ -73,6 +103,25 @@ bedWriteOf u =
       answered = λ i. wrote (p .0 i) (p .1 .1 .0 i);
       kept = p .1 .0;
       held = p .1 .1 .1;
+    }
+
+abbrev pub bedPutOf : RecordCall → Puts
+bedPutOf u =
+    let (_, (_, (kind, (a, (b, (c, (d, (e, (f, _))))))))) = u .args in
+    record {
+      kind = kind;
+      a = a;
+      b = b;
+      c = c;
+      d = d;
+      e = e;
+      f = f;
+      at = placeGiven u;
+      lent = roomLent u;
+      says = u .result;
+      left = roomLeft u;
+      answered = record-by-place u .0;
+      kept = record-by-place u .1;
     }
 
 abbrev pub bedReadOf : ReadCall → Reads
@@ -147,3 +196,33 @@ check-file-read-mesh c r same room = check-then-read (checkOf c) (readOf r) same
 pub bed-check-mesh-read-mesh : (c : CheckCall) (r : ReadCall) → fileChecked c ≡ fileRead r → Room (countsChecked c .vertices) (countsChecked c .triangles) (listsLent r)
     → bedReadOf r .says ≡ countsChecked c
 bed-check-mesh-read-mesh c r same room = check-then-read (bedCheckOf c) (bedReadOf r) same room
+
+-- ---- records joined are the file of the mesh
+
+-- calls of bed_write_record, a list of them, whose words are those of a mesh's records in their order: each into 32 bytes at place 0
+pub bed-records-apart : (us : List RecordCall) (m : Mesh) → map wordsGiven us ≡ meshWords m → All (λ u. Apart (bedPutOf u)) us
+    → All (λ u. u .result ≡ 0) us × (joined roomLeft us ≡ fileOf m)
+bed-records-apart us m words h = records-apart bedPutOf m us words h
+
+-- or one after the other into one file, at 0, 32, 64 and so on, each in the bytes that the one before left
+pub bed-records-in-a-row : (us : List RecordCall) (m : Mesh) (f g : List ℕ) → map wordsGiven us ≡ meshWords m → InARow bedPutOf us 0 f g → fileLength m ≤ length f
+    → All (λ u. u .result ≡ 0) us × (g ≡ over (fileOf m) f)
+bed-records-in-a-row us m f g words r h = records-in-a-row bedPutOf m us words f g r h
+
+-- which is what bed_write_mesh leaves where it answers 0: the bytes that it counts, and the whole lent file
+pub bed-records-are-write : (us : List RecordCall) (w : WriteCall) → w .result ≡ 0 → map wordsGiven us ≡ meshWords (meshGiven w) → All (λ u. Apart (bedPutOf u)) us
+    → joined roomLeft us ≡ take (bytesCounted w) (fileLeft w)
+bed-records-are-write us w done words h = apart-is-write bedPutOf (bedWriteOf w) done us words h
+
+pub bed-row-is-write : (us : List RecordCall) (w : WriteCall) (g : List ℕ) → w .result ≡ 0 → map wordsGiven us ≡ meshWords (meshGiven w) → InARow bedPutOf us 0 (fileLent w) g
+    → g ≡ fileLeft w
+bed-row-is-write us w g done words r = row-is-write bedPutOf (bedWriteOf w) done us words g r
+
+-- the same of mesh_record's own function
+pub put-records-apart : (us : List PutRun) (m : Mesh) → map (λ u. wordsPut (putOf u)) us ≡ meshWords m → All (λ u. Apart (putOf u)) us
+    → All (λ u. u .result ≡ 0) us × (joined (λ u. putOf u .left) us ≡ fileOf m)
+put-records-apart us m words h = records-apart putOf m us words h
+
+pub put-records-in-a-row : (us : List PutRun) (m : Mesh) (f g : List ℕ) → map (λ u. wordsPut (putOf u)) us ≡ meshWords m → InARow putOf us 0 f g → fileLength m ≤ length f
+    → All (λ u. u .result ≡ 0) us × (g ≡ over (fileOf m) f)
+put-records-in-a-row us m f g words r h = records-in-a-row putOf m us words f g r h

@@ -13,7 +13,7 @@ use Rattle.mesh_file.specs.Record.{each}
 use Rattle.mesh_file.specs.Mesh.{Mesh, mesh, vertexCount, triangleCount, fileOf, fileLength}
 use Rattle.mesh_file.specs.Reading.{Progress, reading, whole, refused, readOf, readAnswer, checked, shortRoom, readingIn}
 use Rattle.mesh_file.specs.Reading.{floatsAt, numbersAt, floatsOf, indicesOf, meshIn, overMesh, filledIn}
-use Rattle.mesh_file.specs.Writing.{wrote, writing, writeAnswer}
+use Rattle.mesh_file.specs.Writing.{wrote, writing, writeAnswer, written}
 use Rattle.mesh_file.specs.declared.Read.{Read}
 use Rattle.mesh_file.specs.declared.Wrote.{Wrote}
 use Rattle.mesh_record.proofs.Laying.{each-length}
@@ -21,7 +21,7 @@ use Rattle.mesh_file.proofs.RoundTrip.{Writable, file-length, written-reads, wr
 use Rattle.mesh_file.proofs.Prefixes.{shorter-refused}
 use Rattle.mesh_file.proofs.OneFile.{accepted-is-written}
 use Rattle.mesh_file.proofs.Rewritten.{accepted-writable}
-use Rattle.mesh_file.proofs.Answering.{answered-zero}
+use Rattle.mesh_file.proofs.Answering.{passed, answered-zero}
 use Rattle.mesh_file.proofs.Settled.{zero-writable, bytes-written, bytes-counted, room-writes, room-reads, room-fills, room-enough, read-done}
 use Rattle.kept_mesh.specs.Filed.{Writes, Reads, Checks, meshRead, Room, ReadBack, RefusedCut}
 
@@ -37,7 +37,14 @@ module _ (w : Writes) (done : w .says .answer ≡ 0) where
   pub done-bytes : w .says .bytes ≡ fileLength (w .given)
   done-bytes = ap (λ (r : Wrote). r .bytes) (w .answered ∙ bytes-counted (w .given) (w .lent) none-refused)
 
-  -- its first bytes are the file of the mesh
+  pub done-room : fileLength (w .given) ≤ length (w .lent)
+  done-room = passed (w .given) (length (w .lent)) none-refused .roomy
+
+  -- its first bytes are the file of the mesh, and the rest is kept
+  pub done-left : w .left ≡ over (fileOf (w .given)) (w .lent)
+  unfolding written
+  done-left = w .kept ∙ rw none-refused refl
+
   pub done-leaves : take (w .says .bytes) (w .left) ≡ fileOf (w .given)
   done-leaves = ap₂ take done-bytes (w .kept) ∙ bytes-written (w .given) (w .lent) none-refused
 

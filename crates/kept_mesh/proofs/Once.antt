@@ -1,4 +1,4 @@
--- Document 01, "What a claim has to settle": "Show that two outcomes that fit are equal". For each public function of mesh_file, and the three of bed::files,
+-- Document 01, "What a claim has to settle": "Show that two outcomes that fit are equal". For each public function of mesh_file, and the four of bed::files,
 -- one outcome alone fits the contract: the result, and every list behind a `&mut` afterwards, refused calls too. Assumes nothing.
 use mathlib.Core.Path.{_∙_, sym}
 use Rattle.promises.proofs.OneOutcome.{OneOutcome}
@@ -10,6 +10,8 @@ use Rattle.mesh_file.proofs.read_mesh.Kinds as read-mesh-kinds
 use Rattle.mesh_file.proofs.read_mesh.Reads as read-mesh
 use Rattle.bed.proofs.files.bed_write_mesh.Kinds as bed-write-mesh-kinds
 use Rattle.bed.proofs.files.bed_write_mesh.Reads as bed-write-mesh
+use Rattle.bed.proofs.files.bed_write_record.Kinds as bed-write-record-kinds
+use Rattle.bed.proofs.files.bed_write_record.Reads as bed-write-record
 use Rattle.bed.proofs.files.bed_read_mesh.Kinds as bed-read-mesh-kinds
 use Rattle.bed.proofs.files.bed_read_mesh.Reads as bed-read-mesh
 use Rattle.bed.proofs.files.bed_check_mesh.Kinds as bed-check-mesh-kinds
@@ -40,6 +42,13 @@ bed-write-mesh-once κs a o o' l l' =
     let f = l .1 .0 ∙ sym (l' .1 .0) in
     let n = l .1 .1 .0 ∙ sym (l' .1 .1 .0) in
     λ i. record { result = s i; last = (tt, (tt, (tt, (f i, (n i, tt))))) }
+
+-- one record: the answer and the lent bytes
+pub bed-write-record-once : OneOutcome 1 bed-write-record-kinds.ps bed-write-record-kinds.r bed-write-record.Learnt
+bed-write-record-once κs a o o' l l' =
+    let s = l .0 ∙ sym (l' .0) in
+    let f = l .1 ∙ sym (l' .1) in
+    λ i. record { result = s i; last = (f i, (tt, (tt, (tt, (tt, (tt, (tt, (tt, (tt, tt))))))))) }
 
 pub bed-read-mesh-once : OneOutcome 6 bed-read-mesh-kinds.ps bed-read-mesh-kinds.r bed-read-mesh.Learnt
 bed-read-mesh-once κs a o o' l l' =

@@ -1,12 +1,13 @@
--- A call of the writer, of the reader and of the checker of mesh files with what came of it, as the public contracts say it: of mesh_file's functions and
--- of the C ones alike. Definitions only. Assumes nothing.
-use Prim.Native.Nat.{ℕ, _*_, _≤_}
+-- A call of the writer, of the reader and of the checker of mesh files, and of the writer of one record, with what came of it, as the public contracts
+-- say it: of mesh_file's and mesh_record's functions and of the C ones alike. Definitions only. Assumes nothing.
+use Prim.Native.Nat.{ℕ, _+_, _*_, _≤_}
 use mathlib.Core.Path.{_≡_}
-use mathlib.Core.List.{List}
+use mathlib.Core.List.{List, [], _∷_}
 use lib.ListN.{length, take}
 use Rattle.mesh_file.specs.Mesh.{Mesh, mesh, vertexCount, triangleCount, Held}
 use Rattle.mesh_file.specs.Reading.{Bytes, readOf, checked, readingIn, overMesh, filledIn}
 use Rattle.mesh_file.specs.Writing.{writing, written}
+use Rattle.mesh_record.specs.Written.{recordAnswer, recordWritten}
 use Rattle.mesh_file.specs.declared.Read.{Read}
 use Rattle.mesh_file.specs.declared.Wrote.{Wrote}
 
@@ -35,6 +36,36 @@ pub record Checks : Type 0 where
   pub file : List ℕ
   pub says : Read
   pub answered : says ≡ checked (readOf file)
+
+-- the seven words of one record, its place, the lent bytes as they were, the answer, and the lent bytes afterwards
+pub record Puts : Type 0 where
+  pub kind : ℕ
+  pub a : ℕ
+  pub b : ℕ
+  pub c : ℕ
+  pub d : ℕ
+  pub e : ℕ
+  pub f : ℕ
+  pub at : ℕ
+  pub lent : List ℕ
+  pub says : ℕ
+  pub left : List ℕ
+  pub answered : says ≡ recordAnswer at lent
+  pub kept : left ≡ recordWritten (kind ∷ a ∷ b ∷ c ∷ d ∷ e ∷ f ∷ []) at lent
+
+abbrev pub wordsPut : Puts → List ℕ
+wordsPut p = p .kind ∷ p .a ∷ p .b ∷ p .c ∷ p .d ∷ p .e ∷ p .f ∷ []
+
+-- into 32 bytes of its own
+pub record Apart (p : Puts) : Type 0 where
+  pub start : p .at ≡ 0
+  pub whole : length (p .lent) ≡ 32
+
+-- calls one after the other in one file, from a place on: each is lent what the one before left, a record further on. The file as it was, and as it is
+-- left in the end
+unfoldable pub InARow : {A : Type 0} → (A → Puts) → List A → ℕ → List ℕ → List ℕ → Type 0
+InARow of [] at f g = g ≡ f
+InARow of (u ∷ us) at f g = (of u .at ≡ at) × ((of u .lent ≡ f) × InARow of us (at + 32) (of u .left) g)
 
 -- the mesh that a read left: the first 3, 3 and 3 numbers for each vertex and triangle counted
 abbrev pub meshRead : Reads → Mesh

@@ -12,3 +12,4 @@ pub mod OneFile
 pub mod RoundTrip
 pub mod Settled
 pub mod Rewritten
+pub mod Records

@@ -36,20 +36,29 @@ Held m = Binary32 (m .positions) × Binary32 (m .normals)
 abbrev pub bitsAt : List Float → ℕ → ℕ
 bitsAt xs i = toBits binary32 (getD xs i nan)
 
--- "Vertex: 1, position, normal."
+-- "Vertex: 1, position, normal.": the seven words, and the record with their sum
+abbrev pub vertexSeven : List Float → List Float → ℕ → List ℕ
+vertexSeven p n i = 1 ∷ bitsAt p i ∷ bitsAt p (i + 1) ∷ bitsAt p (i + 2) ∷ bitsAt n i ∷ bitsAt n (i + 1) ∷ bitsAt n (i + 2) ∷ []
+
 abbrev pub vertexWords : List Float → List Float → ℕ → List ℕ
-vertexWords p n i = recordOf (1 ∷ bitsAt p i ∷ bitsAt p (i + 1) ∷ bitsAt p (i + 2) ∷ bitsAt n i ∷ bitsAt n (i + 1) ∷ bitsAt n (i + 2) ∷ [])
+vertexWords p n i = recordOf (vertexSeven p n i)
 
 abbrev pub vertexRecord : List Float → List Float → ℕ → List ℕ
 vertexRecord p n k = vertexWords p n (3 * k)
 
 -- "Triangle: 2, three indices, three zeros."
+abbrev pub triangleSeven : List ℕ → ℕ → List ℕ
+triangleSeven i k = 2 ∷ getD i (3 * k) 0 ∷ getD i (3 * k + 1) 0 ∷ getD i (3 * k + 2) 0 ∷ 0 ∷ 0 ∷ 0 ∷ []
+
 abbrev pub triangleRecord : List ℕ → ℕ → List ℕ
-triangleRecord i k = recordOf (2 ∷ getD i (3 * k) 0 ∷ getD i (3 * k + 1) 0 ∷ getD i (3 * k + 2) 0 ∷ 0 ∷ 0 ∷ 0 ∷ [])
+triangleRecord i k = recordOf (triangleSeven i k)
 
 -- "Closing: 3, vertex count, triangle count, four zeros."
+abbrev pub closingSeven : ℕ → ℕ → List ℕ
+closingSeven v t = 3 ∷ v ∷ t ∷ 0 ∷ 0 ∷ 0 ∷ 0 ∷ []
+
 abbrev pub closingRecord : ℕ → ℕ → List ℕ
-closingRecord v t = recordOf (3 ∷ v ∷ t ∷ 0 ∷ 0 ∷ 0 ∷ 0 ∷ [])
+closingRecord v t = recordOf (closingSeven v t)
 
 -- "All vertices, then all triangles, then one closing record."
 unfoldable pub fileOf : Mesh → List ℕ
@@ -60,3 +69,10 @@ fileOf m =
 
 abbrev pub fileLength : Mesh → ℕ
 fileLength m = 32 * (vertexCount m + triangleCount m + 1)
+
+-- the seven words of each record of that file, in its order
+unfoldable pub meshWords : Mesh → List (List ℕ)
+meshWords m =
+    each (λ k. vertexSeven (m .positions) (m .normals) (3 * k) ∷ []) (vertexCount m)
+    ++ (each (λ k. triangleSeven (m .indices) k ∷ []) (triangleCount m)
+    ++ (closingSeven (vertexCount m) (triangleCount m) ∷ []))

@@ -1,10 +1,12 @@
--- Words written in a row: four of them, and a record of seven and their sum. Assumes nothing.
-use Prim.Native.Nat.{ℕ, _+_, _≤_}
+-- Words written in a row: four of them, and a record of seven and their sum; and a record written where there is room, or refused. Assumes nothing.
+use Prim.Native.Nat.{ℕ, _+_, _≤_, _<_}
 use mathlib.Core.Path.{_≡_, refl, sym, ap, _∙_}
 use mathlib.Core.List.{List, [], _∷_, _++_, append-assoc, append-nil}
+use borrow.Author.Tests.{lt-ltb, le-ltb}
 use lib.ListN.{length}
 use Rattle.lists.specs.Lists.{joined}
 use Rattle.mesh_record.specs.Record.{bytesOf, sumOf, recordOf, laid}
+use Rattle.mesh_record.specs.Written.{recordAnswer, recordWritten}
 use Rattle.mesh_record.proofs.Laying.{laid-after}
 
 pub record-length : (k a b c d e g : ℕ) → length (recordOf (k ∷ a ∷ b ∷ c ∷ d ∷ e ∷ g ∷ [])) ≡ 32
@@ -50,3 +52,14 @@ eight-words k a b c d e g s at f₀ f₁ f₂ h p e₁ e₂ =
 pub vertex-words : (k a b c d e g k′ a′ b′ c′ d′ e′ g′ at : ℕ) (f₀ f₁ : List ℕ) → k ≡ k′ → a ≡ a′ → b ≡ b′ → c ≡ c′ → d ≡ d′ → e ≡ e′ → g ≡ g′
     → f₁ ≡ laid (recordOf (k ∷ a ∷ b ∷ c ∷ d ∷ e ∷ g ∷ [])) at f₀ → f₁ ≡ laid (recordOf (k′ ∷ a′ ∷ b′ ∷ c′ ∷ d′ ∷ e′ ∷ g′ ∷ [])) at f₀
 vertex-words k a b c d e g k′ a′ b′ c′ d′ e′ g′ at f₀ f₁ q₀ q₁ q₂ q₃ q₄ q₅ q₆ h = rw (← q₀, ← q₁, ← q₂, ← q₃, ← q₄, ← q₅, ← q₆) h
+
+-- ---- a record at any place
+
+module _ (ws : List ℕ) (at : ℕ) (f : List ℕ) where
+  -- where it would end past the lent bytes
+  pub record-refused : length f < at + 32 → (recordAnswer at f ≡ 29) × (recordWritten ws at f ≡ f)
+  record-refused h = rw (lt-ltb (length f) (at + 32) h) (refl, refl)
+
+  -- and where there is room
+  pub record-done : at + 32 ≤ length f → (recordAnswer at f ≡ 0) × (recordWritten ws at f ≡ laid (recordOf ws) at f)
+  record-done h = rw (le-ltb (length f) (at + 32) h) (refl, refl)

@@ -2,3 +2,4 @@
 -- `lib.Ieee` at binary32, a float's word its bit pattern. Assumes nothing.
 pub mod Record
 pub mod Faults
+pub mod Written

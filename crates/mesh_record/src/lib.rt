@@ -7,6 +7,7 @@ ghost use lib.Dec.{eqb, ltb};
 ghost use lib.ListN.{length};
 ghost use Rattle.lists.specs.Lists.{joined};
 ghost use Rattle.mesh_record.specs.Record.{bytesOf, wordAt, sumOf, recordOf, laid};
+ghost use Rattle.mesh_record.specs.Written.{recordAnswer, recordWritten};
 ghost use Rattle.mesh_record.specs.Faults.{
   wordsAt,
   badSum,
@@ -271,4 +272,29 @@ pub fn write_record(
     write_four(file, at, kind, a, b, c);
     let sum = sum_of(kind, a, b, c, d, e, f);
     write_four(file, at + 16, d, e, f, sum);
+}
+
+// The same at any place: 0 where the record was written, and else 29, where it would end past the file and nothing is.
+pub fn put_record(
+    file: &mut [u8],
+    at: usize,
+    kind: u32,
+    a: u32,
+    b: u32,
+    c: u32,
+    d: u32,
+    e: u32,
+    f: u32,
+) -> u32
+    ensures { λ r. ⌜ r ≡ recordAnswer at (now (file .entry)) ⌝ }
+    ensures { λ _. ⌜ now (file .exit) ≡ recordWritten (kind ∷ a ∷ b ∷ c ∷ d ∷ e ∷ f ∷ []) at (now (file .entry)) ⌝ }
+{
+    if file.len() < at {
+        return 29;
+    }
+    if file.len() - at < 32 {
+        return 29;
+    }
+    write_record(file, at, kind, a, b, c, d, e, f);
+    0
 }

@@ -1,9 +1,10 @@
--- What follows from the public contracts themselves: one outcome alone fits each; of the call, what it depends on, what the map shows, that a second call
--- leaves what it alone would, that flat boxes give 0, 0, that every position lies in its cell, the number of crossings, and the cutting law of what is
--- written, faces and vertices.
+-- What follows from the public contracts themselves: one outcome alone fits each; of the call, that the answer alone tells its answer and what to lend,
+-- what it depends on, what the map shows, that a second call leaves what it alone would, that flat boxes give 0, 0, that every position lies in its cell,
+-- the number of crossings, and the cutting law of what is written, faces and vertices.
 pub mod OneOutcome
 pub mod Once
 pub mod Runs
+pub mod Asked
 pub mod Done
 pub mod Local
 pub mod Again

@@ -82,6 +82,8 @@ use Rattle.surface_nets.proofs.surface_nets.Kinds as surface-nets-kinds
 use Rattle.surface_nets.proofs.surface_nets.Reads as surface-nets
 use Rattle.bed.proofs.bed_surface_nets.Kinds as bed-surface-nets-kinds
 use Rattle.bed.proofs.bed_surface_nets.Reads as bed-surface-nets
+use Rattle.bed.proofs.asking.bed_answer.Kinds as bed-answer-kinds
+use Rattle.bed.proofs.asking.bed_answer.Reads as bed-answer
 
 same-own : {u v : EachAxis} → u .x ≡ v .x → u .y ≡ v .y → u .z ≡ v .z → u ≡ v
 same-own p q r = λ i. record { x = p i; y = q i; z = r i }
@@ -292,4 +294,14 @@ bed-surface-nets-once κs a o o' l l' =
           ),
         ),
       );
+    }
+
+-- the answer alone: the number, and V and I behind the last two
+pub bed-answer-once : OneOutcome 3 bed-answer-kinds.ps bed-answer-kinds.r bed-answer.Learnt
+bed-answer-once κs a o o' l l' =
+    let s = l ∙ sym l' in
+    λ i.
+    record {
+      result = s i .number;
+      last = (tt, (tt, (tt, (tt, (tt, (tt, (tt, (tt, (tt, (tt, (tt, (tt, (tt, (tt, (tt, (tt, (tt, (tt, (tt, (tt, (s i .vertices, (s i .indices, tt))))))))))))))))))))));
     }

@@ -12,18 +12,18 @@ use Rattle.rules.specs.Cell.{Vector}
 use Rattle.layer_estimates.specs.Estimates.{eightAt, vectorAt}
 
 -- places of the lane j, one in each column from k on, within a list of this size
-abbrev pub Lane : ℕ → ℕ → ℕ → List ℕ → Type 0
+abbrev Lane : ℕ → ℕ → ℕ → List ℕ → Type 0
 Lane size j k [] = Unit {0}
 Lane size j k (p ∷ ps) = (p ≡ 32 * k + j) × (p < size) × Lane size j (k + 1) ps
 
 module _ {A : Type 0} where
   -- values stored at places, and what stands there
-  abbrev pub stores : List A → List ℕ → List A → List A
+  abbrev stores : List A → List ℕ → List A → List A
   stores l [] vs = l
   stores l (p ∷ ps) [] = l
   stores l (p ∷ ps) (v ∷ vs) = stores (set l p v) ps vs
 
-  abbrev pub entries : A → List A → List ℕ → List A
+  abbrev entries : A → List A → List ℕ → List A
   entries d l ps = map (λ (p : ℕ). getD l p d) ps
 
   -- a place before the column k
@@ -67,10 +67,10 @@ module _ {A : Type 0} (d : A) (places : ℕ → List ℕ) (size : ℕ) (lane : (
 
 -- ---- eight, three and one in a lane
 
-abbrev pub eightPlaces : ℕ → List ℕ
+abbrev eightPlaces : ℕ → List ℕ
 eightPlaces j = j ∷ (32 + j) ∷ (64 + j) ∷ (96 + j) ∷ (128 + j) ∷ (160 + j) ∷ (192 + j) ∷ (224 + j) ∷ []
 
-abbrev pub threePlaces : ℕ → List ℕ
+abbrev threePlaces : ℕ → List ℕ
 threePlaces j = j ∷ (32 + j) ∷ (64 + j) ∷ []
 
 abbrev flat : Vector → List Float

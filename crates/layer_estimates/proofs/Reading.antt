@@ -99,7 +99,7 @@ module _ {lower upper : List Float} {k : Block} {z : ℕ} (i : InLayers lower up
       let h = i .here in
       corners-between i c (is-cell (boxOf k) c (omega arith)) (omega arith) refl refl refl refl
 
-  pub vertices-read : {cells : List ℕ} → cells ≡ flatPoints (layerVertices (twoLayers lower upper k z) (boxOf k) z)
+  vertices-read : {cells : List ℕ} → cells ≡ flatPoints (layerVertices (twoLayers lower upper k z) (boxOf k) z)
       → (m : ℕ) → m < length (layerVertices (twoLayers lower upper k z) (boxOf k) z) → Reads lower upper (k .dims .x) (pointIn cells m)
   vertices-read e m h =
       subst (Reads lower upper (k .dims .x)) (sym (ap (λ (l : List ℕ). pointIn l m) e ∙ point-at vs m h)) (cell-reads (getD vs m origin) (all-at in-slab m h origin))

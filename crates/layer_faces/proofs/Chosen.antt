@@ -1,6 +1,6 @@
 -- What the code chooses without a branch: the order of a quad's numbers, the cells round an edge by its axis, and how many vertices a batch has.
 -- Assumes nothing.
-use Prim.Native.Nat.{ℕ, zero, suc, _≤_, _<_}
+use Prim.Native.Nat.{ℕ, zero, suc, _<_}
 use native.Mathlib.Omega.{arith}
 use mathlib.Core.Bool.{Bool, true, false, not, cond}
 use mathlib.Core.List.{List, [], _∷_}
@@ -14,7 +14,7 @@ use Rattle.rules.specs.Cell.{negative, squaredDistance}
 use Rattle.rules.specs.Faces.{six}
 use Rattle.layer_faces.specs.declared.Firsts.{Firsts}
 use Rattle.layer_faces.specs.declared.Way.{Way}
-use Rattle.layer_faces.specs.Quads.{Seen, quadOf, axisOf, way2, way3, way4, placeAt, own, looked, quadAt, Reaches}
+use Rattle.layer_faces.specs.Quads.{Seen, quadOf, axisOf, way2, way3, way4, placeAt, own, looked, quadAt, Reaches, Lesser}
 
 pub chosen-first : {A : Type 0} {first : Bool} (x y : A) → first ≡ true → cond first x y ≡ x
 chosen-first x y e = rw e
@@ -103,14 +103,9 @@ module _ (first : Firsts) (map : List ℕ) (positions : List Float) (under : Lis
 
 -- ---- the vertices of a batch
 
-pub record Lesser (a b n : ℕ) : Type 0 where
-  pub first : n ≤ a
-  pub second : n ≤ b
-  pub some : 0 < a → 0 < b → 0 < n
-
 pub lesser : (a b : ℕ) {n : ℕ} → n ≡ cond (ltb a b) a b → Lesser a b n
 lesser a b {n} e = go (ltb a b) refl e
   where
     go : (t : Bool) → ltb a b ≡ t → n ≡ cond t a b → Lesser a b n
-    go true f e = let h = ltb-true a b f in record { first = omega arith; second = omega arith; some = λ k l. omega arith }
-    go false f e = let h = ltb-false a b f in record { first = omega arith; second = omega arith; some = λ k l. omega arith }
+    go true f k = let h = ltb-true a b f in record { is = e; first = omega arith; second = omega arith; some = λ i j. omega arith }
+    go false f k = let h = ltb-false a b f in record { is = e; first = omega arith; second = omega arith; some = λ i j. omega arith }

@@ -4,7 +4,8 @@
 use Prim.Native.Nat.{ℕ, zero, suc, _+_, _-_, _*_, _/_, _%_, _≤_, _<_}
 use mathlib.Core.Bool.{Bool, true, false, cond}
 use mathlib.Core.List.{List}
-use lib.Dec.{T}
+use mathlib.Core.Path.{_≡_}
+use lib.Dec.{T, ltb}
 use lib.Ieee.{Float, nan, lt}
 use lib.ListN.{length, getD, take, drop}
 use Rattle.lists.specs.Lists.{run, keep, joined}
@@ -125,6 +126,13 @@ pub record Ready (lower : List Float) (row first : ℕ) (cs map : List ℕ) (pos
 -- the edges that give a face, of n vertices from `from` on
 abbrev pub someEdges : Field → Box → Flags → ℕ → ℕ → ℕ → List Edge
 someEdges g b m z from n = joined (cellEdges g b m) (take n (drop from (layerVertices g b z)))
+
+-- n is the lesser of two numbers
+pub record Lesser (a b n : ℕ) : Type 0 where
+  pub is : n ≡ cond (ltb a b) a b
+  pub first : n ≤ a
+  pub second : n ≤ b
+  pub some : 0 < a → 0 < b → 0 < n
 
 -- the layer has these vertices, they are few, and there is room for their faces
 pub record Batch (g : Field) (b : Box) (m : Flags) (z from n indices at : ℕ) : Type 0 where

@@ -12,7 +12,7 @@
 ghost use mathlib.Core.Path.{_≡_};
 ghost use mathlib.Core.Bool.{cond};
 ghost use Prim.Native.Nat.{_+_, _*_, _/_, _%_, _≤_, _<_};
-ghost use lib.Dec.{T, ltb};
+ghost use lib.Dec.{T};
 ghost use lib.Ieee.{nan};
 ghost use lib.ListN.{length, getD, take, set};
 ghost use lib.Seq.{sets};
@@ -23,7 +23,7 @@ ghost use Rattle.cube.specs.AsRules.{vector};
 ghost use Rattle.grid.specs.Block.{point, boxOf, flagsOf};
 ghost use Rattle.grid.specs.Layers.{inLayer, twoLayers, InLayers};
 ghost use Rattle.layer_faces.specs.Below.{nowhere, positionAt, faceOver, indicesOver, Standing};
-ghost use Rattle.layer_faces.specs.Quads.{seen, quadOf, Reaches, looked, Cells, listed, placeAt, own, axisOf, way2, way3, way4, Ready, quadBy, someEdges, Batch};
+ghost use Rattle.layer_faces.specs.Quads.{seen, quadOf, Reaches, looked, Cells, listed, placeAt, own, axisOf, way2, way3, way4, Ready, quadBy, someEdges, Lesser, Batch};
 use cube::Point;
 use grid::Block;
 use grid::EachAxis;
@@ -409,7 +409,7 @@ fn face_some(
 }
 
 fn lesser(a: usize, b: usize) -> usize
-    ensures { λ r. ⌜ r ≡ cond (ltb a b) a b ⌝ }
+    ensures { λ r. ⌜ Lesser a b r ⌝ }
 {
     if a < b {
         return a;

@@ -1,5 +1,5 @@
 -- The invariant: the indices are the faces of the vertices before `done`, batch after batch; after the last, those of the layer. Assumes nothing.
-use Prim.Native.Nat.{_-_, _/_, _≤_}
+use Prim.Native.Nat.{ℕ, _+_, _-_, _/_, _≤_, _<_}
 use mathlib.Core.Path.{_≡_}
 use native.Mathlib.Omega.{arith}
 use lib.ListN.{length}
@@ -9,7 +9,6 @@ use Rattle.grid.specs.Block.{boxOf, flagsOf}
 use Rattle.grid.specs.Layers.{twoLayers}
 use Rattle.layer_faces.specs.Below.{Kept}
 use Rattle.layer_faces.proofs.Lookups.{keptOf}
-use Rattle.layer_faces.proofs.Chosen.{Lesser, lesser}
 use Rattle.layer_faces.proofs.Vertices.{count-is, Faced, faced-none, faced-more, faced-room, faced-length, faced-all}
 use borrow.Author.Needs.{needs}
 use Rattle.layer_faces.proofs.face_layer.Statement.{statement}
@@ -44,8 +43,16 @@ kept-of s = let a = s .args in keptOf (a .first) (a .map-below .now) (a .positio
 count : (s : tie.Start Inv-loop μ-loop) → length (s .args .cells .now) / 3 ≡ length (layerVertices (grid-of s) (boxOf (s .args .k)) (s .args .z))
 count s = let a = s .args in count-is (grid-of s) (boxOf (a .k)) (a .z) (a .cells .now) (s .pre .1 .0 .cells)
 
-size : (c : tie.After-lesser Inv-loop μ-loop) → Lesser 32 (length (entry-of (c .before .before) .args .cells .now) / 3 - c .before .before .loop .done) (c .lesser .result)
-size c = lesser 32 (length (entry-of (c .before .before) .args .cells .now) / 3 - c .before .before .loop .done) (c .lesser .ensures)
+record Size (done count n : ℕ) : Type 0 where
+  few : n ≤ 32
+  within : done + n ≤ count
+  some : 0 < n
+
+size : (c : tie.After-lesser Inv-loop μ-loop) → Size (c .before .before .loop .done) (length (entry-of (c .before .before) .args .cells .now) / 3) (c .lesser .result)
+size c =
+    let n = c .lesser .ensures in
+    let h = c .before .loop-test .taken in
+    record { few = omega (arith, n .first); within = omega (arith, n .second); some = n .some (omega arith) (omega arith) }
 
 -- ---- the needs
 
@@ -67,7 +74,6 @@ face-some-requires c κs =
     let t = l .before in
     let s = entry-of (t .before) in
     let a = s .args in
-    let h = t .loop-test .taken in
     let n = size l in (
       s .pre .0,
       (
@@ -75,7 +81,7 @@ face-some-requires c κs =
         (
           s .pre .1 .1 .0,
           faced-room (grid-of s) (boxOf (a .k)) (flagsOf (a .k)) (a .first .here) (a .z) (kept-of s) (t .before .loop .inv .1) (l .lesser .result)
-              (omega (arith, count s, n .second)) (n .first) (s .pre .1 .1 .1),
+              (omega (arith, count s, n .within)) (n .few) (s .pre .1 .1 .1),
         ),
       ),
     )
@@ -83,14 +89,12 @@ face-some-requires c κs =
 add-done : tie.Need-add-done Inv-loop μ-loop
 add-done c =
     let l = size-of c in
-    let h = l .before .loop-test .taken in
-    omega (arith, size l .second, entry-of (l .before .before) .good .1 .1 .1 .1 .1 .0)
+    omega (arith, size l .within, entry-of (l .before .before) .good .1 .1 .1 .1 .1 .0)
 
 loop-less : tie.Need-loop-less Inv-loop μ-loop
 loop-less c =
     let l = size-of c in
-    let h = l .before .loop-test .taken in
-    omega (arith, size l .some (omega arith) (omega arith), size l .second)
+    omega (arith, size l .some, size l .within)
 
 loop-again : tie.Need-loop-again Inv-loop μ-loop
 loop-again c =
@@ -98,9 +102,8 @@ loop-again c =
     let l = size-of c in
     let t = l .before in
     let s = entry-of (t .before) in
-    let a = s .args in
-    let h = t .loop-test .taken in (
-      omega (arith, size l .second),
+    let a = s .args in (
+      omega (arith, size l .within),
       faced-more (grid-of s) (boxOf (a .k)) (flagsOf (a .k)) (a .first .here) (a .z) (kept-of s) (t .before .loop .inv .1) (l .lesser .result)
           (m .face-some .ensures .0) (m .face-some .ensures .1),
     )

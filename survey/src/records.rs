@@ -102,25 +102,4 @@ mod tests {
             assert!(joined == file, "{triangles} triangles");
         }
     }
-
-    #[test]
-    fn a_record_has_room_or_changes_nothing() {
-        for (length, at, fits) in [
-            (32, 0, true),
-            (40, 8, true),
-            (40, 9, false),
-            (31, 0, false),
-            (0, 0, false),
-            (64, 33, false),
-            (64, u64::MAX, false),
-            (64, u64::MAX - 31, false),
-        ] {
-            let mut file = vec![7; length];
-            let answer = write_record(&mut file, at, [3, 1, 2, 0, 0, 0, 0]);
-            assert_eq!(answer.is_ok(), fits, "{length} {at}");
-            if !fits {
-                assert_eq!((answer, file), (Err(FileRefusal::Room), vec![7; length]));
-            }
-        }
-    }
 }

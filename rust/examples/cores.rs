@@ -1,7 +1,8 @@
-//! Meshes a tank of 512 x 512 x 128 points by one call, and in the blocks of a plan on one and on two threads:
-//! `cargo run --release --example cores`. Times are by the clock, the median of seven rounds, with buffers that are warm.
+//! Meshes a tank of 512 x 512 x 128 points by one call, or, given a number of threads, in the blocks of a plan on so many:
+//! `cargo run --release --example cores -- 2`. The time is by the clock, the median of seven rounds, with buffers that are warm.
 
 use bed::{check_plan, surface_nets, Block, MaxPlane, SurfaceNetsBuffer};
+use std::env;
 use std::sync::atomic::{AtomicUsize, Ordering};
 use std::thread;
 use std::time::Instant;
@@ -20,17 +21,16 @@ fn main() {
     };
     let blocks = plan();
     assert_eq!(check_plan(&blocks, &whole), Ok(true), "a plan of the tank");
-    let one = timed(&sdf, &[whole], 1);
-    println!("| one call | 1 | {} | {:.1} | 1.00 |", one.1, one.0);
-    for threads in [1, 2] {
-        let cut = timed(&sdf, &blocks, threads);
-        let name = format!("{} blocks", blocks.len());
-        let ratio = cut.0 / one.0;
-        println!(
-            "| {name} | {threads} | {} | {:.1} | {ratio:.2} |",
-            cut.1, cut.0
-        );
-    }
+    let (blocks, threads, name) = match env::args().nth(1).as_deref() {
+        None => (vec![whole], 1, "one call".to_string()),
+        Some(threads) => {
+            let threads = threads.parse().expect("how many threads");
+            let name = format!("{} blocks", blocks.len());
+            (blocks, threads, name)
+        }
+    };
+    let (milliseconds, triangles) = timed(&sdf, &blocks, threads);
+    println!("{name}|{threads}|{triangles}|{milliseconds:.1}");
 }
 
 /// Milliseconds of a round, and its triangles.

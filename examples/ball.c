@@ -1,5 +1,5 @@
 /* ball.c: meshes a ball and prints its counts, its first triangle, how many vertices have each number of crossings and
- * the volume that its triangles enclose.
+ * the volume that its triangles enclose; then counts the same ball in 16-bit numbers.
  *
  * The usual way to call: V and I are asked for, then lists of that length are lent. The volume shows which way
  * triangles wind: turned the other way it would be below zero. */
@@ -21,6 +21,7 @@ struct mesh {
 };
 
 static float sdf[POINTS];
+static int16_t sent[POINTS];
 static uint32_t map[POINTS];
 
 static void fill_with_ball(float middle, float radius) {
@@ -113,6 +114,23 @@ static double volume(const struct mesh *m) {
     return sum / 6;
 }
 
+/* The ball as an old head sends it: in twentieths of a grid step, rounded down, so that signs are kept. What is below
+ * zero decides V and I, so that they are those of the floats. */
+static uint32_t count_in_16_bits(uint64_t *vertices, uint64_t *indices) {
+    for (int i = 0; i < POINTS; i++)
+        sent[i] = (int16_t)floorf(20 * sdf[i]);
+    return bed_surface_nets_i16(
+        sent, POINTS,
+        SIDE, SIDE, SIDE,
+        0, 0, 0,
+        SIDE - 1, SIDE - 1, SIDE - 1,
+        false, false, false,
+        NULL, 0, NULL, 0, NULL, 0, NULL, 0, NULL, 0,
+        map, POINTS,
+        NULL, 0,
+        vertices, indices);
+}
+
 static void free_mesh(struct mesh *m) {
     free(m->positions);
     free(m->normals);
@@ -147,6 +165,14 @@ int main(void) {
     printf("volume %.1f, the ball's own %.1f\n", enclosed, of_the_ball);
     if (enclosed < 0.95 * of_the_ball || enclosed > of_the_ball) {
         fputs("the triangles do not look outwards, or the mesh is not the ball's\n", stderr);
+        return 1;
+    }
+    uint64_t vertices, indices;
+    answer = count_in_16_bits(&vertices, &indices);
+    printf("in 16-bit numbers: vertices %llu, indices %llu\n", (unsigned long long)vertices,
+           (unsigned long long)indices);
+    if (answer != BED_VERTICES_SHORT || vertices != m.vertices || indices != m.indices_used) {
+        fputs("the 16-bit ball is another\n", stderr);
         return 1;
     }
     return 0;

@@ -1,9 +1,10 @@
 /* bed.h: the bed mesher for C and C++.
  *
- * The library makes a triangle mesh of the surface where a grid of signed distances changes sign (naive
- * surface nets), writes and reads meshes as files, and gives a mesh's volume. It allocates nothing, keeps no state between calls
- * and calls nothing of yours: all it reads and writes is lent by the caller for the length of the call. It
- * may be called from several threads at once on memory of their own.
+ * The library makes a triangle mesh of the surface where a grid of signed distances, floats or whole
+ * numbers of 16 or 8 bits, changes sign (naive surface nets), writes and reads meshes as files, and gives a
+ * mesh's volume. It allocates nothing, keeps no state between calls and calls nothing of yours: all it reads
+ * and writes is lent by the caller for the length of the call. It may be called from several threads at once
+ * on memory of their own.
  *
  * Link libbed.a. Numbers are IEEE 754 binary32; every operation rounds once, so that the same call gives
  * the same bits on every machine.
@@ -91,7 +92,8 @@ enum bed_answer {
     BED_BAD_GRID_LENGTH = 3,
     /* The cell map is shorter than the grid. */
     BED_MAP_SHORT = 4,
-    /* A point of the box, both corners included, is not finite or is above 2^124 in magnitude. */
+    /* A point of the box, both corners included, is not finite or is above 2^124 in magnitude. Of floats
+     * alone: a whole number of 16 or 8 bits is neither. */
     BED_BAD_DISTANCE = 5,
     /* positions, normals or cells are shorter than 3 V, or strides or crossings are shorter than V. */
     BED_VERTICES_SHORT = 6,
@@ -212,6 +214,68 @@ uint32_t bed_answer(
     uint64_t stride_to_index_len, uint64_t indices_len,
     uint64_t *vertex_count, uint64_t *index_count);
 
+/* Meshes a box of a grid of signed 16-bit distances, as old heads deliver them.
+ *
+ * Each number means the float of the same value: below zero is inside, 0 is not. The answer, the counts and
+ * every buffer afterwards are those of bed_surface_nets on the grid of those floats, bit for bit, and what is
+ * said there of dimensions, box, max planes and lent memory holds here. BED_BAD_DISTANCE is never answered:
+ * each such number is finite and far below 2^124. The grid is read as it stands and no converted copy of it
+ * is made. sdf_len counts numbers, not bytes.
+ */
+uint32_t bed_surface_nets_i16(
+    const int16_t *sdf, size_t sdf_len,
+    uint32_t dim_x, uint32_t dim_y, uint32_t dim_z,
+    uint32_t min_x, uint32_t min_y, uint32_t min_z,
+    uint32_t max_x, uint32_t max_y, uint32_t max_z,
+    bool max_plane_x, bool max_plane_y, bool max_plane_z,
+    float *positions, size_t positions_len,
+    float *normals, size_t normals_len,
+    uint32_t *cells, size_t cells_len,
+    uint32_t *strides, size_t strides_len,
+    uint8_t *crossings, size_t crossings_len,
+    uint32_t *stride_to_index, size_t stride_to_index_len,
+    uint32_t *indices, size_t indices_len,
+    uint64_t *vertex_count, uint64_t *index_count);
+
+/* The same of signed 8-bit distances, as the portable head delivers them. */
+uint32_t bed_surface_nets_i8(
+    const int8_t *sdf, size_t sdf_len,
+    uint32_t dim_x, uint32_t dim_y, uint32_t dim_z,
+    uint32_t min_x, uint32_t min_y, uint32_t min_z,
+    uint32_t max_x, uint32_t max_y, uint32_t max_z,
+    bool max_plane_x, bool max_plane_y, bool max_plane_z,
+    float *positions, size_t positions_len,
+    float *normals, size_t normals_len,
+    uint32_t *cells, size_t cells_len,
+    uint32_t *strides, size_t strides_len,
+    uint8_t *crossings, size_t crossings_len,
+    uint32_t *stride_to_index, size_t stride_to_index_len,
+    uint32_t *indices, size_t indices_len,
+    uint64_t *vertex_count, uint64_t *index_count);
+
+/* bed_answer for signed 16-bit and for signed 8-bit distances. */
+uint32_t bed_answer_i16(
+    const int16_t *sdf, size_t sdf_len,
+    uint32_t dim_x, uint32_t dim_y, uint32_t dim_z,
+    uint32_t min_x, uint32_t min_y, uint32_t min_z,
+    uint32_t max_x, uint32_t max_y, uint32_t max_z,
+    bool max_plane_x, bool max_plane_y, bool max_plane_z,
+    uint64_t positions_len, uint64_t normals_len, uint64_t cells_len,
+    uint64_t strides_len, uint64_t crossings_len,
+    uint64_t stride_to_index_len, uint64_t indices_len,
+    uint64_t *vertex_count, uint64_t *index_count);
+
+uint32_t bed_answer_i8(
+    const int8_t *sdf, size_t sdf_len,
+    uint32_t dim_x, uint32_t dim_y, uint32_t dim_z,
+    uint32_t min_x, uint32_t min_y, uint32_t min_z,
+    uint32_t max_x, uint32_t max_y, uint32_t max_z,
+    bool max_plane_x, bool max_plane_y, bool max_plane_z,
+    uint64_t positions_len, uint64_t normals_len, uint64_t cells_len,
+    uint64_t strides_len, uint64_t crossings_len,
+    uint64_t stride_to_index_len, uint64_t indices_len,
+    uint64_t *vertex_count, uint64_t *index_count);
+
 /* Tests whether the mesh of a box has no hole: whether every point of the box with a distance below zero
  * lies from min + 1 to max - 2 on each axis. It reads the distances of the box and writes one yes or no.
  *
@@ -240,6 +304,23 @@ uint32_t bed_answer(
  */
 uint32_t bed_is_enclosed(
     const float *sdf, size_t sdf_len,
+    uint32_t dim_x, uint32_t dim_y, uint32_t dim_z,
+    uint32_t min_x, uint32_t min_y, uint32_t min_z,
+    uint32_t max_x, uint32_t max_y, uint32_t max_z,
+    bool *enclosed);
+
+/* bed_is_enclosed of signed 16-bit and of signed 8-bit distances: the answer and the yes or no are those of
+ * bed_is_enclosed on the grid of the floats of the same values, and a yes speaks of the mesh that
+ * bed_surface_nets_i16 or bed_surface_nets_i8 makes. */
+uint32_t bed_is_enclosed_i16(
+    const int16_t *sdf, size_t sdf_len,
+    uint32_t dim_x, uint32_t dim_y, uint32_t dim_z,
+    uint32_t min_x, uint32_t min_y, uint32_t min_z,
+    uint32_t max_x, uint32_t max_y, uint32_t max_z,
+    bool *enclosed);
+
+uint32_t bed_is_enclosed_i8(
+    const int8_t *sdf, size_t sdf_len,
     uint32_t dim_x, uint32_t dim_y, uint32_t dim_z,
     uint32_t min_x, uint32_t min_y, uint32_t min_z,
     uint32_t max_x, uint32_t max_y, uint32_t max_z,

@@ -4,9 +4,9 @@
     mesh = bed.surface_nets(distances)            # a NumPy array of float32, shape z, y, x
     bed.is_enclosed(distances), bed.volume(mesh.positions, mesh.indices)
 
-Distances are anything with a buffer of float32, int16 or int8 in C order; one without three dimensions wants
-dims=(x, y, z). Lists come back as NumPy arrays where NumPy is there, and else as memoryviews. A refused call raises
-Refused, with the answer's number.
+Distances are anything with a buffer of float32, int16 or int8 in C order, whole numbers meaning the floats of the same
+values; none is converted. One without three dimensions wants dims=(x, y, z). Lists come back as NumPy arrays where NumPy
+is there, and else as memoryviews. A refused call raises Refused, with the answer's number.
 
 The library is found by BED_SHARED, the path of libbed.so, and else by the system's own search. Every call is made in
 the default floating-point environment, and the caller's is set again after it."""
@@ -84,6 +84,8 @@ class Block(ctypes.Structure):
 
 _FLOAT, _NUMBER, _BYTE = ctypes.c_float, ctypes.c_uint32, ctypes.c_uint8
 _CODES = {_FLOAT: "f", _NUMBER: "I", _BYTE: "B"}
+# the kinds of distances, by a buffer's code, and how the functions over them are called
+_DISTANCES = {"f": (_FLOAT, ""), "h": (ctypes.c_int16, "_i16"), "b": (ctypes.c_int8, "_i8")}
 _library = ctypes.CDLL(os.environ.get("BED_SHARED") or ctypes.util.find_library("bed") or "libbed.so.0")
 _mathematics = ctypes.CDLL(ctypes.util.find_library("m") or "libm.so.6")
 _DEFAULT_ENVIRONMENT = ctypes.c_void_p(-1)  # FE_DFL_ENV of the C libraries of Linux
@@ -140,30 +142,36 @@ def _view(buffer):
     return view, view.format.lstrip("@=" + little)
 
 
-def _read(kind, buffer, others=""):
-    """a buffer for reading, as it stands where it can be; whole numbers of the other kinds become floats"""
+def _read(kind, buffer):
+    """a buffer for reading, as it stands where it can be"""
     view, code = _view(buffer)
-    count = view.nbytes // view.itemsize
     same = {_FLOAT: "f", _NUMBER: "IL", _BYTE: "Bbc"}[kind]
     if code in same and view.itemsize == ctypes.sizeof(kind):
-        if count == 0:
-            return (kind * 0)()
-        source = kind * count
-        return source.from_buffer_copy(buffer) if view.readonly else source.from_buffer(buffer)
-    if code in others:
-        return (kind * count)(*memoryview(view.tobytes()).cast(code))
+        return _taken(kind, buffer, view)
     raise TypeError(f"a buffer of {code!r} is given where {_CODES[kind]!r} is wanted")
 
 
+def _taken(kind, buffer, view):
+    count = view.nbytes // view.itemsize
+    if count == 0:
+        return (kind * 0)()
+    source = kind * count
+    return source.from_buffer_copy(buffer) if view.readonly else source.from_buffer(buffer)
+
+
 def _grid(distances, dims):
-    shape = memoryview(distances).shape
+    """the distances, the dimensions and what the names of the functions over such distances end with"""
+    view, code = _view(distances)
+    if code not in _DISTANCES:
+        raise TypeError(f"a buffer of {code!r} is given where float32, int16 or int8 is wanted")
+    kind, ending = _DISTANCES[code]
     if dims is None:
-        if len(shape) != 3:
+        if len(view.shape) != 3:
             raise TypeError("the distances have not three dimensions: give dims=(x, y, z)")
-        dims = shape[::-1]
+        dims = view.shape[::-1]
     if any(not 0 <= size < 2 ** 32 for size in dims):
         raise Refused(1)
-    return _read(_FLOAT, distances, others="hb"), tuple(dims)
+    return _taken(kind, distances, view), tuple(dims), ending
 
 
 def _numbers(*lists):
@@ -179,16 +187,16 @@ def _box(dims, low, high):
 
 
 def _asked(distances, dims, low, high, max_plane):
-    """the grid, and with it the box and the max plane as the library takes them"""
-    grid, dims = _grid(distances, dims)
-    return grid, [*_lent(grid), *_numbers(dims, *_box(dims, low, high)), *_flags(max_plane)]
+    """the grid, what the names of its functions end with, and the grid with the box and the max plane as the library takes them"""
+    grid, dims, ending = _grid(distances, dims)
+    return grid, ending, [*_lent(grid), *_numbers(dims, *_box(dims, low, high)), *_flags(max_plane)]
 
 
-def _counted(grid, asked):
+def _counted(grid, ending, asked):
     """V and I, asked with nothing lent but a map as long as the grid"""
     vertices, indices = ctypes.c_uint64(), ctypes.c_uint64()
     lengths = [ctypes.c_uint64(length) for length in (0, 0, 0, 0, 0, len(grid), 0)]
-    answer = _call("bed_answer", *asked, *lengths, ctypes.byref(vertices), ctypes.byref(indices))
+    answer = _call("bed_answer" + ending, *asked, *lengths, ctypes.byref(vertices), ctypes.byref(indices))
     _done(answer if answer not in (6, 7) else 0)
     return vertices.value, indices.value
 
@@ -202,14 +210,14 @@ def counts(distances, dims=None, min=(0, 0, 0), max=None, max_plane=(False, Fals
 
 def surface_nets(distances, dims=None, min=(0, 0, 0), max=None, max_plane=(False, False, False)):
     """Meshes a box of a grid, the whole one where no box is given."""
-    grid, asked = _asked(distances, dims, min, max, max_plane)
-    vertices, indices = _counted(grid, asked)
+    grid, ending, asked = _asked(distances, dims, min, max, max_plane)
+    vertices, indices = _counted(grid, ending, asked)
     stride_to_index = _room(_NUMBER, len(grid))
     ctypes.memset(stride_to_index, 255, ctypes.sizeof(stride_to_index))
     rooms = [_room(_FLOAT, 3 * vertices), _room(_FLOAT, 3 * vertices), _room(_NUMBER, 3 * vertices),
              _room(_NUMBER, vertices), _room(_BYTE, vertices), stride_to_index, _room(_NUMBER, indices)]
     lists = [part for room in rooms for part in _lent(room)]
-    _done(_call("bed_surface_nets", *asked, *lists, ctypes.byref(ctypes.c_uint64()), ctypes.byref(ctypes.c_uint64())))
+    _done(_call("bed_surface_nets" + ending, *asked, *lists, ctypes.byref(ctypes.c_uint64()), ctypes.byref(ctypes.c_uint64())))
     positions, normals, cells, strides, crossings, stride_to_index, indices = rooms
     return Mesh(_given(positions, 3), _given(normals, 3), _given(indices), _given(cells, 3), _given(strides),
                 _given(crossings), _given(stride_to_index))
@@ -217,9 +225,9 @@ def surface_nets(distances, dims=None, min=(0, 0, 0), max=None, max_plane=(False
 
 def is_enclosed(distances, dims=None, min=(0, 0, 0), max=None):
     """Whether every distance below zero lies from min + 1 to max - 2; then the mesh has no hole."""
-    grid, dims = _grid(distances, dims)
+    grid, dims, ending = _grid(distances, dims)
     enclosed = ctypes.c_bool()
-    _done(_call("bed_is_enclosed", *_lent(grid), *_numbers(dims, *_box(dims, min, max)), ctypes.byref(enclosed)))
+    _done(_call("bed_is_enclosed" + ending, *_lent(grid), *_numbers(dims, *_box(dims, min, max)), ctypes.byref(enclosed)))
     return enclosed.value
 
 
@@ -236,7 +244,7 @@ def cut_fixtures(file, distances, dims=None):
         raise TypeError("the distances are changed in their place: a buffer for writing is wanted")
     if _view(distances)[1] != "f":
         raise TypeError("the distances are changed in their place: float32 is wanted")
-    grid, dims = _grid(distances, dims)
+    grid, dims, _ = _grid(distances, dims)
     _done(_call("bed_cut_fixtures", *_lent(_read(_BYTE, file)), *_numbers(dims), *_lent(grid)))
 
 

@@ -1,8 +1,8 @@
 //! The answer alone: what a call would answer, and so how much to lend, with no list lent.
 
+use crate::distance::Distance;
 use crate::environment::DefaultEnvironment;
 use crate::lent::{Counts, MaxPlane};
-use crate::raw::bed_answer;
 use crate::refusal::Refusal;
 
 /// The lengths of the seven lists of [`Lent`](crate::Lent), in elements.
@@ -43,12 +43,92 @@ pub fn answer(
     max_plane: MaxPlane,
     lengths: LentLengths,
 ) -> Result<Counts, Refusal> {
+    answered(sdf, dims, min, max, max_plane, lengths)
+}
+
+/// [`answer`] over i16: what [`surface_nets_lent_i16`](crate::surface_nets_lent_i16) answers.
+pub fn answer_i16(
+    sdf: &[i16],
+    dims: [u32; 3],
+    min: [u32; 3],
+    max: [u32; 3],
+    max_plane: MaxPlane,
+    lengths: LentLengths,
+) -> Result<Counts, Refusal> {
+    answered(sdf, dims, min, max, max_plane, lengths)
+}
+
+/// [`answer`] over i8: what [`surface_nets_lent_i8`](crate::surface_nets_lent_i8) answers.
+pub fn answer_i8(
+    sdf: &[i8],
+    dims: [u32; 3],
+    min: [u32; 3],
+    max: [u32; 3],
+    max_plane: MaxPlane,
+    lengths: LentLengths,
+) -> Result<Counts, Refusal> {
+    answered(sdf, dims, min, max, max_plane, lengths)
+}
+
+/// V and I of the mesh of a box: with room for them and a map as long as the grid,
+/// [`surface_nets_lent`](crate::surface_nets_lent) is done and says them again. What is refused here it refuses
+/// too, however much is lent beside such a map.
+///
+/// ```
+/// use bed::{Counts, MaxPlane};
+///
+/// let mut sdf = [1.0; 27];
+/// sdf[13] = -1.0;
+/// let counts = bed::counts(&sdf, [3; 3], [0; 3], [2; 3], MaxPlane::NONE);
+/// assert_eq!(counts, Ok(Counts { vertices: 8, indices: 18 }));
+/// ```
+pub fn counts(
+    sdf: &[f32],
+    dims: [u32; 3],
+    min: [u32; 3],
+    max: [u32; 3],
+    max_plane: MaxPlane,
+) -> Result<Counts, Refusal> {
+    counted(sdf, dims, min, max, max_plane)
+}
+
+/// [`counts`] over i16.
+pub fn counts_i16(
+    sdf: &[i16],
+    dims: [u32; 3],
+    min: [u32; 3],
+    max: [u32; 3],
+    max_plane: MaxPlane,
+) -> Result<Counts, Refusal> {
+    counted(sdf, dims, min, max, max_plane)
+}
+
+/// [`counts`] over i8.
+pub fn counts_i8(
+    sdf: &[i8],
+    dims: [u32; 3],
+    min: [u32; 3],
+    max: [u32; 3],
+    max_plane: MaxPlane,
+) -> Result<Counts, Refusal> {
+    counted(sdf, dims, min, max, max_plane)
+}
+
+/// The answer over any kind of distance.
+fn answered<D: Distance>(
+    sdf: &[D],
+    dims: [u32; 3],
+    min: [u32; 3],
+    max: [u32; 3],
+    max_plane: MaxPlane,
+    lengths: LentLengths,
+) -> Result<Counts, Refusal> {
     let mut counts = Counts::default();
     let _environment = DefaultEnvironment::enter();
     // SAFETY: the pointer and the length come from a slice, which is aligned and never null; the counts are
     // apart from it and from each other.
     let answer = unsafe {
-        bed_answer(
+        D::ANSWER(
             sdf.as_ptr(),
             sdf.len(),
             dims[0],
@@ -77,28 +157,17 @@ pub fn answer(
     Refusal::of(answer, counts)
 }
 
-/// V and I of the mesh of a box: with room for them and a map as long as the grid,
-/// [`surface_nets_lent`](crate::surface_nets_lent) is done and says them again. What is refused here it refuses
-/// too, however much is lent beside such a map.
-///
-/// ```
-/// use bed::{Counts, MaxPlane};
-///
-/// let mut sdf = [1.0; 27];
-/// sdf[13] = -1.0;
-/// let counts = bed::counts(&sdf, [3; 3], [0; 3], [2; 3], MaxPlane::NONE);
-/// assert_eq!(counts, Ok(Counts { vertices: 8, indices: 18 }));
-/// ```
-pub fn counts(
-    sdf: &[f32],
+/// The counts over any kind of distance.
+fn counted<D: Distance>(
+    sdf: &[D],
     dims: [u32; 3],
     min: [u32; 3],
     max: [u32; 3],
     max_plane: MaxPlane,
 ) -> Result<Counts, Refusal> {
     let map_alone = LentLengths::exactly(Counts::default(), sdf.len() as u64);
-    match answer(sdf, dims, min, max, max_plane, map_alone) {
+    match answered(sdf, dims, min, max, max_plane, map_alone) {
         Err(Refusal::VerticesShort(counts) | Refusal::IndicesShort(counts)) => Ok(counts),
-        answered => answered,
+        other => other,
     }
 }

@@ -1,8 +1,8 @@
 //! Whether the mesh of a box has no hole, from the distances alone.
 
+use crate::distance::Distance;
 use crate::environment::DefaultEnvironment;
 use crate::lent::Counts;
-use crate::raw::bed_is_enclosed;
 use crate::refusal::Refusal;
 
 /// Whether every distance below zero in the box from `min` to `max`, both included, lies from min + 1 to
@@ -28,12 +28,42 @@ pub fn is_enclosed(
     min: [u32; 3],
     max: [u32; 3],
 ) -> Result<bool, Refusal> {
+    test(sdf, dims, min, max)
+}
+
+/// [`is_enclosed`] over signed 16-bit distances: of the mesh that [`surface_nets_i16`](crate::surface_nets_i16) makes.
+pub fn is_enclosed_i16(
+    sdf: &[i16],
+    dims: [u32; 3],
+    min: [u32; 3],
+    max: [u32; 3],
+) -> Result<bool, Refusal> {
+    test(sdf, dims, min, max)
+}
+
+/// [`is_enclosed`] over signed 8-bit distances: of the mesh that [`surface_nets_i8`](crate::surface_nets_i8) makes.
+pub fn is_enclosed_i8(
+    sdf: &[i8],
+    dims: [u32; 3],
+    min: [u32; 3],
+    max: [u32; 3],
+) -> Result<bool, Refusal> {
+    test(sdf, dims, min, max)
+}
+
+/// The test over any kind of distance.
+fn test<D: Distance>(
+    sdf: &[D],
+    dims: [u32; 3],
+    min: [u32; 3],
+    max: [u32; 3],
+) -> Result<bool, Refusal> {
     let mut enclosed = false;
     let _environment = DefaultEnvironment::enter();
     // SAFETY: the pointer and length come from a slice, which is aligned and never null, and `enclosed`
     // is a variable of its own.
     let answer = unsafe {
-        bed_is_enclosed(
+        D::IS_ENCLOSED(
             sdf.as_ptr(),
             sdf.len(),
             dims[0],

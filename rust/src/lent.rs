@@ -1,7 +1,7 @@
 //! The call over lent slices: nothing is allocated, and what is not written is kept.
 
+use crate::distance::Distance;
 use crate::environment::DefaultEnvironment;
-use crate::raw::bed_surface_nets;
 use crate::refusal::Refusal;
 
 /// The vertex count V and the index count I of a mesh.
@@ -71,12 +71,51 @@ pub fn surface_nets_lent(
     max_plane: MaxPlane,
     lent: &mut Lent,
 ) -> Result<Counts, Refusal> {
+    mesh(sdf, dims, min, max, max_plane, lent)
+}
+
+/// [`surface_nets_lent`] over signed 16-bit distances, each meaning the float of the same value.
+///
+/// What it answers and writes is what [`surface_nets_lent`] does on the grid of those floats, bit for bit, but no such
+/// grid is made. [`Refusal::Distance`] never comes.
+pub fn surface_nets_lent_i16(
+    sdf: &[i16],
+    dims: [u32; 3],
+    min: [u32; 3],
+    max: [u32; 3],
+    max_plane: MaxPlane,
+    lent: &mut Lent,
+) -> Result<Counts, Refusal> {
+    mesh(sdf, dims, min, max, max_plane, lent)
+}
+
+/// The same over signed 8-bit distances.
+pub fn surface_nets_lent_i8(
+    sdf: &[i8],
+    dims: [u32; 3],
+    min: [u32; 3],
+    max: [u32; 3],
+    max_plane: MaxPlane,
+    lent: &mut Lent,
+) -> Result<Counts, Refusal> {
+    mesh(sdf, dims, min, max, max_plane, lent)
+}
+
+/// The call over any kind of distance.
+pub(crate) fn mesh<D: Distance>(
+    sdf: &[D],
+    dims: [u32; 3],
+    min: [u32; 3],
+    max: [u32; 3],
+    max_plane: MaxPlane,
+    lent: &mut Lent,
+) -> Result<Counts, Refusal> {
     let mut counts = Counts::default();
     let _environment = DefaultEnvironment::enter();
     // SAFETY: every pointer and length come from a slice, which is aligned and never null; the lent
     // slices are borrowed mutably apart from each other and from the grid, so nothing overlaps.
     let answer = unsafe {
-        bed_surface_nets(
+        D::SURFACE_NETS(
             sdf.as_ptr(),
             sdf.len(),
             dims[0],

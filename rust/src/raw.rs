@@ -75,6 +75,144 @@ extern "C" {
         index_count: *mut u64,
     ) -> u32;
 
+    /// [`bed_surface_nets`] over signed 16-bit distances, each meaning the float of the same value. It never answers 5.
+    ///
+    /// # Safety
+    ///
+    /// As above.
+    pub fn bed_surface_nets_i16(
+        sdf: *const i16,
+        sdf_len: usize,
+        dim_x: u32,
+        dim_y: u32,
+        dim_z: u32,
+        min_x: u32,
+        min_y: u32,
+        min_z: u32,
+        max_x: u32,
+        max_y: u32,
+        max_z: u32,
+        max_plane_x: bool,
+        max_plane_y: bool,
+        max_plane_z: bool,
+        positions: *mut f32,
+        positions_len: usize,
+        normals: *mut f32,
+        normals_len: usize,
+        cells: *mut u32,
+        cells_len: usize,
+        strides: *mut u32,
+        strides_len: usize,
+        crossings: *mut u8,
+        crossings_len: usize,
+        stride_to_index: *mut u32,
+        stride_to_index_len: usize,
+        indices: *mut u32,
+        indices_len: usize,
+        vertex_count: *mut u64,
+        index_count: *mut u64,
+    ) -> u32;
+
+    /// [`bed_surface_nets`] over signed 8-bit distances, each meaning the float of the same value. It never answers 5.
+    ///
+    /// # Safety
+    ///
+    /// As above.
+    pub fn bed_surface_nets_i8(
+        sdf: *const i8,
+        sdf_len: usize,
+        dim_x: u32,
+        dim_y: u32,
+        dim_z: u32,
+        min_x: u32,
+        min_y: u32,
+        min_z: u32,
+        max_x: u32,
+        max_y: u32,
+        max_z: u32,
+        max_plane_x: bool,
+        max_plane_y: bool,
+        max_plane_z: bool,
+        positions: *mut f32,
+        positions_len: usize,
+        normals: *mut f32,
+        normals_len: usize,
+        cells: *mut u32,
+        cells_len: usize,
+        strides: *mut u32,
+        strides_len: usize,
+        crossings: *mut u8,
+        crossings_len: usize,
+        stride_to_index: *mut u32,
+        stride_to_index_len: usize,
+        indices: *mut u32,
+        indices_len: usize,
+        vertex_count: *mut u64,
+        index_count: *mut u64,
+    ) -> u32;
+
+    /// The answer number of [`bed_surface_nets_i16`] with lists of these lengths, 0 to 4, 6 or 7, and V and I.
+    ///
+    /// # Safety
+    ///
+    /// As above; the lengths are only compared.
+    pub fn bed_answer_i16(
+        sdf: *const i16,
+        sdf_len: usize,
+        dim_x: u32,
+        dim_y: u32,
+        dim_z: u32,
+        min_x: u32,
+        min_y: u32,
+        min_z: u32,
+        max_x: u32,
+        max_y: u32,
+        max_z: u32,
+        max_plane_x: bool,
+        max_plane_y: bool,
+        max_plane_z: bool,
+        positions_len: u64,
+        normals_len: u64,
+        cells_len: u64,
+        strides_len: u64,
+        crossings_len: u64,
+        stride_to_index_len: u64,
+        indices_len: u64,
+        vertex_count: *mut u64,
+        index_count: *mut u64,
+    ) -> u32;
+
+    /// The answer number of [`bed_surface_nets_i8`] with lists of these lengths, 0 to 4, 6 or 7, and V and I.
+    ///
+    /// # Safety
+    ///
+    /// As above; the lengths are only compared.
+    pub fn bed_answer_i8(
+        sdf: *const i8,
+        sdf_len: usize,
+        dim_x: u32,
+        dim_y: u32,
+        dim_z: u32,
+        min_x: u32,
+        min_y: u32,
+        min_z: u32,
+        max_x: u32,
+        max_y: u32,
+        max_z: u32,
+        max_plane_x: bool,
+        max_plane_y: bool,
+        max_plane_z: bool,
+        positions_len: u64,
+        normals_len: u64,
+        cells_len: u64,
+        strides_len: u64,
+        crossings_len: u64,
+        stride_to_index_len: u64,
+        indices_len: u64,
+        vertex_count: *mut u64,
+        index_count: *mut u64,
+    ) -> u32;
+
     /// Tests whether the box's points below zero all lie from min + 1 to max - 2, and returns the answer
     /// number, 0 to 3.
     ///
@@ -83,6 +221,46 @@ extern "C" {
     /// As above; `enclosed` points to a `bool` that holds a value and is written on every answer.
     pub fn bed_is_enclosed(
         sdf: *const f32,
+        sdf_len: usize,
+        dim_x: u32,
+        dim_y: u32,
+        dim_z: u32,
+        min_x: u32,
+        min_y: u32,
+        min_z: u32,
+        max_x: u32,
+        max_y: u32,
+        max_z: u32,
+        enclosed: *mut bool,
+    ) -> u32;
+
+    /// [`bed_is_enclosed`] over signed 16-bit distances.
+    ///
+    /// # Safety
+    ///
+    /// As for [`bed_is_enclosed`].
+    pub fn bed_is_enclosed_i16(
+        sdf: *const i16,
+        sdf_len: usize,
+        dim_x: u32,
+        dim_y: u32,
+        dim_z: u32,
+        min_x: u32,
+        min_y: u32,
+        min_z: u32,
+        max_x: u32,
+        max_y: u32,
+        max_z: u32,
+        enclosed: *mut bool,
+    ) -> u32;
+
+    /// [`bed_is_enclosed`] over signed 8-bit distances.
+    ///
+    /// # Safety
+    ///
+    /// As for [`bed_is_enclosed`].
+    pub fn bed_is_enclosed_i8(
+        sdf: *const i8,
         sdf_len: usize,
         dim_x: u32,
         dim_y: u32,
@@ -267,3 +445,80 @@ extern "C" {
         index_count: *mut u64,
     ) -> u32;
 }
+
+/// The type of [`bed_surface_nets`], and of the same function over other distances.
+pub type SurfaceNets<D> = unsafe extern "C" fn(
+    *const D,
+    usize,
+    u32,
+    u32,
+    u32,
+    u32,
+    u32,
+    u32,
+    u32,
+    u32,
+    u32,
+    bool,
+    bool,
+    bool,
+    *mut f32,
+    usize,
+    *mut f32,
+    usize,
+    *mut u32,
+    usize,
+    *mut u32,
+    usize,
+    *mut u8,
+    usize,
+    *mut u32,
+    usize,
+    *mut u32,
+    usize,
+    *mut u64,
+    *mut u64,
+) -> u32;
+
+/// The type of [`bed_answer`], and of the same function over other distances.
+pub type Answer<D> = unsafe extern "C" fn(
+    *const D,
+    usize,
+    u32,
+    u32,
+    u32,
+    u32,
+    u32,
+    u32,
+    u32,
+    u32,
+    u32,
+    bool,
+    bool,
+    bool,
+    u64,
+    u64,
+    u64,
+    u64,
+    u64,
+    u64,
+    u64,
+    *mut u64,
+    *mut u64,
+) -> u32;
+
+/// The type of [`bed_is_enclosed`], and of the same function over other distances.
+pub type IsEnclosed<D> = unsafe extern "C" fn(
+    *const D,
+    usize,
+    u32,
+    u32,
+    u32,
+    u32,
+    u32,
+    u32,
+    u32,
+    u32,
+    u32,
+    *mut bool,
+) -> u32;

@@ -14,7 +14,7 @@ pub enum Refusal {
     GridLength,
     /// 4: the cell map is shorter than the grid.
     MapShort,
-    /// 5: a distance in the box is not finite or above 2^124 in magnitude.
+    /// 5: a distance in the box is not finite or above 2^124 in magnitude. Never of whole numbers.
     Distance,
     /// 6: positions, normals, cells, strides or crossings have no room for the vertices; the counts needed.
     VerticesShort(Counts),

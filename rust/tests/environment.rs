@@ -2,7 +2,10 @@
 //! library's own function gives other bits there, or the test could not see a guard that does nothing.
 #![cfg(any(target_arch = "x86_64", target_arch = "aarch64"))]
 
-use bed::{counts, is_enclosed, raw, surface_nets_lent, Counts, Lent, MaxPlane, Refusal};
+use bed::{
+    counts, is_enclosed, raw, surface_nets_lent, surface_nets_lent_i16, surface_nets_lent_i8,
+    Counts, Lent, MaxPlane, Refusal,
+};
 
 const SIDE: u32 = 6;
 const POINTS: usize = (SIDE as usize).pow(3);
@@ -17,6 +20,8 @@ mod control {
     pub const SUBNORMALS_ARE_ZERO: Word = 0x1FC0;
     /// Flush to zero, denormals are zero, both; rounding down, up, toward zero; all of it.
     pub const OTHERS: [Word; 7] = [0x9F80, 0x1FC0, 0x9FC0, 0x3F80, 0x5F80, 0x7F80, 0xFFC0];
+    /// The bits that say how to round.
+    pub const ROUNDING: Word = 0x6000;
     /// Every trap on: without the guard the call would be killed.
     pub const TRAPS: [Word; 1] = [0];
 
@@ -42,6 +47,8 @@ mod control {
     pub const SUBNORMALS_ARE_ZERO: Word = 1 << 24;
     /// Flush to zero; rounding up, down, toward zero; all of it.
     pub const OTHERS: [Word; 5] = [1 << 24, 1 << 22, 2 << 22, 3 << 22, 7 << 22];
+    /// The bits that say how to round.
+    pub const ROUNDING: Word = 3 << 22;
     /// Not every processor has traps.
     pub const TRAPS: [Word; 0] = [];
 
@@ -67,8 +74,11 @@ struct Outcome {
     words: [Vec<u32>; 4],
 }
 
-/// A call of the crate, or of the library's own function, in an environment.
-fn call_in(environment: control::Word, guarded: bool, grid: &[f32]) -> Outcome {
+/// A call in an environment, and the environment after it.
+fn call_in(
+    environment: control::Word,
+    mesh: impl FnOnce(&mut Lent) -> Result<Counts, Refusal>,
+) -> (Outcome, control::Word) {
     let (mut positions, mut normals) = (vec![0.0; 3 * CELLS], vec![0.0; 3 * CELLS]);
     let mut words = [3 * CELLS, CELLS, POINTS, 18 * CELLS].map(|length| vec![0; length]);
     let [cells, strides, stride_to_index, indices] = &mut words;
@@ -82,35 +92,43 @@ fn call_in(environment: control::Word, guarded: bool, grid: &[f32]) -> Outcome {
         stride_to_index,
         indices,
     };
-    let mesh = if guarded {
-        |grid: &[f32], lent: &mut Lent| {
-            let max = [SIDE - 1; 3];
-            surface_nets_lent(grid, [SIDE; 3], [0; 3], max, MaxPlane::ALL, lent)
-        }
-    } else {
-        unguarded
-    };
     control::write(environment);
-    let answer = mesh(grid, &mut lent);
+    let answer = mesh(&mut lent);
     let after = control::read();
     control::write(control::DEFAULT);
-    if guarded {
-        assert_eq!(after, environment, "the environment is as it was");
-    }
     let bits = |floats: &[f32]| floats.iter().map(|float| float.to_bits()).collect();
-    Outcome {
+    let outcome = Outcome {
         answer,
         positions: bits(&positions),
         normals: bits(&normals),
         words,
-    }
+    };
+    (outcome, after)
 }
 
-fn unguarded(grid: &[f32], lent: &mut Lent) -> Result<Counts, Refusal> {
+/// The crate's call over one kind of distance.
+type Guarded<D> =
+    fn(&[D], [u32; 3], [u32; 3], [u32; 3], MaxPlane, &mut Lent) -> Result<Counts, Refusal>;
+
+fn guarded_in<D>(environment: control::Word, crates: Guarded<D>, grid: &[D]) -> Outcome {
+    let (outcome, after) = call_in(environment, |lent| {
+        let max = [SIDE - 1; 3];
+        crates(grid, [SIDE; 3], [0; 3], max, MaxPlane::ALL, lent)
+    });
+    assert_eq!(after, environment, "the environment is as it was");
+    outcome
+}
+
+fn unguarded_in<D>(environment: control::Word, own: raw::SurfaceNets<D>, grid: &[D]) -> Outcome {
+    call_in(environment, |lent| unguarded(own, grid, lent)).0
+}
+
+/// The library's own function.
+fn unguarded<D>(own: raw::SurfaceNets<D>, grid: &[D], lent: &mut Lent) -> Result<Counts, Refusal> {
     let mut counts = Counts::default();
     // SAFETY: as in the crate: pointers and lengths of slices that do not overlap.
     let answer = unsafe {
-        raw::bed_surface_nets(
+        own(
             grid.as_ptr(),
             grid.len(),
             SIDE,
@@ -147,44 +165,81 @@ fn unguarded(grid: &[f32], lent: &mut Lent) -> Result<Counts, Refusal> {
     Ok(counts)
 }
 
-/// Of both signs: subnormal, near the least normal number, and near one.
-fn all_sizes() -> Vec<f32> {
-    let mut state = 0x0BED_5EEDu32;
-    let mut distance = || {
+/// Words from a fixed seed.
+fn words() -> impl Iterator<Item = u32> {
+    let next = |state: &u32| {
+        let mut state = *state;
         state ^= state << 13;
         state ^= state >> 17;
         state ^= state << 5;
-        let exponent = match state % 3 {
-            0 => 0,
-            1 => 1 + (state >> 8) % 3,
-            _ => 125 + (state >> 8) % 4,
-        };
-        f32::from_bits(state & 0x8000_0000 | exponent << 23 | state >> 4 & 0x7F_FFFF)
+        Some(state)
     };
-    (0..POINTS).map(|_| distance()).collect()
+    std::iter::successors(Some(0x0BED_5EED), next).skip(1)
+}
+
+/// Of both signs: subnormal, near the least normal number, and near one.
+fn all_sizes() -> Vec<f32> {
+    let distance = |word: u32| {
+        let exponent = match word % 3 {
+            0 => 0,
+            1 => 1 + (word >> 8) % 3,
+            _ => 125 + (word >> 8) % 4,
+        };
+        f32::from_bits(word & 0x8000_0000 | exponent << 23 | word >> 4 & 0x7F_FFFF)
+    };
+    words().take(POINTS).map(distance).collect()
+}
+
+/// The crate's call gives the same bits in every environment; the library's own gives others in those that `shows`.
+fn same_bits_everywhere<D>(
+    crates: Guarded<D>,
+    own: raw::SurfaceNets<D>,
+    grid: &[D],
+    shows: impl Fn(control::Word) -> bool,
+) {
+    let wanted = unguarded_in(control::DEFAULT, own, grid);
+    assert!(wanted.answer.is_ok_and(|counts| counts.indices > 0));
+    let same = |environment| {
+        let guarded = guarded_in(environment, crates, grid);
+        assert_eq!(guarded, wanted, "{environment:#x}");
+    };
+    same(control::DEFAULT);
+    control::TRAPS.into_iter().for_each(same);
+    for environment in control::OTHERS {
+        same(environment);
+        let other = unguarded_in(environment, own, grid) != wanted;
+        assert_eq!(other, shows(environment), "{environment:#x}");
+    }
 }
 
 #[test]
 fn every_environment_gives_the_same_bits() {
-    let grid = all_sizes();
-    let wanted = call_in(control::DEFAULT, false, &grid);
-    assert!(wanted.answer.is_ok_and(|counts| counts.indices > 0));
-    assert_eq!(call_in(control::DEFAULT, true, &grid), wanted);
-    for environment in control::OTHERS {
-        assert_eq!(
-            call_in(environment, true, &grid),
-            wanted,
-            "{environment:#x}"
-        );
-        assert_ne!(
-            call_in(environment, false, &grid),
-            wanted,
-            "{environment:#x}"
-        );
-    }
-    for environment in control::TRAPS {
-        assert_eq!(call_in(environment, true, &grid), wanted);
-    }
+    same_bits_everywhere(
+        surface_nets_lent,
+        raw::bed_surface_nets,
+        &all_sizes(),
+        |_| true,
+    );
+}
+
+/// Whole numbers make nothing subnormal, so that rounding alone shows.
+#[test]
+fn every_environment_gives_the_same_bits_of_whole_numbers() {
+    let rounding = |environment| environment & control::ROUNDING != 0;
+    let shorts: Vec<i16> = words().take(POINTS).map(|word| word as i16).collect();
+    same_bits_everywhere(
+        surface_nets_lent_i16,
+        raw::bed_surface_nets_i16,
+        &shorts,
+        rounding,
+    );
+    let bytes: Vec<i8> = words().take(POINTS).map(|word| word as i8).collect();
+    same_bits_everywhere(
+        surface_nets_lent_i8,
+        raw::bed_surface_nets_i8,
+        &bytes,
+        rounding,
+    );
 }
 
 /// One subnormal distance below zero at the box's corner: where it counts as zero the box is enclosed and has

@@ -16,15 +16,7 @@ pub fn counted(grid: &Grid, block: &Block) -> Result<bed::Counts, Refusal> {
         stride_to_index: &mut map,
         ..Lent::default()
     };
-    let answer = bed::surface_nets_lent(
-        &grid.distances,
-        grid.header.dims,
-        block.min,
-        block.max,
-        block.max_plane,
-        &mut lent,
-    );
-    match answer {
+    match grid.distances.mesh_lent(grid.header.dims, block, &mut lent) {
         Err(Refusal::VerticesShort(needed) | Refusal::IndicesShort(needed)) => Ok(needed),
         other => other,
     }
@@ -46,13 +38,8 @@ pub fn mesh_all<T: Send>(
         blocks.len(),
         steps,
         |number, buffer: &mut SurfaceNetsBuffer, report| {
-            let Block {
-                min,
-                max,
-                max_plane,
-            } = blocks[number];
-            let dims = grid.header.dims;
-            bed::surface_nets(&grid.distances, dims, min, max, max_plane, buffer)
+            grid.distances
+                .mesh(grid.header.dims, &blocks[number], buffer)
                 .map_err(|refusal| Failure::refused(place(number), refusal.number(), refusal))?;
             let result = after(number, buffer)?;
             report(buffer.positions.len());

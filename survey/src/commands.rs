@@ -262,14 +262,17 @@ fn cut(words: &[OsString]) -> Result<String, Failure> {
     apart(&arguments, fixtures, output)?;
     let mut grid = read_grid(&arguments, 1)?;
     cut_out(fixtures, name, &mut grid)?;
-    kept::write(output, &npy::written(grid.header.dims, &grid.distances))?;
+    kept::write(
+        output,
+        &npy::written(grid.header.dims, grid.distances.floats()),
+    )?;
     Ok(String::new())
 }
 
 /// Cuts the fixtures of a file out of a grid. Refusals of the grid name the grid.
 pub fn cut_out(path: &Path, name: &Path, grid: &mut Grid) -> Result<(), Failure> {
     let fixtures = fs::read(path).map_err(|error| Failure::file(path, error))?;
-    bed::cut_fixtures(&fixtures, grid.header.dims, &mut grid.distances).map_err(|refusal| {
+    bed::cut_fixtures(&fixtures, grid.header.dims, grid.distances.floats()).map_err(|refusal| {
         let place = match refusal {
             FixtureRefusal::Dimensions | FixtureRefusal::GridLength => name,
             _ => path,

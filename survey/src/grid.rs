@@ -3,6 +3,7 @@
 //!
 //! Whether the dimensions and the number of distances fit is answer 1 or 3, and not asked here.
 
+use crate::distances::Distances;
 use crate::failure::Failure;
 use crate::npy::{self, Header};
 use std::fs::File;
@@ -48,7 +49,7 @@ impl Numbers {
 pub struct Grid {
     /// As the file has it.
     pub header: Header,
-    pub distances: Vec<f32>,
+    pub distances: Distances,
 }
 
 /// An open file at its first number, with what is known of it.
@@ -88,11 +89,9 @@ impl Source {
         if bytes.len() % numbers.bytes() != 0 {
             return Err(fail(HALF_A_NUMBER.into()));
         }
-        let mut distances = Vec::new();
-        fill(&bytes, numbers, &mut distances);
         Ok(Grid {
             header: self.header,
-            distances,
+            distances: Distances::of(bytes, numbers),
         })
     }
 
@@ -162,8 +161,8 @@ impl Stored {
     }
 }
 
-/// The floats of the file's numbers. Whole numbers of 16 and 8 bits are floats of the same value; here alone are they
-/// converted.
+/// The floats of a layer's numbers: the library takes a bed layer by layer as floats. Whole numbers of 16 and 8 bits
+/// are floats of the same value.
 fn fill(bytes: &[u8], numbers: Numbers, distances: &mut Vec<f32>) {
     distances.clear();
     match numbers {

@@ -4,6 +4,7 @@
 mod arguments;
 mod blocks;
 mod commands;
+mod distances;
 mod enclosing;
 mod failure;
 mod grid;

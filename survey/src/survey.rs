@@ -134,8 +134,10 @@ impl<'a> Survey<'a> {
     fn in_memory(&self, grid: &Grid) -> Result<Found, Failure> {
         let needed = accepted(grid, &self.whole, || self.whole_in_words())?;
         let (min, max) = (self.whole.min, self.whole.max);
-        let enclosed =
-            bed::is_enclosed(&grid.distances, grid.header.dims, min, max).map_err(|refusal| {
+        let enclosed = grid
+            .distances
+            .is_enclosed(grid.header.dims, min, max)
+            .map_err(|refusal| {
                 Failure::refused(self.whole_in_words(), refusal.number(), refusal)
             })?;
         let place = |number| self.place(number);

@@ -184,6 +184,30 @@ def plans():
     refused(2, "plan", plan("0 0 0 12 11 11 -", lower, "5 0 0 12 11 11 -"), BALL_FILE, name="the whole")
 
 
+def whole_numbers():
+    """grids of int16 and int8, the ends of their ranges among them, against the float grids of the same values"""
+    put("halves.plan", b"0 0 0 11 11 11 -\n0 0 0 6 11 11 -\n5 0 0 11 11 11 -\n")
+    for kind, code, least in (("<i2", "h", -2 ** 15), ("|i1", "b", -2 ** 7)):
+        values = [random.choice((least, -least - 1, 0, -1, 1, random.randint(least, -least - 1))) for _ in BALL]
+        put("integers.npy", npy(struct.pack(f"<{len(values)}{code}", *values), (SIDE,) * 3, kind))
+        put("floats.npy", npy(floats(values), (SIDE,) * 3))
+        for command, *more in (("mesh", "--max-plane", "xz"), ("mesh", "--box", "1,2,3,9,11,10"), ("survey",),
+                               ("survey", "--fixtures", "box.fixtures"), ("survey", "--plan", "halves.plan")):
+            said = []
+            for name in ("integers", "floats"):
+                status, output, errors = bed(command, f"{name}.npy", "-o", f"{name}.mesh", *more)
+                lines = [line.replace(name, "grid") for line in output.split("\n") if "points, " not in line]
+                made = sorted(glob.glob(f"{name}*.mesh"))
+                said.append((status, errors, lines, [got(one) for one in made]))
+                for one in made:
+                    os.remove(one)
+            expect(f"{kind}, {command} {more}", said[0] == said[1] and said[0][0] == 0 and len(said[0][3]) == 1 + ("--plan" in more))
+        expect("its plan", bed("plan", "halves.plan", "integers.npy") == bed("plan", "halves.plan", "floats.npy"))
+        for name in ("integers", "floats"):
+            bed("cut", "box.fixtures", f"{name}.npy", "-o", f"{name}.cut")
+        expect("cut out of whole numbers", got("integers.cut") == got("floats.cut"))
+
+
 def page(*words):
     status, output, errors = bed("survey", *words)
     expect(f"survey {words}: {errors}", status == 0 and errors == "")
@@ -252,6 +276,7 @@ grids()
 files()
 fixtures()
 plans()
+whole_numbers()
 surveys()
 progress()
 expect("no part is left", glob.glob("*.part") == [])

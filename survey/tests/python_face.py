@@ -82,16 +82,41 @@ def ball():
     wrong(bed.surface_nets, array.array("d", [1.0] * 27), dims=(3, 3, 3))
     wrong(bed.cut_fixtures, b"", bytes(108), dims=(3, 3, 3))
     wrong(bed.cut_fixtures, b"", array.array("h", [1] * 27), dims=(3, 3, 3))
-    whole = [1 if n != 13 else -1 for n in range(27)]
-    for kind in "hb":
-        other = bed.surface_nets(array.array(kind, whole), dims=(3, 3, 3))
-        expect(f"numbers of {kind}", rows(other.positions) == rows(mesh.positions))
     expect("a buffer that is only read", rows(bed.surface_nets(memoryview(grid.tobytes()).cast("f"), (3, 3, 3)).positions) == rows(mesh.positions))
     inside = array.array("f", [1.0] * 64)
     inside[21] = -1.0
     expect("enclosed", bed.is_enclosed(inside, (4, 4, 4)) and not bed.is_enclosed(inside, (4, 4, 4), max=(2, 2, 2)))
     closed = bed.surface_nets(inside, (4, 4, 4))
     expect("the volume of a single point", bed.volume(closed.positions, closed.indices) == 6 * 85 ** 3)
+
+
+def whole_numbers():
+    """grids of int16 and int8 against the float grid of the same values, the ends of the ranges among them"""
+    for kind, least, most in (("h", -2 ** 15, 2 ** 15 - 1), ("b", -2 ** 7, 2 ** 7 - 1)):
+        vertices = yes = 0
+        for turn in range(40):
+            dims = tuple(random.randrange(3, 7) for _ in range(3))
+            count = dims[0] * dims[1] * dims[2]
+            values = [random.choice((random.randint(least, most), least, most, 0, 1, -1)) for _ in range(count)]
+            if turn % 2:  # few below zero, so that some grids are enclosed
+                values = [value if value >= 0 or random.random() < 0.02 else min(-value, most) for value in values]
+            whole, floats = array.array(kind, values), array.array("f", values)
+            flags = tuple(random.random() < 0.5 for _ in range(3))
+            one, other = (bed.surface_nets(grid, dims, max_plane=flags) for grid in (whole, floats))
+            for name in ("positions", "normals", "indices", "cells", "strides", "crossings", "stride_to_index"):
+                expect(f"{name} of {kind}", getattr(one, name).tobytes() == getattr(other, name).tobytes())
+            expect(f"enclosed, {kind}", bed.is_enclosed(whole, dims) == bed.is_enclosed(floats, dims))
+            only_read = bed.surface_nets(memoryview(whole.tobytes()).cast(kind), dims)
+            expect(f"only read, {kind}", only_read.positions.tobytes() == one.positions.tobytes())
+            vertices += one.positions.shape[0]
+            yes += bed.is_enclosed(whole, dims)
+        expect(f"something to compare, {kind}", vertices > 500 and 0 < yes < 40)
+        least_alone = array.array(kind, [most] * 13 + [least] + [most] * 13)
+        expect(f"the least of {kind} is a distance", bed.surface_nets(least_alone, (3, 3, 3)).positions.shape == (8, 3))
+        refused(3, bed.surface_nets, least_alone, dims=(3, 3, 4))
+        refused(2, bed.surface_nets, least_alone, dims=(3, 3, 3), max=(3, 2, 2))
+        refused(3, bed.is_enclosed, least_alone, dims=(3, 3, 4))
+        wrong(bed.surface_nets, array.array(kind.upper(), [1] * 27), dims=(3, 3, 3))
 
 
 def fixtures_and_plans():
@@ -177,6 +202,9 @@ def with_numpy():
     whole = (grid * 10).round()
     for kind in (numpy.int16, numpy.int8):
         expect(f"{kind}", (bed.surface_nets(whole.astype(kind)).positions == bed.surface_nets(whole).positions).all())
+        expect(f"{kind} enclosed", bed.is_enclosed(whole.astype(kind)) == bed.is_enclosed(whole))
+        wrong(bed.surface_nets, numpy.asfortranarray(whole.astype(kind)))
+    wrong(bed.surface_nets, whole.astype(">i2"))
     wrong(bed.surface_nets, grid.astype(numpy.float64))
     wrong(bed.surface_nets, numpy.asfortranarray(grid))
     wrong(bed.surface_nets, grid.astype(">f4"))
@@ -191,6 +219,7 @@ def with_numpy():
 
 
 ball()
+whole_numbers()
 fixtures_and_plans()
 winding()
 environment()

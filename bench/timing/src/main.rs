@@ -10,6 +10,7 @@ mod environment;
 mod grids;
 mod page;
 mod runners;
+mod widths;
 
 use page::Row;
 use runners::{ByLayers, Library, Original, PlainLoop, Runner};
@@ -47,6 +48,7 @@ fn main() {
         ));
     }
     page::print(&rows, ROUNDS);
+    page::print_widths(&widths::measure());
     environment::print();
 }
 
@@ -59,7 +61,8 @@ fn measure(grid_name: &'static str, side: u32, grid: &[f32], originals: &[Origin
     let mut runners: Vec<Box<dyn Runner>> =
         vec![Box::new(library), Box::new(plain_loop), Box::new(by_layers)];
     runners.extend(originals.iter().map(|&original| Box::new(original) as _));
-    warm_up(&mut runners, grid, side);
+    let meshes = warm_up(&mut runners, grid, side);
+    assert_eq!(meshes, RUNNERS - 1, "all but the plain loop mesh");
     let times = medians(&mut runners, grid, side);
     Row {
         grid_name,
@@ -72,19 +75,20 @@ fn measure(grid_name: &'static str, side: u32, grid: &[f32], originals: &[Origin
     }
 }
 
-/// Runs everyone twice, so that buffers are grown and touched, and makes sure that all made one mesh.
-fn warm_up(runners: &mut [Box<dyn Runner>], grid: &[f32], side: u32) {
+/// Runs everyone twice, so that buffers are grown and touched, makes sure that all made one mesh, and tells how many
+/// made it.
+fn warm_up(runners: &mut [Box<dyn Runner>], grid: &[f32], side: u32) -> usize {
     let mut meshes = Vec::new();
     for runner in runners.iter_mut() {
         runner.mesh(grid, side);
         runner.mesh(grid, side);
         meshes.extend(runner.indices());
     }
-    assert_eq!(meshes.len(), RUNNERS - 1, "all but the plain loop mesh");
     assert!(
         meshes.iter().all(|mesh| *mesh == meshes[0]),
         "not all made the same mesh"
     );
+    meshes.len()
 }
 
 /// The median time of each, over rounds in which they take turns; each round begins with another.

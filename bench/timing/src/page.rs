@@ -92,6 +92,42 @@ pub fn print(rows: &[Row], rounds: usize) {
     }
 }
 
+/// Median seconds a mesh of one grid of whole numbers: of the call over them, and of the float call on the same numbers.
+pub struct Whole {
+    pub whole: f64,
+    pub floats: f64,
+}
+
+/// One grid in the numbers of both widths.
+pub struct WidthsRow {
+    pub grid_name: &'static str,
+    pub side: u32,
+    pub short: Whole,
+    pub byte: Whole,
+}
+
+pub fn print_widths(rows: &[WidthsRow]) {
+    println!(
+        "\nWhole-number distances (request 5 of document 02), and their time divided by the float call's on the same numbers:\n"
+    );
+    print_titles(
+        &[
+            "16 bits, ms",
+            "16 bits / floats",
+            "8 bits, ms",
+            "8 bits / floats",
+        ],
+        &[],
+    );
+    for row in rows {
+        let figures = [&row.short, &row.byte].map(|one| {
+            let ratio = one.whole / one.floats;
+            format!(" {:.3} | {ratio:.2} |", 1e3 * one.whole)
+        });
+        println!("| {} | {} |{}", row.grid_name, row.side, figures.concat());
+    }
+}
+
 /// The worst ratio of all, and the figure that document 02's request 12 asks for.
 fn print_head(rows: &[Row]) {
     let worst = rows

@@ -12,6 +12,10 @@ pub trait Runner {
     fn indices(&self) -> Option<Vec<u32>>;
 }
 
+/// The crate's call over one kind of distance.
+pub type Mesh<D> =
+    fn(&[D], [u32; 3], [u32; 3], [u32; 3], MaxPlane, &mut Lent) -> Result<Counts, Refusal>;
+
 /// The proved library, with exactly the room that the grid at hand needs.
 #[derive(Clone, Default)]
 pub struct Library {
@@ -44,6 +48,10 @@ impl Library {
     }
 
     fn call(&mut self, grid: &[f32], side: u32) -> Result<Counts, Refusal> {
+        self.call_over(surface_nets_lent, grid, side)
+    }
+
+    fn call_over<D>(&mut self, mesh: Mesh<D>, grid: &[D], side: u32) -> Result<Counts, Refusal> {
         let [positions, normals] = &mut self.floats;
         let [cells, strides, stride_to_index, indices] = &mut self.words;
         let mut lent = Lent {
@@ -56,7 +64,7 @@ impl Library {
             indices,
         };
         let max = [side - 1; 3];
-        surface_nets_lent(grid, [side; 3], [0; 3], max, MaxPlane::NONE, &mut lent)
+        mesh(grid, [side; 3], [0; 3], max, MaxPlane::NONE, &mut lent)
     }
 }
 
@@ -67,6 +75,36 @@ impl Runner for Library {
 
     fn indices(&self) -> Option<Vec<u32>> {
         Some(self.words[3].clone())
+    }
+}
+
+/// The proved library over whole numbers (document 02, request 5): a grid of its own, of the same numbers as the floats
+/// that the others are given.
+pub struct Whole<D> {
+    room: Library,
+    grid: Vec<D>,
+    mesh: Mesh<D>,
+}
+
+impl<D> Whole<D> {
+    /// Over lists of its own, as long as those that are lent to the library.
+    pub fn beside(library: &Library, grid: Vec<D>, mesh: Mesh<D>) -> Self {
+        Self {
+            room: library.clone(),
+            grid,
+            mesh,
+        }
+    }
+}
+
+impl<D> Runner for Whole<D> {
+    fn mesh(&mut self, _: &[f32], side: u32) {
+        let made = self.room.call_over(self.mesh, &self.grid, side);
+        made.expect("there is room");
+    }
+
+    fn indices(&self) -> Option<Vec<u32>> {
+        self.room.indices()
     }
 }
 

@@ -3,3 +3,4 @@ pub mod Made
 pub mod OnePoint
 pub mod Applied
 pub mod Planned
+pub mod WholeNumbers

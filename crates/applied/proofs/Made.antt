@@ -6,16 +6,19 @@ use mathlib.Core.List.{List, []}
 use mathlib.Core.Path.{_≡_}
 use contract.Lifetimes.{Lfts}
 use denote.Ref.{RefT}
+use lib.IntN.{ℤ}
 use lib.Ieee.{Float}
 use Rattle.rules.specs.Call.{Buffers, answer, afterwards, room}
 use Rattle.grid.specs.declared.Extent.{Extent}
 use Rattle.grid.specs.declared.EachAxis.{EachAxis}
+use Rattle.grid.specs.Values.{asFloats, Wholes}
 use Rattle.judge.specs.declared.Answer.{Answer}
 use Rattle.judge.specs.AsRules.{answerOf}
 use Rattle.lists.specs.Floats.{Binary32}
 use Rattle.surface_nets.specs.AsRules.{callMade}
 use Rattle.bed.specs.Boundary.{extent, planes, said}
 use Rattle.promises.proofs.Runs.{Run, BedRun}
+use Rattle.promises.proofs.WholeRuns.{EightRun}
 use Rattle.closed_mesh.proofs.Outcome.{Mesh, Test}
 use Rattle.skin.specs.declared.Enclosed.{Enclosed}
 use Rattle.skin.specs.Scan.{examined}
@@ -196,6 +199,41 @@ module _ (grid : List Float) (dx dy dz lx ly lz hx hy hz : ℕ) (px py pz : Bool
               );
             };
         fits = (answered, (left, numbers));
+      }
+
+-- a call of surface_nets_i8
+module _ (numbers : List ℤ) (dims low high : Extent) (plane : EachAxis) (r : Answer) (before after : Buffers)
+    (answered : answerOf r ≡ answer (callMade (asFloats numbers) dims low high plane) (room before))
+    (left : after ≡ afterwards (callMade (asFloats numbers) dims low high plane) before) (whole : Wholes 8 numbers) where
+  abbrev pub eightRunOf : EightRun
+  eightRunOf =
+      record {
+        lifetimes = eight;
+        args = (
+          to numbers,
+          (
+            dims,
+            (
+              low,
+              (
+                high,
+                (
+                  plane,
+                  (
+                    to (before .positions),
+                    (to (before .normals), (to (before .cells), (to (before .strides), (to (before .crossings), (to (before .map), (to (before .indices), tt)))))),
+                  ),
+                ),
+              ),
+            ),
+          ),
+        );
+        outcome =
+            record {
+              result = r;
+              last = (tt, (tt, (tt, (tt, (tt, (after .positions, (after .normals, (after .cells, (after .strides, (after .crossings, (after .map, (after .indices, tt))))))))))));
+            };
+        fits = (answered, (left, whole));
       }
 
 -- a call of is_enclosed

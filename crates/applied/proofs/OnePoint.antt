@@ -52,7 +52,7 @@ abbrev pub dims : Extent
 dims = extent 4 4 4
 
 -- no max plane
-abbrev noPlane : EachAxis
+abbrev pub noPlane : EachAxis
 noPlane = record { x = false; y = false; z = false }
 
 -- the corners: of the whole, and of the pieces of the cut
@@ -188,7 +188,7 @@ unfoldable pub opened : Unit {0}
 unfolding rules.opened ofBits facesSeen links inner enclosed judged
 opened = tt
 
-abbrev counts : ℕ → ℕ → Answer
+abbrev pub counts : ℕ → ℕ → Answer
 counts v i = record { number = 0; «vertex_count» = v; «index_count» = i }
 
 -- every number of the two grids is a value of binary32: not-a-number is one
@@ -210,7 +210,7 @@ unfolding fitting fits opened
 spoiled-fits i h = all-at (all-fit spoiled tt) i h nan
 
 -- the whole: V 8, I 36
-abbrev wholeLeft : Buffers
+abbrev pub wholeLeft : Buffers
 wholeLeft = left 77 wholePositions wholeNormals wholeCells wholeStrides wholeMap wholeIndices
 
 pub whole-answered : answerOf (counts 8 36) ≡ answer (callMade grid dims lowest highest noPlane) (room (lent 8 36 77))

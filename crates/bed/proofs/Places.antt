@@ -2,9 +2,10 @@
 -- the contract of each exported function is said once more by the places of its parameters, in the order of include/bed.h. Assumes nothing.
 use Prim.Native.Nat.{ℕ}
 use mathlib.Core.Path.{_≡_}
+use mathlib.Core.Bool.{Bool}
 use mathlib.Core.List.{List, [], _∷_}
 use lib.Ieee.{Float}
-use lib.ListN.{length}
+use lib.ListN.{length, drop}
 use contract.Lifetimes.{Lfts}
 use denote.Triple.Clauses.{Lasts, atExit}
 use borrow.Fn.Kinds.{PK, RK, Out, Dens, resT, endedOf}
@@ -12,6 +13,7 @@ use Rattle.rules.specs.Call.{Room, Answer, answer, room}
 use Rattle.grid.specs.declared.Extent.{Extent}
 use Rattle.grid.specs.declared.EachAxis.{EachAxis}
 use Rattle.grid.specs.Block.{point}
+use Rattle.grid.specs.Values.{asFloats}
 use Rattle.whole_box.specs.LentLists.{buffersGiven}
 use Rattle.surface_nets.specs.AsRules.{callMade}
 use Rattle.skin.specs.Scan.{answers, examined}
@@ -28,10 +30,22 @@ use Rattle.bed.specs.Boundary.{extent, planes, roomAsked, said}
 use Rattle.bed.specs.Layered.{blockAsked, wordsStarted}
 use Rattle.bed.proofs.bed_surface_nets.Kinds as nets-kinds
 use Rattle.bed.proofs.bed_surface_nets.Reads as nets
+use Rattle.bed.proofs.wholes.bed_surface_nets_i16.Kinds as nets-i16-kinds
+use Rattle.bed.proofs.wholes.bed_surface_nets_i16.Reads as nets-i16
+use Rattle.bed.proofs.wholes.bed_surface_nets_i8.Kinds as nets-i8-kinds
+use Rattle.bed.proofs.wholes.bed_surface_nets_i8.Reads as nets-i8
 use Rattle.bed.proofs.asking.bed_answer.Kinds as ask-kinds
 use Rattle.bed.proofs.asking.bed_answer.Reads as ask
+use Rattle.bed.proofs.wholes.bed_answer_i16.Kinds as ask-i16-kinds
+use Rattle.bed.proofs.wholes.bed_answer_i16.Reads as ask-i16
+use Rattle.bed.proofs.wholes.bed_answer_i8.Kinds as ask-i8-kinds
+use Rattle.bed.proofs.wholes.bed_answer_i8.Reads as ask-i8
 use Rattle.bed.proofs.enclosed.bed_is_enclosed.Kinds as enclosed-kinds
 use Rattle.bed.proofs.enclosed.bed_is_enclosed.Reads as enclosed
+use Rattle.bed.proofs.enclosed.bed_is_enclosed_i16.Kinds as enclosed-i16-kinds
+use Rattle.bed.proofs.enclosed.bed_is_enclosed_i16.Reads as enclosed-i16
+use Rattle.bed.proofs.enclosed.bed_is_enclosed_i8.Kinds as enclosed-i8-kinds
+use Rattle.bed.proofs.enclosed.bed_is_enclosed_i8.Reads as enclosed-i8
 use Rattle.bed.proofs.files.bed_write_mesh.Kinds as write-kinds
 use Rattle.bed.proofs.files.bed_write_mesh.Reads as write
 use Rattle.bed.proofs.files.bed_write_record.Kinds as record-kinds
@@ -56,18 +70,41 @@ pub record Called (n : ℕ) (ps : List (PK n)) (r : RK n) (Learnt : Out n ps r) 
   pub last : Lasts (endedOf n ps r) lifetimes args
   pub fits : Learnt lifetimes args result (atExit (endedOf n ps r) lifetimes args last)
 
--- ---- bed_surface_nets: sdf, dimensions, min, max, the max plane on each axis, seven lists, V, I
+-- ---- bed_surface_nets, bed_surface_nets_i16, bed_surface_nets_i8: sdf, dimensions, min, max, the max plane on each axis, seven lists, V, I
 
 abbrev pub NetsCall : Type 0
 NetsCall = Called 10 nets-kinds.ps nets-kinds.r nets.Learnt
 
+abbrev pub NetsCall16 : Type 0
+NetsCall16 = Called 10 nets-i16-kinds.ps nets-i16-kinds.r nets-i16.Learnt
+
+abbrev pub NetsCall8 : Type 0
+NetsCall8 = Called 10 nets-i8-kinds.ps nets-i8-kinds.r nets-i8.Learnt
+
+-- what the three say of a grid, by the places behind it, which are the same
+abbrev pub SaidOf : List Float → (κs : Lfts 10) → Dens κs (drop 1 nets-kinds.ps) → ℕ → ℕ → ℕ → Type 0
+SaidOf grid κs places number v i =
+    let (dx, (dy, (dz, (lx, (ly, (lz, (hx, (hy, (hz, (px, (py, (pz, (positions, (normals, (cells, (strides, (crossings, (map, (indices, _))))))))))))))))))) = places in
+    said number v i ≡ answer (callMade grid (extent dx dy dz) (extent lx ly lz) (extent hx hy hz) (planes px py pz))
+    (room (buffersGiven positions normals cells strides crossings map indices))
+
 pub surface-nets-by-place : (u : NetsCall)
-    → (let (sdf, (dx, (dy, (dz, (lx, (ly, (lz, (hx, (hy, (hz, (px, (py, (pz, (positions, (normals, (cells, (strides, (crossings, (map, (indices, _)))))))))))))))))))) = u .args in
+    → (let (sdf, more) = u .args in
     let (_, (_, (_, (_, (_, (_, (_, (_, (_, (_, (_, (_, (_, (_, (_, (_, (_, (_, (_, (_, (v, (i, _)))))))))))))))))))))) = u .last in
-    said (u .result) v i
-    ≡ answer (callMade (sdf .now) (extent dx dy dz) (extent lx ly lz) (extent hx hy hz) (planes px py pz))
-    (room (buffersGiven positions normals cells strides crossings map indices)))
+    SaidOf (sdf .now) (u .lifetimes) more (u .result) v i)
 surface-nets-by-place u = u .fits .0
+
+pub surface-nets-i16-by-place : (u : NetsCall16)
+    → (let (sdf, more) = u .args in
+    let (_, (_, (_, (_, (_, (_, (_, (_, (_, (_, (_, (_, (_, (_, (_, (_, (_, (_, (_, (_, (v, (i, _)))))))))))))))))))))) = u .last in
+    SaidOf (asFloats (sdf .now)) (u .lifetimes) more (u .result) v i)
+surface-nets-i16-by-place u = u .fits .0
+
+pub surface-nets-i8-by-place : (u : NetsCall8)
+    → (let (sdf, more) = u .args in
+    let (_, (_, (_, (_, (_, (_, (_, (_, (_, (_, (_, (_, (_, (_, (_, (_, (_, (_, (_, (_, (v, (i, _)))))))))))))))))))))) = u .last in
+    SaidOf (asFloats (sdf .now)) (u .lifetimes) more (u .result) v i)
+surface-nets-i8-by-place u = u .fits .0
 
 -- ---- bed_answer: sdf, dimensions, min, max, the max plane on each axis, the lengths of the seven lists, V, I
 
@@ -102,16 +139,65 @@ module _ (u : AskCall) where
   pub answer-by-place : answerAsked ≡ answer (callMade gridAsked dimsAsked lowAsked highAsked planeAsked) lengthsAsked
   answer-by-place = u .fits
 
--- ---- bed_is_enclosed: sdf, dimensions, min, max, the yes or no
+-- bed_answer_i16, bed_answer_i8: the same, of whole numbers, by the places behind the grid
+
+abbrev pub AskCall16 : Type 0
+AskCall16 = Called 3 ask-i16-kinds.ps ask-i16-kinds.r ask-i16.Learnt
+
+abbrev pub AskCall8 : Type 0
+AskCall8 = Called 3 ask-i8-kinds.ps ask-i8-kinds.r ask-i8.Learnt
+
+abbrev pub AnsweredOf : List Float → (κs : Lfts 3) → Dens κs (drop 1 ask-kinds.ps) → ℕ → ℕ → ℕ → Type 0
+AnsweredOf grid κs places number v i =
+    let (dx, (dy, (dz, (lx, (ly, (lz, (hx, (hy, (hz, (px, (py, (pz, (positions, (normals, (cells, (strides, (crossings, (map, (indices, _))))))))))))))))))) = places in
+    said number v i ≡ answer (callMade grid (extent dx dy dz) (extent lx ly lz) (extent hx hy hz) (planes px py pz))
+    (roomAsked positions normals cells strides crossings map indices)
+
+pub answer-i16-by-place : (u : AskCall16)
+    → (let (sdf, more) = u .args in
+    let (_, (_, (_, (_, (_, (_, (_, (_, (_, (_, (_, (_, (_, (_, (_, (_, (_, (_, (_, (_, (v, (i, _)))))))))))))))))))))) = u .last in
+    AnsweredOf (asFloats (sdf .now)) (u .lifetimes) more (u .result) v i)
+answer-i16-by-place u = u .fits
+
+pub answer-i8-by-place : (u : AskCall8)
+    → (let (sdf, more) = u .args in
+    let (_, (_, (_, (_, (_, (_, (_, (_, (_, (_, (_, (_, (_, (_, (_, (_, (_, (_, (_, (_, (v, (i, _)))))))))))))))))))))) = u .last in
+    AnsweredOf (asFloats (sdf .now)) (u .lifetimes) more (u .result) v i)
+answer-i8-by-place u = u .fits
+
+-- ---- bed_is_enclosed, bed_is_enclosed_i16, bed_is_enclosed_i8: sdf, dimensions, min, max, the yes or no
 
 abbrev pub EnclosedCall : Type 0
 EnclosedCall = Called 2 enclosed-kinds.ps enclosed-kinds.r enclosed.Learnt
 
+abbrev pub EnclosedCall16 : Type 0
+EnclosedCall16 = Called 2 enclosed-i16-kinds.ps enclosed-i16-kinds.r enclosed-i16.Learnt
+
+abbrev pub EnclosedCall8 : Type 0
+EnclosedCall8 = Called 2 enclosed-i8-kinds.ps enclosed-i8-kinds.r enclosed-i8.Learnt
+
+abbrev pub ExaminedOf : List Float → (κs : Lfts 2) → Dens κs (drop 1 enclosed-kinds.ps) → ℕ → Bool → Type 0
+ExaminedOf grid κs places number yes' =
+    let (dx, (dy, (dz, (lx, (ly, (lz, (hx, (hy, (hz, _))))))))) = places in
+    answers number yes' ≡ examined grid (extent dx dy dz) (extent lx ly lz) (extent hx hy hz)
+
 pub is-enclosed-by-place : (u : EnclosedCall)
-    → (let (sdf, (dx, (dy, (dz, (lx, (ly, (lz, (hx, (hy, (hz, _)))))))))) = u .args in
+    → (let (sdf, more) = u .args in
     let (_, (_, (_, (_, (_, (_, (_, (_, (_, (_, (yes', _))))))))))) = u .last in
-    answers (u .result) yes' ≡ examined (sdf .now) (extent dx dy dz) (extent lx ly lz) (extent hx hy hz))
+    ExaminedOf (sdf .now) (u .lifetimes) more (u .result) yes')
 is-enclosed-by-place u = u .fits
+
+pub is-enclosed-i16-by-place : (u : EnclosedCall16)
+    → (let (sdf, more) = u .args in
+    let (_, (_, (_, (_, (_, (_, (_, (_, (_, (_, (yes', _))))))))))) = u .last in
+    ExaminedOf (asFloats (sdf .now)) (u .lifetimes) more (u .result) yes')
+is-enclosed-i16-by-place u = u .fits
+
+pub is-enclosed-i8-by-place : (u : EnclosedCall8)
+    → (let (sdf, more) = u .args in
+    let (_, (_, (_, (_, (_, (_, (_, (_, (_, (_, (yes', _))))))))))) = u .last in
+    ExaminedOf (asFloats (sdf .now)) (u .lifetimes) more (u .result) yes')
+is-enclosed-i8-by-place u = u .fits
 
 -- ---- bed_write_mesh: positions, normals, indices, the file, its number of bytes
 

@@ -6,6 +6,7 @@ pub mod files;
 pub mod layered;
 pub mod plans;
 pub mod weighing;
+pub mod wholes;
 
 ghost use mathlib.Core.Path.{_≡_};
 ghost use Rattle.rules.specs.Call.{answer, afterwards, room};

@@ -29,8 +29,8 @@ use Rattle.closed_mesh.proofs.Outcome.{
 use Rattle.closed_mesh.proofs.Closed.{Even, Meshed, mesh-closed-yes}
 
 -- the test of one input, said of another that is the same
-moved : {i k : Input} {r : Tested} → i ≡ k → r ≡ examined (i .sdf) (i .dims) (i .low) (i .high) → r ≡ answers 0 true → examined (k .sdf) (k .dims) (k .low) (k .high) ≡ answers 0
-    true
+pub moved : {i k : Input} {r : Tested} → i ≡ k → r ≡ examined (i .sdf) (i .dims) (i .low) (i .high) → r ≡ answers 0 true
+    → examined (k .sdf) (k .dims) (k .low) (k .high) ≡ answers 0 true
 moved p e y = subst (λ (k : Input). examined (k .sdf) (k .dims) (k .low) (k .high) ≡ answers 0 true) p (sym e ∙ y)
 
 -- ---- surface_nets and is_enclosed

@@ -40,7 +40,7 @@ pub record Input : Type 0 where
   pub low : Extent
   pub high : Extent
 
-abbrev input : List Float → Extent → Extent → Extent → Input
+abbrev pub input : List Float → Extent → Extent → Extent → Input
 input sdf dims low high = record { sdf = sdf; dims = dims; low = low; high = high }
 
 abbrev pub grid : Input → Field

@@ -3,7 +3,7 @@ use Prim.Native.Nat.{ℕ, _+_, _*_, _≤_, _<_}
 use native.Mathlib.Nat.{mul-add}
 use native.Mathlib.Omega.{arith}
 use mathlib.Core.List.{List, [], _∷_, _++_}
-use mathlib.Core.Path.{_≡_, refl, sym, ap, _∙_}
+use mathlib.Core.Path.{_≡_, refl, sym, ap, ap₂, _∙_}
 use mir.Syntax.{w64}
 use mir.Val.{Fits}
 use lib.Dec.{T}
@@ -75,14 +75,15 @@ tally-alike d f f' b m z agree =
     λ i. record { vertices = length (vertices i); indices = 6 * length (edges i) }
 
 -- so that the parts of a grid that are lent for it count what it counts in the grid
-pub part-tally : (sdf : List Float) (k : Block) (i : Inside sdf k) (z : ℕ) (zs : (k .low .z ≤ z) × (z < k .high .z)) {t : Tally}
-    → t ≡ tallyOf (twoLayers (part (k .dims .x * k .dims .y * z) (k .dims .x * k .dims .y) sdf) (rest (k .dims .x * k .dims .y * z + k .dims .x * k .dims .y) sdf) k z)
-    (boxOf k) (flagsOf k) (layerCells (boxOf k) z)
+pub part-tally : (sdf : List Float) (k : Block) (i : Inside sdf k) (z : ℕ) (zs : (k .low .z ≤ z) × (z < k .high .z)) {lower upper : List Float} {t : Tally}
+    → lower ≡ part (k .dims .x * k .dims .y * z) (k .dims .x * k .dims .y) sdf → upper ≡ rest (k .dims .x * k .dims .y * z + k .dims .x * k .dims .y) sdf
+    → t ≡ tallyOf (twoLayers lower upper k z) (boxOf k) (flagsOf k) (layerCells (boxOf k) z)
     → t ≡ tallyOf (fieldOf sdf k) (boxOf k) (flagsOf k) (layerCells (boxOf k) z)
-part-tally sdf k i z zs e =
+part-tally sdf k i z zs l u e =
     let plane = k .dims .x * k .dims .y in
     let two = layerDist (part (plane * z) plane sdf) (rest (plane * z + plane) sdf) plane z in
-    e ∙ tally-alike (point (k .dims)) two (fieldOf sdf k .dist) (boxOf k) (flagsOf k) z (layers-agree sdf k i z zs)
+    let same = ap₂ (λ (lower upper : List Float). tallyOf (twoLayers lower upper k z) (boxOf k) (flagsOf k) (layerCells (boxOf k) z)) l u in
+    e ∙ same ∙ tally-alike (point (k .dims)) two (fieldOf sdf k .dist) (boxOf k) (flagsOf k) z (layers-agree sdf k i z zs)
 
 -- ---- a loop's counts, over the distances of a field
 

@@ -13,6 +13,7 @@ ghost use Rattle.grid.specs.Inside.{Inside};
 ghost use Rattle.grid.specs.Layers.{twoLayers, InLayers};
 ghost use Rattle.count.specs.Runs.{surfaceRun, changesRun, ownedEdges};
 ghost use Rattle.count.specs.Tally.{tallyOf, counts};
+ghost use Rattle.grid.specs.Values.{gridGiven, gridBefore, Wholes};
 use grid::Block;
 use grid::ownership::owns;
 use grid::signs::counted;
@@ -41,15 +42,46 @@ struct OwnedEdges {
 
 // How many of n cells in a row are surface cells, `at` being the place of the first one's lowest corner. A cell shares its upper x side with the
 // next cell's lower one: the negatives of each side are counted once, and carried.
-fn surface_cells(lower: &[f32], upper: &[f32], at: usize, row: usize, n: usize) -> u32
-    requires { ⌜ (at + n + row < length (now lower)) × (at + n + row < length (now upper)) ⌝ }
+fn surface_cells(
+    width: u32,
+    lower: &[f32],
+    upper: &[f32],
+    lower16: &[i16],
+    upper16: &[i16],
+    lower8: &[i8],
+    upper8: &[i8],
+    at: usize,
+    row: usize,
+    n: usize,
+) -> u32
+    requires { ⌜ (at + n + row < length (gridGiven width lower lower16 lower8)) × (at + n + row < length (gridGiven width upper upper16 upper8)) ⌝ }
     requires { ⌜ n ≤ 16777217 ⌝ }
-    ensures { λ r. ⌜ r ≡ surfaceRun (now (lower .entry)) (now (upper .entry)) at row n ⌝ }
+    ensures { λ r. ⌜ r ≡ surfaceRun (gridBefore width lower lower16 lower8) (gridBefore width upper upper16 upper8) at row n ⌝ }
 {
-    let mut low = side_negatives(lower, upper, at, row);
+    let mut low = side_negatives(
+        width,
+        lower,
+        upper,
+        lower16,
+        upper16,
+        lower8,
+        upper8,
+        at,
+        row,
+    );
     let mut count = 0u32;
     for j in 0usize..n {
-        let high = side_negatives(lower, upper, at + j + 1, row);
+        let high = side_negatives(
+            width,
+            lower,
+            upper,
+            lower16,
+            upper16,
+            lower8,
+            upper8,
+            at + j + 1,
+            row,
+        );
         count += surface_count(low + high);
         low = high;
     }
@@ -57,15 +89,26 @@ fn surface_cells(lower: &[f32], upper: &[f32], at: usize, row: usize, n: usize) 
 }
 
 // How many of n edges have exactly one negative end: the lower ends are n distances of a from p on, the upper ones n of b from q on.
-fn changes(a: &[f32], p: usize, b: &[f32], q: usize, n: usize) -> u32
-    requires { ⌜ (p + n ≤ length (now a)) × (q + n ≤ length (now b)) ⌝ }
+fn changes(
+    width: u32,
+    a: &[f32],
+    a16: &[i16],
+    a8: &[i8],
+    p: usize,
+    b: &[f32],
+    b16: &[i16],
+    b8: &[i8],
+    q: usize,
+    n: usize,
+) -> u32
+    requires { ⌜ (p + n ≤ length (gridGiven width a a16 a8)) × (q + n ≤ length (gridGiven width b b16 b8)) ⌝ }
     requires { ⌜ n ≤ 16777217 ⌝ }
-    ensures { λ r. ⌜ r ≡ changesRun (now (a .entry)) p (now (b .entry)) q n ⌝ }
+    ensures { λ r. ⌜ r ≡ changesRun (gridBefore width a a16 a8) p (gridBefore width b b16 b8) q n ⌝ }
 {
     let mut count = 0u32;
     for j in 0usize..n {
-        let low = cube::negative(a[p + j]);
-        let high = cube::negative(b[q + j]);
+        let low = cube::negative(grid::values::value_at(width, a, a16, a8, p + j));
+        let high = cube::negative(grid::values::value_at(width, b, b16, b8, q + j));
         count += counted(low != high);
     }
     count
@@ -109,37 +152,117 @@ fn owned_edges(k: Block, y: u32, z: u32) -> OwnedEdges
     }
 }
 
-fn count_row(lower: &[f32], upper: &[f32], k: Block, y: u32, z: u32) -> Tally
-    requires { ⌜ InLayers (now lower) (now upper) k z ⌝ }
+fn count_row(
+    width: u32,
+    lower: &[f32],
+    upper: &[f32],
+    lower16: &[i16],
+    upper16: &[i16],
+    lower8: &[i8],
+    upper8: &[i8],
+    k: Block,
+    y: u32,
+    z: u32,
+) -> Tally
+    requires { ⌜ InLayers (gridGiven width lower lower16 lower8) (gridGiven width upper upper16 upper8) k z ⌝ }
     requires { ⌜ (k .low .y ≤ y) × (y < k .high .y) ⌝ }
-    ensures { λ r. ⌜ r ≡ tallyOf (twoLayers (now (lower .entry)) (now (upper .entry)) k z) (boxOf k) (flagsOf k) (rowCells (boxOf k) z y) ⌝ }
+    ensures { λ r. ⌜ r ≡ tallyOf (twoLayers (gridBefore width lower lower16 lower8) (gridBefore width upper upper16 upper8) k z) (boxOf k) (flagsOf k) (rowCells (boxOf k) z y) ⌝ }
 {
     let row = k.dims.x as usize;
     let n = (k.high.x - k.low.x) as usize;
     let at = (k.low.x as usize) + row * (y as usize);
     let next = at + 1;
     let own = owned_edges(k, y, z);
-    let vertices = surface_cells(lower, upper, at, row, n);
-    let along_x = changes(lower, at, lower, next, own.x);
-    let along_y = changes(lower, next, lower, next + row, own.y);
-    let along_z = changes(lower, next, upper, next, own.z);
-    Tally {
-        vertices: vertices as usize,
-        indices: 6 * ((along_x as usize) + (along_y as usize) + (along_z as usize)),
-    }
+    let surface = surface_cells(
+        width,
+        lower,
+        upper,
+        lower16,
+        upper16,
+        lower8,
+        upper8,
+        at,
+        row,
+        n,
+    );
+    let along_x = changes(
+        width,
+        lower,
+        lower16,
+        lower8,
+        at,
+        lower,
+        lower16,
+        lower8,
+        next,
+        own.x,
+    );
+    let along_y = changes(
+        width,
+        lower,
+        lower16,
+        lower8,
+        next,
+        lower,
+        lower16,
+        lower8,
+        next + row,
+        own.y,
+    );
+    let along_z = changes(
+        width,
+        lower,
+        lower16,
+        lower8,
+        next,
+        upper,
+        upper16,
+        upper8,
+        next,
+        own.z,
+    );
+    let vertices = surface as usize;
+    let x_faces = along_x as usize;
+    let y_faces = along_y as usize;
+    let z_faces = along_z as usize;
+    let flat_faces = x_faces + y_faces;
+    let faces = flat_faces + z_faces;
+    let indices = 6 * faces;
+    Tally { vertices, indices }
 }
 
 // The layer z of cells, from the distances of its lower and its upper points.
-pub fn count_layer(lower: &[f32], upper: &[f32], k: Block, z: u32) -> Tally
-    requires { ⌜ InLayers (now lower) (now upper) k z ⌝ }
-    ensures { λ r. ⌜ r ≡ tallyOf (twoLayers (now (lower .entry)) (now (upper .entry)) k z) (boxOf k) (flagsOf k) (layerCells (boxOf k) z) ⌝ }
+pub fn count_layer(
+    width: u32,
+    lower: &[f32],
+    upper: &[f32],
+    lower16: &[i16],
+    upper16: &[i16],
+    lower8: &[i8],
+    upper8: &[i8],
+    k: Block,
+    z: u32,
+) -> Tally
+    requires { ⌜ InLayers (gridGiven width lower lower16 lower8) (gridGiven width upper upper16 upper8) k z ⌝ }
+    ensures { λ r. ⌜ r ≡ tallyOf (twoLayers (gridBefore width lower lower16 lower8) (gridBefore width upper upper16 upper8) k z) (boxOf k) (flagsOf k) (layerCells (boxOf k) z) ⌝ }
 {
     let from = k.low.y;
     let end = k.high.y;
     let mut vertices = 0usize;
     let mut indices = 0usize;
     for y in from..end {
-        let one = count_row(lower, upper, k, y, z);
+        let one = count_row(
+            width,
+            lower,
+            upper,
+            lower16,
+            upper16,
+            lower8,
+            upper8,
+            k,
+            y,
+            z,
+        );
         vertices += one.vertices;
         indices += one.indices;
     }
@@ -147,31 +270,51 @@ pub fn count_layer(lower: &[f32], upper: &[f32], k: Block, z: u32) -> Tally
 }
 
 // The layer z of a whole grid, whose parts are lent.
-fn count_part(sdf: &[f32], k: Block, z: u32) -> Tally
-    requires { ⌜ Inside (now sdf) k ⌝ }
+fn count_part(width: u32, sdf: &[f32], sdf16: &[i16], sdf8: &[i8], k: Block, z: u32) -> Tally
+    requires { ⌜ Inside (gridGiven width sdf sdf16 sdf8) k ⌝ }
     requires { ⌜ (k .low .z ≤ z) × (z < k .high .z) ⌝ }
-    ensures { λ r. ⌜ r ≡ tallyOf (fieldOf (now (sdf .entry)) k) (boxOf k) (flagsOf k) (layerCells (boxOf k) z) ⌝ }
+    ensures { λ r. ⌜ r ≡ tallyOf (fieldOf (gridBefore width sdf sdf16 sdf8) k) (boxOf k) (flagsOf k) (layerCells (boxOf k) z) ⌝ }
 {
     let plane = (k.dims.x as usize) * (k.dims.y as usize);
     let start = plane * (z as usize);
     let end = start + plane;
-    count_layer(&sdf[start..end], &sdf[end..], k, z)
+    let fs = grid::values::float_place(width, start);
+    let fe = grid::values::float_place(width, end);
+    let ss = grid::values::sixteen_place(width, start);
+    let se = grid::values::sixteen_place(width, end);
+    let bs = grid::values::eight_place(width, start);
+    let be = grid::values::eight_place(width, end);
+    count_layer(
+        width,
+        &sdf[fs..fe],
+        &sdf[fe..],
+        &sdf16[ss..se],
+        &sdf16[se..],
+        &sdf8[bs..be],
+        &sdf8[be..],
+        k,
+        z,
+    )
 }
 
 // One walk serves both: a layer of points is tried just before the cells below it are counted, while it is at hand.
-pub fn count_box(sdf: &[f32], k: Block) -> Findings
-    requires { ⌜ Inside (now sdf) k ⌝ }
-    ensures { λ r. ⌜ r .bad ≡ badDistance (fieldOf (now (sdf .entry)) k) (boxOf k) ⌝ }
-    ensures { λ r. ⌜ counts r ≡ tallyOf (fieldOf (now (sdf .entry)) k) (boxOf k) (flagsOf k) (cells (boxOf k)) ⌝ }
+pub fn count_box(width: u32, sdf: &[f32], sdf16: &[i16], sdf8: &[i8], k: Block) -> Findings
+    requires { ⌜ Inside (gridGiven width sdf sdf16 sdf8) k ⌝ }
+    requires { ⌜ (Wholes 16 (now sdf16) × Wholes 8 (now sdf8)) ⌝ }
+    ensures { λ r. ⌜ r .bad ≡ badDistance (fieldOf (gridBefore width sdf sdf16 sdf8) k) (boxOf k) ⌝ }
+    ensures { λ r. ⌜ counts r ≡ tallyOf (fieldOf (gridBefore width sdf sdf16 sdf8) k) (boxOf k) (flagsOf k) (cells (boxOf k)) ⌝ }
 {
     let from = k.low.z;
     let end = k.high.z;
-    let mut bad = grid::scan::bad_layer(sdf, k, from);
+    let mut bad = grid::scan::bad_layer(width, sdf, sdf16, sdf8, k, from);
     let mut vertices = 0usize;
     let mut indices = 0usize;
     for z in from..end {
-        bad = grid::scan::either(bad, grid::scan::bad_layer(sdf, k, z + 1));
-        let one = count_part(sdf, k, z);
+        bad = grid::scan::either(
+            bad,
+            grid::scan::bad_layer(width, sdf, sdf16, sdf8, k, z + 1),
+        );
+        let one = count_part(width, sdf, sdf16, sdf8, k, z);
         vertices += one.vertices;
         indices += one.indices;
     }

@@ -1,5 +1,5 @@
 -- Laws of the grid that belong to no one function: what the conditions leave, the tests against the cap, where rows and cells stand, what
--- holds in a turn of a loop, which corner values are read, and which parts of a grid are its layers. Assumes nothing.
+-- holds in a turn of a loop, which corner values are read, which parts of a grid are its layers, and which of three lists a width means. Assumes nothing.
 pub mod Tests
 pub mod Faults
 pub mod Lengths
@@ -15,3 +15,6 @@ pub mod Layers
 pub mod LayerWalks
 pub mod Slab
 pub mod Parts
+pub mod Widths
+pub mod Told
+pub mod Places

@@ -84,6 +84,11 @@ module _ (sdf : List Float) (k : Block) (i : Inside sdf k) (z : ℕ) (zs : (k .l
         upperHolds = omega (arith, last, length-rest (plane * z + plane) sdf);
       }
 
+  -- lists that are these parts
+  pub layers-lent : {lower upper : List Float} → lower ≡ part (k .dims .x * k .dims .y * z) (k .dims .x * k .dims .y) sdf
+      → upper ≡ rest (k .dims .x * k .dims .y * z + k .dims .x * k .dims .y) sdf → InLayers lower upper k z
+  layers-lent e u = rw (e, u) in-layers
+
   -- the layer's part of a map that is as long as the grid
   pub corner-lent : (l : List ℕ) → length sdf ≤ length l → inLayer (point (k .dims)) (point (k .high)) < length (part (k .dims .x * k .dims .y * z) (k .dims .x * k .dims .y) l)
   corner-lent l h = omega (arith, corner-in, length-part (plane * z) plane l (omega (arith, layer-end)))

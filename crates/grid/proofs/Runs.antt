@@ -1,21 +1,23 @@
 -- Condition 5 of a run of distances, of a row, a layer and a box: each is the one below it over a list that grows at its end.
 -- Assumes nothing.
-use Prim.Native.Nat.{ℕ, _+_, _-_, _≤_}
+use Prim.Native.Nat.{ℕ, _+_, _-_, _≤_, _<_}
 use native.Mathlib.Nat.{le-refl}
 use native.Mathlib.Numerals.{add-one}
 use native.Mathlib.Omega.{arith}
-use mathlib.Core.Bool.{Bool, false, _||_, or-false}
+use mathlib.Core.Bool.{Bool, false, not, _||_, or-false}
 use mathlib.Core.List.{List, [], _∷_, _++_, map}
 use mathlib.Core.Path.{_≡_, refl, sym, ap, _∙_}
+use lib.Dec.{T, eqb, eqb→eq, eqb-refl, T-not}
 use lib.ListN.{getD}
 use lib.Ieee.{Float, nan}
-use Rattle.lists.specs.Lists.{run, upTo, some}
-use Rattle.rules.specs.Grid.{GridPoint, index, value}
-use Rattle.rules.specs.Faces.{layerPoints}
+use Rattle.lists.specs.Lists.{run, upTo, some, below, many}
+use Rattle.rules.specs.Grid.{GridPoint, Box, Field, index, value}
+use Rattle.rules.specs.Faces.{layerPoints, pointLayers}
 use Rattle.rules.specs.Call.{beyond, badLayer, badDistance}
 use Rattle.lists.proofs.Lists.{all-each}
-use Rattle.lists.proofs.Some.{some-append, some-joined, some-map, some-same}
-use Rattle.lists.proofs.Runs.{upTo-last, upTo-none}
+use Rattle.lists.proofs.Some.{some-append, some-joined, some-map, some-same, some-has}
+use Rattle.lists.proofs.Runs.{upTo-last, upTo-none, upTo-once}
+use Rattle.lists.proofs.Tests.{is-false, one-of, below-in}
 use Rattle.grid.specs.declared.Block.{Block}
 use Rattle.grid.specs.Block.{point, boxOf, fieldOf}
 use Rattle.grid.specs.Inside.{badRun}
@@ -76,3 +78,11 @@ layer-is l k z =
 pub box-is : (l : List Float) (k : Block) → some (badLayer (fieldOf l k) (boxOf k)) (upTo (k .low .z) (k .high .z + 1)) ≡ badDistance (fieldOf l k) (boxOf k)
 unfolding badDistance
 box-is l k = refl
+
+-- a layer of a box of which no distance is beyond the cap
+pub layer-good : (g : Field) (b : Box) → T (not (badDistance g b)) → {z : ℕ} → (b .low .z ≤ z) × (z ≤ b .high .z) → false ≡ badLayer g b z
+unfolding badDistance
+layer-good g b ok {z} zs =
+    let here = below-in (b .low .z) (b .high .z + 1) z (zs .0) (omega arith) in
+    let held : 0 < many (eqb z) (pointLayers b) = omega (arith, upTo-once z (b .low .z) (b .high .z + 1), one-of (below (b .low .z) (b .high .z + 1) z) here) in
+    sym (is-false (badLayer g b z) (λ t. T-not (some (badLayer g b) (pointLayers b)) ok (some-has eqb eqb→eq eqb-refl (badLayer g b) z t (pointLayers b) held)))

@@ -6,3 +6,4 @@ pub mod Corners
 pub mod Order
 pub mod Layers
 pub mod Signs
+pub mod Values

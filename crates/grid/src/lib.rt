@@ -6,6 +6,7 @@ pub mod ownership;
 pub mod place;
 pub mod scan;
 pub mod signs;
+pub mod values;
 
 // Three numbers, one for each axis: dimensions, or a corner of a box.
 pub struct Extent {

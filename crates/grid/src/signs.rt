@@ -8,6 +8,7 @@ ghost use lib.ListN.{length};
 ghost use Rattle.lists.specs.Lists.{one};
 ghost use Rattle.grid.specs.Corners.{sideBetween};
 ghost use Rattle.grid.specs.Signs.{sideNegatives};
+ghost use Rattle.grid.specs.Values.{gridGiven, gridBefore};
 
 pub fn counted(yes: bool) -> u32
     ensures { λ r. ⌜ r ≡ one yes ⌝ }
@@ -17,12 +18,32 @@ pub fn counted(yes: bool) -> u32
 }
 
 // How many corners of a side are negative.
-pub fn side_negatives(lower: &[f32], upper: &[f32], at: usize, row: usize) -> u32
-    requires { ⌜ (at + row < length (now lower)) × (at + row < length (now upper)) ⌝ }
-    ensures { λ r. ⌜ r ≡ sideNegatives (sideBetween (now (lower .entry)) (now (upper .entry)) at row) ⌝ }
+pub fn side_negatives(
+    width: u32,
+    lower: &[f32],
+    upper: &[f32],
+    lower16: &[i16],
+    upper16: &[i16],
+    lower8: &[i8],
+    upper8: &[i8],
+    at: usize,
+    row: usize,
+) -> u32
+    requires { ⌜ (at + row < length (gridGiven width lower lower16 lower8)) × (at + row < length (gridGiven width upper upper16 upper8)) ⌝ }
+    ensures { λ r. ⌜ r ≡ sideNegatives (sideBetween (gridBefore width lower lower16 lower8) (gridBefore width upper upper16 upper8) at row) ⌝ }
     ensures { λ r. ⌜ r ≤ 4 ⌝ }
 {
-    let s = crate::corners::side_between(lower, upper, at, row);
+    let s = crate::corners::side_between(
+        width,
+        lower,
+        upper,
+        lower16,
+        upper16,
+        lower8,
+        upper8,
+        at,
+        row,
+    );
     let a = counted(cube::negative(s.a));
     let b = counted(cube::negative(s.b));
     let c = counted(cube::negative(s.c));

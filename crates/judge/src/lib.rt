@@ -4,6 +4,7 @@ ghost use Prim.Native.Nat.{_^_, _<_};
 ghost use Rattle.rules.specs.Call.{answer, roomAnswer};
 ghost use Rattle.grid.specs.Block.{callOf};
 ghost use Rattle.judge.specs.AsRules.{answerOf, roomOf};
+ghost use Rattle.grid.specs.Values.{asFloats, gridBefore};
 use grid::Block;
 
 // Document 01's answer number with V and I.
@@ -72,20 +73,48 @@ fn counted(number: u32, vertices: usize, indices: usize) -> Answer
     }
 }
 
-// The answer to a call on this grid with lists of these lengths. Any numbers may come.
-pub fn answer_for(sdf: &[f32], k: Block, room: Lengths) -> Answer
-    ensures { λ r. ⌜ answerOf r ≡ answer (callOf (now (sdf .entry)) k) (roomOf room) ⌝ }
+// The answer to a call on the grid of this width with lists of these lengths. Any numbers may come.
+pub fn answer_at(
+    width: u32,
+    sdf: &[f32],
+    sdf16: &[i16],
+    sdf8: &[i8],
+    k: Block,
+    room: Lengths,
+) -> Answer
+    ensures { λ r. ⌜ answerOf r ≡ answer (callOf (gridBefore width sdf sdf16 sdf8) k) (roomOf room) ⌝ }
 {
-    let fault = grid::checks::first_fault(k, sdf.len());
+    let fault = grid::values::first_fault_of(k, width, sdf, sdf16, sdf8);
     if fault != 0 {
         return refused(fault);
     }
-    if room.map < sdf.len() {
+    if room.map < grid::values::length_of(width, sdf, sdf16, sdf8) {
         return refused(4);
     }
-    let t = count::count_box(sdf, k);
+    let t = count::count_box(width, sdf, sdf16, sdf8, k);
     if t.bad {
         return refused(5);
     }
     room_answer(t.vertices, t.indices, room)
+}
+
+// On a grid of floats.
+pub fn answer_for(sdf: &[f32], k: Block, room: Lengths) -> Answer
+    ensures { λ r. ⌜ answerOf r ≡ answer (callOf (now (sdf .entry)) k) (roomOf room) ⌝ }
+{
+    answer_at(32, sdf, &[], &[], k, room)
+}
+
+// On a grid of 16-bit numbers.
+pub fn answer_for_i16(sdf: &[i16], k: Block, room: Lengths) -> Answer
+    ensures { λ r. ⌜ answerOf r ≡ answer (callOf (asFloats (now (sdf .entry))) k) (roomOf room) ⌝ }
+{
+    answer_at(16, &[], sdf, &[], k, room)
+}
+
+// On a grid of 8-bit numbers.
+pub fn answer_for_i8(sdf: &[i8], k: Block, room: Lengths) -> Answer
+    ensures { λ r. ⌜ answerOf r ≡ answer (callOf (asFloats (now (sdf .entry))) k) (roomOf room) ⌝ }
+{
+    answer_at(8, &[], &[], sdf, k, room)
 }

@@ -10,30 +10,56 @@ ghost use Rattle.lists.specs.Lists.{upTo};
 ghost use Rattle.rules.specs.Vertices.{layerVertices, vertexPosition, vertexNormal, vertexCrossings};
 ghost use Rattle.rules.specs.Call.{flatVectors, flatPoints};
 ghost use Rattle.grid.specs.Block.{boxOf};
-ghost use Rattle.grid.specs.Layers.{twoLayers, InLayers};
+ghost use Rattle.grid.specs.Layers.{InLayers};
+ghost use Rattle.grid.specs.Values.{gridGiven, gridBefore, layersGiven, layersBefore};
 ghost use Rattle.layer_estimates.specs.Estimates.{RoomFor, lists, written, estimated, Batch, Gathered, Solved, vertexAt};
 use cube::Point;
 use grid::Block;
 
 // The eight corner values of the cells `from` to `from + n` of the list, corner by corner: corner i of the j-th stands at 32 i + j.
 fn gather(
+    width: u32,
     lower: &[f32],
     upper: &[f32],
+    lower16: &[i16],
+    upper16: &[i16],
+    lower8: &[i8],
+    upper8: &[i8],
     row: usize,
     cells: &[u32],
     from: usize,
     n: usize,
     corners: &mut [f32],
 )
-    requires { ⌜ Batch (now lower) (now upper) row (now cells) from n ⌝ }
+    requires { ⌜ Batch (gridGiven width lower lower16 lower8) (gridGiven width upper upper16 upper8) row (now cells) from n ⌝ }
     requires { ⌜ length (now corners) ≡ 256 ⌝ }
-    ensures { λ r. ⌜ Gathered (now (lower .entry)) (now (upper .entry)) row (now (cells .entry)) from (now (corners .exit)) n ⌝ }
+    ensures { λ r. ⌜ Gathered (gridBefore width lower lower16 lower8) (gridBefore width upper upper16 upper8) row (now (cells .entry)) from (now (corners .exit)) n ⌝ }
 {
     for j in 0usize..n {
         let c = 3 * (from + j);
         let at = (cells[c] as usize) + row * (cells[c + 1] as usize);
-        let low = grid::corners::side_between(lower, upper, at, row);
-        let high = grid::corners::side_between(lower, upper, at + 1, row);
+        let low = grid::corners::side_between(
+            width,
+            lower,
+            upper,
+            lower16,
+            upper16,
+            lower8,
+            upper8,
+            at,
+            row,
+        );
+        let high = grid::corners::side_between(
+            width,
+            lower,
+            upper,
+            lower16,
+            upper16,
+            lower8,
+            upper8,
+            at + 1,
+            row,
+        );
         corners[j] = low.a;
         corners[32 + j] = high.a;
         corners[64 + j] = low.b;
@@ -119,8 +145,13 @@ fn put(
 
 // n cells, at most 32.
 fn estimate_some(
+    width: u32,
     lower: &[f32],
     upper: &[f32],
+    lower16: &[i16],
+    upper16: &[i16],
+    lower8: &[i8],
+    upper8: &[i8],
     row: usize,
     cells: &[u32],
     from: usize,
@@ -130,17 +161,30 @@ fn estimate_some(
     normals: &mut [f32],
     crossings: &mut [u8],
 )
-    requires { ⌜ Batch (now lower) (now upper) row (now cells) from n ⌝ }
+    requires { ⌜ Batch (gridGiven width lower lower16 lower8) (gridGiven width upper upper16 upper8) row (now cells) from n ⌝ }
     requires { ⌜ RoomFor (place + n) (now positions) (now normals) (now crossings) ⌝ }
     ensures { λ r. ⌜ lists (now (positions .exit)) (now (normals .exit)) (now (crossings .exit))
-        ≡ written place (map (estimated (now (lower .entry)) (now (upper .entry)) row (now (cells .entry))) (upTo from (from + n)))
+        ≡ written place (map (estimated (gridBefore width lower lower16 lower8) (gridBefore width upper upper16 upper8) row (now (cells .entry))) (upTo from (from + n)))
         (lists (now (positions .entry)) (now (normals .entry)) (now (crossings .entry))) ⌝ }
 {
     let mut corners = [0.0f32; 256];
     let mut centroids = [0.0f32; 96];
     let mut gradients = [0.0f32; 96];
     let mut counts = [0u8; 32];
-    gather(lower, upper, row, cells, from, n, &mut corners);
+    gather(
+        width,
+        lower,
+        upper,
+        lower16,
+        upper16,
+        lower8,
+        upper8,
+        row,
+        cells,
+        from,
+        n,
+        &mut corners,
+    );
     solve(&corners, &mut centroids, &mut gradients, &mut counts);
     put(
         cells,
@@ -167,8 +211,13 @@ fn lesser(a: usize, b: usize) -> usize
 
 // All cells of the layer z, which `cells` holds in their order and nothing else: their vertices to the lists from a place on.
 pub fn estimate_layer(
+    width: u32,
     lower: &[f32],
     upper: &[f32],
+    lower16: &[i16],
+    upper16: &[i16],
+    lower8: &[i8],
+    upper8: &[i8],
     k: Block,
     z: u32,
     cells: &[u32],
@@ -177,14 +226,15 @@ pub fn estimate_layer(
     normals: &mut [f32],
     crossings: &mut [u8],
 )
-    requires { ⌜ InLayers (now lower) (now upper) k z ⌝ }
-    requires { ⌜ now cells ≡ flatPoints (layerVertices (twoLayers (now lower) (now upper) k z) (boxOf k) z) ⌝ }
-    requires { ⌜ RoomFor (place + length (layerVertices (twoLayers (now lower) (now upper) k z) (boxOf k) z)) (now positions) (now normals) (now crossings) ⌝ }
-    ensures { λ r. ⌜ (let g = twoLayers (now (lower .entry)) (now (upper .entry)) k z in
+    requires { ⌜ InLayers (gridGiven width lower lower16 lower8) (gridGiven width upper upper16 upper8) k z ⌝ }
+    requires { ⌜ now cells ≡ flatPoints (layerVertices (layersGiven width lower upper lower16 upper16 lower8 upper8 k z) (boxOf k) z) ⌝ }
+    requires { ⌜ RoomFor (place + length (layerVertices (layersGiven width lower upper lower16 upper16 lower8 upper8 k z) (boxOf k) z))
+        (now positions) (now normals) (now crossings) ⌝ }
+    ensures { λ r. ⌜ (let g = layersBefore width lower upper lower16 upper16 lower8 upper8 k z in
         now (positions .exit) ≡ sets (now (positions .entry)) (3 * place) (flatVectors (map (vertexPosition g) (layerVertices g (boxOf k) z)))) ⌝ }
-    ensures { λ r. ⌜ (let g = twoLayers (now (lower .entry)) (now (upper .entry)) k z in
+    ensures { λ r. ⌜ (let g = layersBefore width lower upper lower16 upper16 lower8 upper8 k z in
         now (normals .exit) ≡ sets (now (normals .entry)) (3 * place) (flatVectors (map (vertexNormal g) (layerVertices g (boxOf k) z)))) ⌝ }
-    ensures { λ r. ⌜ (let g = twoLayers (now (lower .entry)) (now (upper .entry)) k z in
+    ensures { λ r. ⌜ (let g = layersBefore width lower upper lower16 upper16 lower8 upper8 k z in
         now (crossings .exit) ≡ sets (now (crossings .entry)) place (map (vertexCrossings g) (layerVertices g (boxOf k) z))) ⌝ }
 {
     let row = k.dims.x as usize;
@@ -193,8 +243,13 @@ pub fn estimate_layer(
     while done < count {
         let n = lesser(32, count - done);
         estimate_some(
+            width,
             lower,
             upper,
+            lower16,
+            upper16,
+            lower8,
+            upper8,
             row,
             cells,
             done,

@@ -21,7 +21,8 @@ ghost use Rattle.rules.specs.Grid.{axisX, axisY, axisZ, isCell};
 ghost use Rattle.rules.specs.Faces.{edge, gives, layerEdges};
 ghost use Rattle.cube.specs.AsRules.{vector};
 ghost use Rattle.grid.specs.Block.{point, boxOf, flagsOf};
-ghost use Rattle.grid.specs.Layers.{inLayer, twoLayers, InLayers};
+ghost use Rattle.grid.specs.Layers.{inLayer, InLayers};
+ghost use Rattle.grid.specs.Values.{gridGiven, gridBefore, layersGiven, layersBefore};
 ghost use Rattle.layer_faces.specs.Below.{nowhere, positionAt, faceOver, indicesOver, Standing};
 ghost use Rattle.layer_faces.specs.Quads.{seen, quadOf, Reaches, looked, Cells, listed, placeAt, own, axisOf, way2, way3, way4, Ready, quadBy, someEdges, Lesser, Batch};
 use cube::Point;
@@ -177,20 +178,30 @@ fn make_quad(
 // ---- The edges of a batch of vertices that give a face, listed first, so that no branch hangs on a sign.
 
 // Which of the three edges from the lowest corner of the cell c give a face.
-fn giving(lower: &[f32], upper: &[f32], k: Block, c: Extent) -> EachAxis
-    requires { ⌜ InLayers (now lower) (now upper) k (c .z) ⌝ }
+fn giving(
+    width: u32,
+    lower: &[f32],
+    upper: &[f32],
+    lower16: &[i16],
+    upper16: &[i16],
+    lower8: &[i8],
+    upper8: &[i8],
+    k: Block,
+    c: Extent,
+) -> EachAxis
+    requires { ⌜ InLayers (gridGiven width lower lower16 lower8) (gridGiven width upper upper16 upper8) k (c .z) ⌝ }
     requires { ⌜ T (isCell (boxOf k) (point c)) ⌝ }
-    ensures { λ r. ⌜ r .x ≡ gives (twoLayers (now (lower .entry)) (now (upper .entry)) k (c .z)) (boxOf k) (flagsOf k) (edge axisX (point c)) ⌝ }
-    ensures { λ r. ⌜ r .y ≡ gives (twoLayers (now (lower .entry)) (now (upper .entry)) k (c .z)) (boxOf k) (flagsOf k) (edge axisY (point c)) ⌝ }
-    ensures { λ r. ⌜ r .z ≡ gives (twoLayers (now (lower .entry)) (now (upper .entry)) k (c .z)) (boxOf k) (flagsOf k) (edge axisZ (point c)) ⌝ }
+    ensures { λ r. ⌜ r .x ≡ gives (layersBefore width lower upper lower16 upper16 lower8 upper8 k (c .z)) (boxOf k) (flagsOf k) (edge axisX (point c)) ⌝ }
+    ensures { λ r. ⌜ r .y ≡ gives (layersBefore width lower upper lower16 upper16 lower8 upper8 k (c .z)) (boxOf k) (flagsOf k) (edge axisY (point c)) ⌝ }
+    ensures { λ r. ⌜ r .z ≡ gives (layersBefore width lower upper lower16 upper16 lower8 upper8 k (c .z)) (boxOf k) (flagsOf k) (edge axisZ (point c)) ⌝ }
 {
     let row = k.dims.x as usize;
     let cell = (c.x as usize) + row * (c.y as usize);
     let own = grid::ownership::owned_at(k, c);
-    let n = cube::negative(lower[cell]);
-    let nx = cube::negative(lower[cell + 1]);
-    let ny = cube::negative(lower[cell + row]);
-    let nz = cube::negative(upper[cell]);
+    let n = cube::negative(grid::values::value_at(width, lower, lower16, lower8, cell));
+    let nx = cube::negative(grid::values::value_at(width, lower, lower16, lower8, cell + 1));
+    let ny = cube::negative(grid::values::value_at(width, lower, lower16, lower8, cell + row));
+    let nz = cube::negative(grid::values::value_at(width, upper, upper16, upper8, cell));
     EachAxis {
         x: own.x & (n != nx),
         y: own.y & (n != ny),
@@ -211,8 +222,13 @@ fn list_edge(edges: &mut [u32], m: usize, e: u32, counts: bool) -> usize
 // Of the vertices `from` to `from + n` of the layer, at most 32: the edges that give a face, in their order, an edge along axis a (0, 1, 2) of the j-th
 // vertex as 3 j + a; and how many they are.
 fn list_edges(
+    width: u32,
     lower: &[f32],
     upper: &[f32],
+    lower16: &[i16],
+    upper16: &[i16],
+    lower8: &[i8],
+    upper8: &[i8],
     k: Block,
     z: u32,
     cells: &[u32],
@@ -220,13 +236,13 @@ fn list_edges(
     n: usize,
     edges: &mut [u32],
 ) -> usize
-    requires { ⌜ InLayers (now lower) (now upper) k z ⌝ }
+    requires { ⌜ InLayers (gridGiven width lower lower16 lower8) (gridGiven width upper upper16 upper8) k z ⌝ }
     requires { ⌜ Cells (boxOf k) z (now cells) (from + n) ⌝ }
     requires { ⌜ n ≤ 32 ⌝ }
     requires { ⌜ 3 * n ≤ length (now edges) ⌝ }
     ensures { λ r. ⌜ take r (now (edges .exit)) ≡
-        listed (twoLayers (now (lower .entry)) (now (upper .entry)) k z) (boxOf k) (flagsOf k) (now (cells .entry)) z from (3 * n) ⌝ }
-    ensures { λ r. ⌜ r ≡ length (listed (twoLayers (now (lower .entry)) (now (upper .entry)) k z) (boxOf k) (flagsOf k) (now (cells .entry)) z from (3 * n)) ⌝ }
+        listed (layersBefore width lower upper lower16 upper16 lower8 upper8 k z) (boxOf k) (flagsOf k) (now (cells .entry)) z from (3 * n) ⌝ }
+    ensures { λ r. ⌜ r ≡ length (listed (layersBefore width lower upper lower16 upper16 lower8 upper8 k z) (boxOf k) (flagsOf k) (now (cells .entry)) z from (3 * n)) ⌝ }
 {
     let mut m = 0usize;
     for j in 0usize..n {
@@ -236,7 +252,7 @@ fn list_edges(
             y: cells[i + 1],
             z,
         };
-        let t = giving(lower, upper, k, c);
+        let t = giving(width, lower, upper, lower16, upper16, lower8, upper8, k, c);
         let e = 3 * (j as u32);
         m = list_edge(edges, m, e, t.x);
         m = list_edge(edges, m, e + 1, t.y);
@@ -306,7 +322,10 @@ fn fourth_way(row: usize, axis: u32) -> Way
 
 // The first vertex is the edge's own; the other three are so many entries before it in the one map or the other.
 fn put_face(
+    width: u32,
     lower: &[f32],
+    lower16: &[i16],
+    lower8: &[i8],
     row: usize,
     first: Firsts,
     cells: &[u32],
@@ -319,11 +338,11 @@ fn put_face(
     indices: &mut [u32],
     at: usize,
 )
-    requires { ⌜ Ready (now lower) row (first .here) (now cells) (now map) (now positions) (now «map_below») (from + e / 3) (axisOf (e % 3)) ⌝ }
+    requires { ⌜ Ready (gridGiven width lower lower16 lower8) row (first .here) (now cells) (now map) (now positions) (now «map_below») (from + e / 3) (axisOf (e % 3)) ⌝ }
     requires { ⌜ at + 6 ≤ length (now indices) ⌝ }
     ensures { λ r. ⌜ now (indices .exit) ≡ sets (now (indices .entry)) at
-        (quadBy first (now (map .entry)) (now (positions .entry)) (now («map_below» .entry)) (now («positions_below» .entry)) (now (lower .entry)) row (now (cells .entry))
-        from e) ⌝ }
+        (quadBy first (now (map .entry)) (now (positions .entry)) (now («map_below» .entry)) (now («positions_below» .entry))
+        (gridBefore width lower lower16 lower8) row (now (cells .entry)) from e) ⌝ }
 {
     let v = from + ((e / 3) as usize);
     let axis = e % 3;
@@ -356,13 +375,26 @@ fn put_face(
         positions_below,
         cell,
     );
-    make_quad(v1, v2, v3, v4, cube::negative(lower[cell]), indices, at);
+    make_quad(
+        v1,
+        v2,
+        v3,
+        v4,
+        cube::negative(grid::values::value_at(width, lower, lower16, lower8, cell)),
+        indices,
+        at,
+    );
 }
 
 // The faces of n vertices, at most 32, and where the next one goes.
 fn face_some(
+    width: u32,
     lower: &[f32],
     upper: &[f32],
+    lower16: &[i16],
+    upper16: &[i16],
+    lower8: &[i8],
+    upper8: &[i8],
     k: Block,
     z: u32,
     first: Firsts,
@@ -376,22 +408,39 @@ fn face_some(
     indices: &mut [u32],
     at: usize,
 ) -> usize
-    requires { ⌜ InLayers (now lower) (now upper) k z ⌝ }
-    requires { ⌜ Standing (twoLayers (now lower) (now upper) k z) (boxOf k) (first .here) z (now cells) (now map) (now positions) ⌝ }
+    requires { ⌜ InLayers (gridGiven width lower lower16 lower8) (gridGiven width upper upper16 upper8) k z ⌝ }
+    requires { ⌜ Standing (layersGiven width lower upper lower16 upper16 lower8 upper8 k z) (boxOf k) (first .here) z (now cells) (now map) (now positions) ⌝ }
     requires { ⌜ (k .low .z < z → inLayer (point (k .dims)) (point (k .high)) < length (now «map_below»)) ⌝ }
-    requires { ⌜ Batch (twoLayers (now lower) (now upper) k z) (boxOf k) (flagsOf k) z from n (length (now indices)) at ⌝ }
+    requires { ⌜ Batch (layersGiven width lower upper lower16 upper16 lower8 upper8 k z) (boxOf k) (flagsOf k) z from n (length (now indices)) at ⌝ }
     ensures { λ r. ⌜ now (indices .exit) ≡ sets (now (indices .entry)) at
-        (joined (faceOver (twoLayers (now (lower .entry)) (now (upper .entry)) k z) (boxOf k) (first .here) z
+        (joined (faceOver (layersBefore width lower upper lower16 upper16 lower8 upper8 k z) (boxOf k) (first .here) z
         (record { map = now («map_below» .entry); positions = now («positions_below» .entry); first = first .below }))
-        (someEdges (twoLayers (now (lower .entry)) (now (upper .entry)) k z) (boxOf k) (flagsOf k) z from n)) ⌝ }
-    ensures { λ r. ⌜ r ≡ at + 6 * length (someEdges (twoLayers (now (lower .entry)) (now (upper .entry)) k z) (boxOf k) (flagsOf k) z from n) ⌝ }
+        (someEdges (layersBefore width lower upper lower16 upper16 lower8 upper8 k z) (boxOf k) (flagsOf k) z from n)) ⌝ }
+    ensures { λ r. ⌜ r ≡ at + 6 * length (someEdges (layersBefore width lower upper lower16 upper16 lower8 upper8 k z) (boxOf k) (flagsOf k) z from n) ⌝ }
 {
     let row = k.dims.x as usize;
     let mut edges = [0u32; 96];
-    let m = list_edges(lower, upper, k, z, cells, from, n, &mut edges);
+    let m = list_edges(
+        width,
+        lower,
+        upper,
+        lower16,
+        upper16,
+        lower8,
+        upper8,
+        k,
+        z,
+        cells,
+        from,
+        n,
+        &mut edges,
+    );
     for q in 0usize..m {
         put_face(
+            width,
             lower,
+            lower16,
+            lower8,
             row,
             first,
             cells,
@@ -419,8 +468,13 @@ fn lesser(a: usize, b: usize) -> usize
 
 // The layer z: the faces of its vertices, in their order, from a place of the indices on, and how many numbers they are.
 pub fn face_layer(
+    width: u32,
     lower: &[f32],
     upper: &[f32],
+    lower16: &[i16],
+    upper16: &[i16],
+    lower8: &[i8],
+    upper8: &[i8],
     k: Block,
     z: u32,
     first: Firsts,
@@ -432,14 +486,14 @@ pub fn face_layer(
     indices: &mut [u32],
     at: usize,
 ) -> usize
-    requires { ⌜ InLayers (now lower) (now upper) k z ⌝ }
-    requires { ⌜ Standing (twoLayers (now lower) (now upper) k z) (boxOf k) (first .here) z (now cells) (now map) (now positions) ⌝ }
+    requires { ⌜ InLayers (gridGiven width lower lower16 lower8) (gridGiven width upper upper16 upper8) k z ⌝ }
+    requires { ⌜ Standing (layersGiven width lower upper lower16 upper16 lower8 upper8 k z) (boxOf k) (first .here) z (now cells) (now map) (now positions) ⌝ }
     requires { ⌜ (k .low .z < z → inLayer (point (k .dims)) (point (k .high)) < length (now «map_below»)) ⌝ }
-    requires { ⌜ at + 6 * length (layerEdges (twoLayers (now lower) (now upper) k z) (boxOf k) (flagsOf k) z) ≤ length (now indices) ⌝ }
+    requires { ⌜ at + 6 * length (layerEdges (layersGiven width lower upper lower16 upper16 lower8 upper8 k z) (boxOf k) (flagsOf k) z) ≤ length (now indices) ⌝ }
     ensures { λ r. ⌜ now (indices .exit) ≡ sets (now (indices .entry)) at
-        (indicesOver (twoLayers (now (lower .entry)) (now (upper .entry)) k z) (boxOf k) (flagsOf k) (first .here) z
+        (indicesOver (layersBefore width lower upper lower16 upper16 lower8 upper8 k z) (boxOf k) (flagsOf k) (first .here) z
         (record { map = now («map_below» .entry); positions = now («positions_below» .entry); first = first .below })) ⌝ }
-    ensures { λ r. ⌜ r ≡ 6 * length (layerEdges (twoLayers (now (lower .entry)) (now (upper .entry)) k z) (boxOf k) (flagsOf k) z) ⌝ }
+    ensures { λ r. ⌜ r ≡ 6 * length (layerEdges (layersBefore width lower upper lower16 upper16 lower8 upper8 k z) (boxOf k) (flagsOf k) z) ⌝ }
 {
     let count = cells.len() / 3;
     let mut used = at;
@@ -447,8 +501,13 @@ pub fn face_layer(
     while done < count {
         let n = lesser(32, count - done);
         used = face_some(
+            width,
             lower,
             upper,
+            lower16,
+            upper16,
+            lower8,
+            upper8,
             k,
             z,
             first,

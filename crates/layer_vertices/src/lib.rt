@@ -14,7 +14,8 @@ ghost use Rattle.rules.specs.Grid.{index};
 ghost use Rattle.rules.specs.Call.{flatVectors, flatPoints};
 ghost use Rattle.grid.specs.Block.{point, boxOf};
 ghost use Rattle.grid.specs.Inside.{PointInside};
-ghost use Rattle.grid.specs.Layers.{inLayer, twoLayers, InLayers};
+ghost use Rattle.grid.specs.Layers.{inLayer, InLayers};
+ghost use Rattle.grid.specs.Values.{gridGiven, gridBefore, layersGiven, layersBefore};
 ghost use Rattle.layer_estimates.specs.Estimates.{RoomFor};
 ghost use Rattle.layer_vertices.specs.Marked.{marked, lastEntry, Room, InPart};
 ghost use Rattle.layer_vertices.specs.Cells.{pointsOf, hasVertex, blanked, found, Passes, RoomToFind, layerFound, classOf, classes, noneMarked, Numbering, Numbered};
@@ -61,14 +62,47 @@ fn class_entry(negatives: u32) -> u32
 }
 
 // n cells in a row, `at` being the place of the first one's lowest corner.
-fn class_row(lower: &[f32], upper: &[f32], at: usize, row: usize, n: usize, map: &mut [u32])
-    requires { ⌜ (at + n + row < length (now lower)) × (at + n + row < length (now upper)) ⌝ }
+fn class_row(
+    width: u32,
+    lower: &[f32],
+    upper: &[f32],
+    lower16: &[i16],
+    upper16: &[i16],
+    lower8: &[i8],
+    upper8: &[i8],
+    at: usize,
+    row: usize,
+    n: usize,
+    map: &mut [u32],
+)
+    requires { ⌜ (at + n + row < length (gridGiven width lower lower16 lower8)) × (at + n + row < length (gridGiven width upper upper16 upper8)) ⌝ }
     requires { ⌜ at + n ≤ length (now map) ⌝ }
-    ensures { λ _. ⌜ now (map .exit) ≡ sets (now (map .entry)) at (classes (now (lower .entry)) (now (upper .entry)) at row n) ⌝ }
+    ensures { λ _. ⌜ now (map .exit)
+        ≡ sets (now (map .entry)) at (classes (gridBefore width lower lower16 lower8) (gridBefore width upper upper16 upper8) at row n) ⌝ }
 {
     for j in 0usize..n {
-        let low = grid::signs::side_negatives(lower, upper, at + j, row);
-        let high = grid::signs::side_negatives(lower, upper, at + j + 1, row);
+        let low = grid::signs::side_negatives(
+            width,
+            lower,
+            upper,
+            lower16,
+            upper16,
+            lower8,
+            upper8,
+            at + j,
+            row,
+        );
+        let high = grid::signs::side_negatives(
+            width,
+            lower,
+            upper,
+            lower16,
+            upper16,
+            lower8,
+            upper8,
+            at + j + 1,
+            row,
+        );
         map[at + j] = class_entry(low + high);
     }
 }
@@ -208,8 +242,13 @@ fn number_row(
 
 // The row y of the layer z. The row's last point is no cell.
 fn find_row(
+    width: u32,
     lower: &[f32],
     upper: &[f32],
+    lower16: &[i16],
+    upper16: &[i16],
+    lower8: &[i8],
+    upper8: &[i8],
     k: Block,
     y: u32,
     z: u32,
@@ -218,12 +257,12 @@ fn find_row(
     strides: &mut [u32],
     map: &mut [u32],
 ) -> Next
-    requires { ⌜ InLayers (now lower) (now upper) k z ⌝ }
+    requires { ⌜ InLayers (gridGiven width lower lower16 lower8) (gridGiven width upper upper16 upper8) k z ⌝ }
     requires { ⌜ (k .low .y ≤ y) × (y < k .high .y) ⌝ }
     requires { ⌜ inLayer (point (k .dims)) (point (k .high)) < length (now map) ⌝ }
-    requires { ⌜ RoomToFind next (found (hasVertex (twoLayers (now lower) (now upper) k z) (boxOf k)) (rowCells (pointsOf (boxOf k)) z y))
+    requires { ⌜ RoomToFind next (found (hasVertex (layersGiven width lower upper lower16 upper16 lower8 upper8 k z) (boxOf k)) (rowCells (pointsOf (boxOf k)) z y))
         (findsGiven cells strides map) ⌝ }
-    ensures { λ r. ⌜ Passes (point (k .dims)) (hasVertex (twoLayers (now (lower .entry)) (now (upper .entry)) k z) (boxOf k)) next
+    ensures { λ r. ⌜ Passes (point (k .dims)) (hasVertex (layersBefore width lower upper lower16 upper16 lower8 upper8 k z) (boxOf k)) next
         (findsBefore cells strides map) (rowCells (pointsOf (boxOf k)) z y) r (findsAfter cells strides map) ⌝ }
 {
     let from = k.low.x;
@@ -231,7 +270,19 @@ fn find_row(
     let row = k.dims.x as usize;
     let at = (from as usize) + row * (y as usize);
     let last = at + (n as usize);
-    class_row(lower, upper, at, row, n as usize, map);
+    class_row(
+        width,
+        lower,
+        upper,
+        lower16,
+        upper16,
+        lower8,
+        upper8,
+        at,
+        row,
+        n as usize,
+        map,
+    );
     map[last] = NULL_VERTEX;
     number_row(
         k.dims,
@@ -263,8 +314,13 @@ fn clear_row(k: Block, y: u32, map: &mut [u32])
 
 // The layer z of cells: its surface cells, and the entries of its points. The layer's last row has no cells.
 fn find_layer(
+    width: u32,
     lower: &[f32],
     upper: &[f32],
+    lower16: &[i16],
+    upper16: &[i16],
+    lower8: &[i8],
+    upper8: &[i8],
     k: Block,
     z: u32,
     next: Next,
@@ -272,19 +328,34 @@ fn find_layer(
     strides: &mut [u32],
     map: &mut [u32],
 ) -> usize
-    requires { ⌜ InLayers (now lower) (now upper) k z ⌝ }
+    requires { ⌜ InLayers (gridGiven width lower lower16 lower8) (gridGiven width upper upper16 upper8) k z ⌝ }
     requires { ⌜ inLayer (point (k .dims)) (point (k .high)) < length (now map) ⌝ }
-    requires { ⌜ RoomToFind next (length (layerVertices (twoLayers (now lower) (now upper) k z) (boxOf k) z)) (findsGiven cells strides map) ⌝ }
+    requires { ⌜ RoomToFind next (length (layerVertices (layersGiven width lower upper lower16 upper16 lower8 upper8 k z) (boxOf k) z)) (findsGiven cells strides map) ⌝ }
     ensures { λ r. ⌜ findsAfter cells strides map
-        ≡ layerFound (twoLayers (now (lower .entry)) (now (upper .entry)) k z) (boxOf k) z next (findsBefore cells strides map) ⌝ }
-    ensures { λ r. ⌜ r ≡ length (layerVertices (twoLayers (now (lower .entry)) (now (upper .entry)) k z) (boxOf k) z) ⌝ }
+        ≡ layerFound (layersBefore width lower upper lower16 upper16 lower8 upper8 k z) (boxOf k) z next (findsBefore cells strides map) ⌝ }
+    ensures { λ r. ⌜ r ≡ length (layerVertices (layersBefore width lower upper lower16 upper16 lower8 upper8 k z) (boxOf k) z) ⌝ }
 {
     let from = k.low.y;
     let end = k.high.y;
     let first = next.place;
     let mut state = next;
     for y in from..end {
-        state = find_row(lower, upper, k, y, z, state, cells, strides, map);
+        state = find_row(
+            width,
+            lower,
+            upper,
+            lower16,
+            upper16,
+            lower8,
+            upper8,
+            k,
+            y,
+            z,
+            state,
+            cells,
+            strides,
+            map,
+        );
     }
     clear_row(k, end, map);
     state.place - first
@@ -292,8 +363,13 @@ fn find_layer(
 
 // The vertices of `count` surface cells that the list holds from a place on, at the same place of their lists.
 fn estimate_part(
+    width: u32,
     lower: &[f32],
     upper: &[f32],
+    lower16: &[i16],
+    upper16: &[i16],
+    lower8: &[i8],
+    upper8: &[i8],
     k: Block,
     z: u32,
     place: usize,
@@ -303,23 +379,28 @@ fn estimate_part(
     normals: &mut [f32],
     crossings: &mut [u8],
 )
-    requires { ⌜ InLayers (now lower) (now upper) k z ⌝ }
-    requires { ⌜ count ≡ length (layerVertices (twoLayers (now lower) (now upper) k z) (boxOf k) z) ⌝ }
+    requires { ⌜ InLayers (gridGiven width lower lower16 lower8) (gridGiven width upper upper16 upper8) k z ⌝ }
+    requires { ⌜ count ≡ length (layerVertices (layersGiven width lower upper lower16 upper16 lower8 upper8 k z) (boxOf k) z) ⌝ }
     requires { ⌜ 3 * (place + count) ≤ length (now cells) ⌝ }
-    requires { ⌜ take (3 * count) (drop (3 * place) (now cells)) ≡ flatPoints (layerVertices (twoLayers (now lower) (now upper) k z) (boxOf k) z) ⌝ }
+    requires { ⌜ take (3 * count) (drop (3 * place) (now cells)) ≡ flatPoints (layerVertices (layersGiven width lower upper lower16 upper16 lower8 upper8 k z) (boxOf k) z) ⌝ }
     requires { ⌜ RoomFor (place + count) (now positions) (now normals) (now crossings) ⌝ }
-    ensures { λ r. ⌜ (let g = twoLayers (now (lower .entry)) (now (upper .entry)) k z in
+    ensures { λ r. ⌜ (let g = layersBefore width lower upper lower16 upper16 lower8 upper8 k z in
         now (positions .exit) ≡ sets (now (positions .entry)) (3 * place) (flatVectors (each (vertexPosition g) (layerVertices g (boxOf k) z)))) ⌝ }
-    ensures { λ r. ⌜ (let g = twoLayers (now (lower .entry)) (now (upper .entry)) k z in
+    ensures { λ r. ⌜ (let g = layersBefore width lower upper lower16 upper16 lower8 upper8 k z in
         now (normals .exit) ≡ sets (now (normals .entry)) (3 * place) (flatVectors (each (vertexNormal g) (layerVertices g (boxOf k) z)))) ⌝ }
-    ensures { λ r. ⌜ (let g = twoLayers (now (lower .entry)) (now (upper .entry)) k z in
+    ensures { λ r. ⌜ (let g = layersBefore width lower upper lower16 upper16 lower8 upper8 k z in
         now (crossings .exit) ≡ sets (now (crossings .entry)) place (each (vertexCrossings g) (layerVertices g (boxOf k) z))) ⌝ }
 {
     let here = 3 * place;
     let end = here + 3 * count;
     layer_estimates::estimate_layer(
+        width,
         lower,
         upper,
+        lower16,
+        upper16,
+        lower8,
+        upper8,
         k,
         z,
         &cells[here..end],
@@ -332,8 +413,13 @@ fn estimate_part(
 
 // The layer z of cells: how many vertices it has, all of them in the lists and their numbers in the layer's part of the map.
 pub fn mark_layer(
+    width: u32,
     lower: &[f32],
     upper: &[f32],
+    lower16: &[i16],
+    upper16: &[i16],
+    lower8: &[i8],
+    upper8: &[i8],
     k: Block,
     z: u32,
     next: Next,
@@ -344,17 +430,37 @@ pub fn mark_layer(
     crossings: &mut [u8],
     map: &mut [u32],
 ) -> usize
-    requires { ⌜ InLayers (now lower) (now upper) k z ⌝ }
+    requires { ⌜ InLayers (gridGiven width lower lower16 lower8) (gridGiven width upper upper16 upper8) k z ⌝ }
     requires { ⌜ inLayer (point (k .dims)) (point (k .high)) < length (now map) ⌝ }
-    requires { ⌜ Room next (length (layerVertices (twoLayers (now lower) (now upper) k z) (boxOf k) z)) (listsGiven positions normals cells strides crossings map) ⌝ }
+    requires { ⌜ Room next (length (layerVertices (layersGiven width lower upper lower16 upper16 lower8 upper8 k z) (boxOf k) z))
+        (listsGiven positions normals cells strides crossings map) ⌝ }
     ensures { λ r. ⌜ listsAfter positions normals cells strides crossings map
-        ≡ marked (twoLayers (now (lower .entry)) (now (upper .entry)) k z) (boxOf k) z next (listsBefore positions normals cells strides crossings map) ⌝ }
-    ensures { λ r. ⌜ r ≡ length (layerVertices (twoLayers (now (lower .entry)) (now (upper .entry)) k z) (boxOf k) z) ⌝ }
+        ≡ marked (layersBefore width lower upper lower16 upper16 lower8 upper8 k z) (boxOf k) z next (listsBefore positions normals cells strides crossings map) ⌝ }
+    ensures { λ r. ⌜ r ≡ length (layerVertices (layersBefore width lower upper lower16 upper16 lower8 upper8 k z) (boxOf k) z) ⌝ }
 {
-    let count = find_layer(lower, upper, k, z, next, cells, strides, map);
-    estimate_part(
+    let count = find_layer(
+        width,
         lower,
         upper,
+        lower16,
+        upper16,
+        lower8,
+        upper8,
+        k,
+        z,
+        next,
+        cells,
+        strides,
+        map,
+    );
+    estimate_part(
+        width,
+        lower,
+        upper,
+        lower16,
+        upper16,
+        lower8,
+        upper8,
         k,
         z,
         next.place,

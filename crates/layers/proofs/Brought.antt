@@ -117,10 +117,15 @@ module _ {s : State} {layer distances : List Float} (r : Ready s layer distances
       subst (λ (lower : List Float). Standing (twoLayers lower layer k z) b first z cs (take (at + length layer - at) (drop at mp)) ps) (sym lower-is)
       (subst (λ (l : List ℕ). Standing (between s layer distances) b first z cs l ps) (sym (half-read k (before s) mp (r .offered .long) ea)) h)
 
-  pub edges-lent : 6 * length (layerEdges (twoLayers (take (at + length layer - at) (drop at distances)) layer (s .block) (cellsAt s)) (boxOf (s .block)) (flagsOf (s .block))
+  edges-lent : 6 * length (layerEdges (twoLayers (take (at + length layer - at) (drop at distances)) layer (s .block) (cellsAt s)) (boxOf (s .block)) (flagsOf (s .block))
       (cellsAt s))
       ≡ 6 * length (layerEdges (between s layer distances) (boxOf (s .block)) (flagsOf (s .block)) (cellsAt s))
   edges-lent = ap (λ (lower : List Float). 6 * length (layerEdges (twoLayers lower layer k z) b (flagsOf k) z)) lower-is
+
+  pub edges-fit : {n : ℕ} → 6 * length (layerEdges (between s layer distances) (boxOf (s .block)) (flagsOf (s .block)) (cellsAt s)) ≤ n
+      → 0 + 6 * length (layerEdges (twoLayers (take (at + length layer - at) (drop at distances)) layer (s .block) (cellsAt s)) (boxOf (s .block)) (flagsOf (s .block))
+      (cellsAt s)) ≤ n
+  edges-fit h = omega (arith, edges-lent, h)
 
   module _ {under : ℕ} (eu : under ≡ length layer * (s .taken % 2)) (mp : List ℕ) (long : 2 * plane (s .block) ≤ length mp) where
     pub under-corner : inLayer (point (s .block .dims)) (point (s .block .high)) < length (take (under + length layer - under) (drop under mp))

@@ -3,7 +3,7 @@ use Prim.Native.Nat.{ℕ, _+_, _-_, _*_, _≤_, _<_}
 use native.Mathlib.Nat.{mul-one, mul-le-mul-left, le-trans, le-of-eq}
 use native.Mathlib.Omega.{arith}
 use mathlib.Core.Bool.{Bool, true, false, not, _||_}
-use mathlib.Core.List.{List}
+use mathlib.Core.List.{List, []}
 use mathlib.Core.Path.{_≡_, refl, sym, ap, _∙_}
 use borrow.Author.Tests.{le-ltb, le-leb, lt-leb, eq-eqb, ne-eqb}
 use lib.Dec.{T, eqb, ltb, leb, nltb→le}
@@ -18,6 +18,7 @@ use Rattle.rules.proofs.Indexes.{BoxFits, box-fits}
 use Rattle.grid.specs.declared.Block.{Block}
 use Rattle.grid.specs.Block.{point, boxOf, fieldOf}
 use Rattle.grid.specs.Inside.{Inside}
+use Rattle.grid.specs.Values.{Wholes}
 use Rattle.grid.proofs.Bounds.{few}
 use Rattle.layers.specs.declared.State.{State}
 use Rattle.layers.specs.Memory.{Memory, Lengths, lengths, plane, badMemory, startAnswer}
@@ -68,6 +69,10 @@ module _ (k : Block) (layer : List Float) (o : Layer k layer) where
   pub flat-inside : Inside layer (flat k)
   unfolding badLength
   flat-inside = record { dims = flat-dims; box = flat-box; size = rw (eq-eqb (length layer) (plane k * 1) (o .long ∙ sym (mul-one (plane k)))) tt }
+
+-- no whole numbers are lent with it
+pub no-numbers : (w : ℕ) → Wholes w []
+no-numbers w i h = absurd (omega arith)
 
 or-false : (t : Bool) → (t || false) ≡ t
 or-false true = refl

@@ -75,7 +75,7 @@ fn bad_points(layer: &[f32], k: Block) -> bool
         high,
         max_plane,
     };
-    grid::scan::bad_distance(layer, flat)
+    grid::scan::bad_distance(32, layer, &[], &[], flat)
 }
 
 // V and I of the cells below the layer offered: none below the first.
@@ -95,7 +95,17 @@ fn count_below(s: State, layer: &[f32], distances: &[f32]) -> Tally
     let plane = layer.len();
     let at = keeping::half(plane, t);
     let end = at + plane;
-    count::count_layer(&distances[at..end], layer, k, k.low.z + t)
+    count::count_layer(
+        32,
+        &distances[at..end],
+        layer,
+        &[],
+        &[],
+        &[],
+        &[],
+        k,
+        k.low.z + t,
+    )
 }
 
 // The answer to a layer. Any state and any lists may come.

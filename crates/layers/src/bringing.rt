@@ -59,8 +59,13 @@ fn mark_kept(
     let end = at + plane;
     let next = Next { place: 0, number };
     layer_vertices::mark_layer(
+        32,
         &distances[at..end],
         layer,
+        &[],
+        &[],
+        &[],
+        &[],
         k,
         k.low.z + t,
         next,
@@ -107,8 +112,13 @@ fn face_kept(
     let under_end = under + plane;
     let last = 3 * count;
     layer_faces::face_layer(
+        32,
         &distances[at..end],
         layer,
+        &[],
+        &[],
+        &[],
+        &[],
         k,
         k.low.z + t,
         first,

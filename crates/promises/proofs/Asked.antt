@@ -1,5 +1,6 @@
 -- bed_answer and bed_surface_nets: the answer alone is the answer of the call on lists of these lengths, with V and I; and what it tells is enough: the
--- same call with a map as long as the grid and room for these V and I is not refused with 6 or 7, and every other answer stays. Assumes nothing.
+-- same call with a map as long as the grid and room for these V and I is not refused with 6 or 7, and every other answer stays. Said once over a question
+-- and a call of document 01, of whatever width; here of floats, in WholeAsked of whole numbers. Assumes nothing.
 use Prim.Native.Nat.{ℕ, _*_, _≤_}
 use native.Mathlib.Nat.{le-refl}
 use native.Mathlib.Omega.{arith}
@@ -14,7 +15,8 @@ use Rattle.rules.specs.Call.{badDimensions, badBox, badLength, badDistance, bad
 use Rattle.judge.proofs.Judging.{Enough, room-enough}
 use Rattle.surface_nets.specs.AsRules.{callMade}
 use Rattle.bed.proofs.Places.{AskCall, gridAsked, dimsAsked, lowAsked, highAsked, planeAsked, lengthsAsked, answerAsked, answer-by-place}
-use Rattle.promises.specs.Told.{Tells, mapAlone, exactly, withRoom}
+use Rattle.promises.specs.Served.{Served}
+use Rattle.promises.specs.Told.{Question, Tells, mapAlone, exactly, withRoom}
 use Rattle.promises.proofs.Runs.{BedRun, bedGrid, bedDims, bedLow, bedHigh, bedPlane, bedServed}
 
 -- ---- what is told is enough, of the definition
@@ -81,7 +83,43 @@ exactly-told c t =
     told-enough c (mapAlone (c .size)) (exactly (c .size) (a .vertices) (a .indices)) (le-refl (c .size)) (le-refl (c .size)) (exact (c .size) (a .vertices) (a .indices))
     ∙ tells-done a t
 
--- ---- of calls that were made: the answer was asked for, and a mesh of the same box of the same grid
+-- ---- of a question and a call that was made, of whatever width
+
+-- the same question has one answer
+pub same-said : (q q' : Question) → q .call ≡ q' .call → q .rooms ≡ q' .rooms → q .says ≡ q' .says
+same-said q q' c r = q .answered ∙ (λ i. answer (c i) (r i)) ∙ sym (q' .answered)
+
+module _ (q : Question) (u : Served) (same : q .call ≡ u .call) where
+  -- the answer of the call, with V and I, on lists of the lengths that were asked about
+  pub question-answered : q .rooms ≡ room (u .before) → q .says ≡ u .says
+  question-answered rooms = q .answered ∙ (λ i. answer (same i) (rooms i)) ∙ sym (u .answered)
+
+  -- whatever lengths were asked about, if the maps are as long as the grid: lists with room for the V and I that were told get the answer that was told, with
+  -- 0 for 6 and 7
+  pub question-then-lent : q .call .size ≤ q .rooms .map → u .call .size ≤ length (u .before .map)
+      → Enough (room (u .before)) (q .says .vertices) (q .says .indices) → u .says ≡ withRoom (q .says)
+  question-then-lent map map' e =
+      let s = room (u .before) in
+      let e' = subst (λ (x : Answer). Enough s (x .vertices) (x .indices)) (q .answered) e in
+      u .answered ∙ ap (λ (x : Call). answer x s) (sym same)
+      ∙ told-enough (q .call) (q .rooms) s map (omega (arith, ap (λ (x : Call). x .size) same)) e' ∙ ap withRoom (sym (q .answered))
+
+  -- so what says V and I is done
+  pub question-then-done : q .call .size ≤ q .rooms .map → u .call .size ≤ length (u .before .map)
+      → Enough (room (u .before)) (q .says .vertices) (q .says .indices) → Tells (q .says .number)
+      → u .says ≡ answers 0 (q .says .vertices) (q .says .indices)
+  question-then-done map map' e t = question-then-lent map map' e ∙ tells-done (q .says) t
+
+-- ---- of calls for C over floats: the answer was asked for, and a mesh of the same box of the same grid
+
+abbrev pub bedQuestion : AskCall → Question
+bedQuestion a =
+    record {
+      call = callMade (gridAsked a) (dimsAsked a) (lowAsked a) (highAsked a) (planeAsked a);
+      rooms = lengthsAsked a;
+      says = answerAsked a;
+      answered = answer-by-place a;
+    }
 
 pub record SameAsked (a : AskCall) (u : BedRun) : Type 0 where
   pub grid : gridAsked a ≡ bedGrid u
@@ -91,27 +129,17 @@ pub record SameAsked (a : AskCall) (u : BedRun) : Type 0 where
   pub plane : planeAsked a ≡ bedPlane u
 
 module _ (a : AskCall) (u : BedRun) (same : SameAsked a u) where
-  same-call : callMade (gridAsked a) (dimsAsked a) (lowAsked a) (highAsked a) (planeAsked a) ≡ bedServed u .call
+  same-call : bedQuestion a .call ≡ bedServed u .call
   same-call = λ i. callMade (same .grid i) (same .dims i) (same .low i) (same .high i) (same .plane i)
 
-  -- the answer of the call, with V and I, on lists of the lengths that were asked about
   pub asked-is-answered : lengthsAsked a ≡ room (bedServed u .before) → answerAsked a ≡ bedServed u .says
-  asked-is-answered rooms = answer-by-place a ∙ (λ i. answer (same-call i) (rooms i)) ∙ sym (bedServed u .answered)
+  asked-is-answered = question-answered (bedQuestion a) (bedServed u) same-call
 
-  -- whatever lengths were asked about, if the maps are as long as the grid: lists with room for the V and I that were told get the answer that was told, with
-  -- 0 for 6 and 7
   pub asked-then-lent : length (gridAsked a) ≤ lengthsAsked a .map → length (bedGrid u) ≤ length (bedServed u .before .map)
       → Enough (room (bedServed u .before)) (answerAsked a .vertices) (answerAsked a .indices) → bedServed u .says ≡ withRoom (answerAsked a)
-  asked-then-lent map map' e =
-      let c = callMade (gridAsked a) (dimsAsked a) (lowAsked a) (highAsked a) (planeAsked a) in
-      let s = room (bedServed u .before) in
-      let t = answer-by-place a in
-      let e' = subst (λ (x : Answer). Enough s (x .vertices) (x .indices)) t e in
-      bedServed u .answered ∙ ap (λ (x : Call). answer x s) (sym same-call)
-      ∙ told-enough c (lengthsAsked a) s map (omega (arith, ap length (same .grid))) e' ∙ ap withRoom (sym t)
+  asked-then-lent = question-then-lent (bedQuestion a) (bedServed u) same-call
 
-  -- so what says V and I is done
   pub asked-then-done : length (gridAsked a) ≤ lengthsAsked a .map → length (bedGrid u) ≤ length (bedServed u .before .map)
       → Enough (room (bedServed u .before)) (answerAsked a .vertices) (answerAsked a .indices) → Tells (a .result)
       → bedServed u .says ≡ answers 0 (answerAsked a .vertices) (answerAsked a .indices)
-  asked-then-done map map' e t = asked-then-lent map map' e ∙ tells-done (answerAsked a) t
+  asked-then-done = question-then-done (bedQuestion a) (bedServed u) same-call

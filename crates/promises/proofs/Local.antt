@@ -67,8 +67,12 @@ pub bed-surface-nets-local : (u u' : BedRun) → Alike (bedServed u .call) (bedS
     → (bedServed u .says ≡ bedServed u' .says) × (Done (bedServed u) → SameWritten (bedServed u .call) (bedServed u .after) (bedServed u' .after))
 bed-surface-nets-local u u' same rooms = (same-answer (bedServed u) (bedServed u') same rooms, same-written (bedServed u) (bedServed u') same rooms)
 
+-- the same call in the same lists comes to the same: the answer with V and I, and every number of every list
+pub same-outcome : (u u' : Served) → u .call ≡ u' .call → u .before ≡ u' .before → (u .says ≡ u' .says) × (u .after ≡ u' .after)
+same-outcome u u' c b =
+    (u .answered ∙ ap₂ (λ (d : Call) (s : Buffers). answer d (room s)) c b ∙ sym (u' .answered), u .left ∙ ap₂ afterwards c b ∙ sym (u' .left))
+
 -- a call of the one and a call of the other, with the same input, come to the same: the boundary adds nothing
 pub bed-is-surface-nets : (u : Run) (v : BedRun) → served u .call ≡ bedServed v .call → served u .before ≡ bedServed v .before
     → (served u .says ≡ bedServed v .says) × (served u .after ≡ bedServed v .after)
-bed-is-surface-nets u v c b =
-    (served u .answered ∙ ap₂ (λ (d : Call) (s : Buffers). answer d (room s)) c b ∙ sym (bedServed v .answered), served u .left ∙ ap₂ afterwards c b ∙ sym (bedServed v .left))
+bed-is-surface-nets u v = same-outcome (served u) (bedServed v)

@@ -7,3 +7,4 @@ pub mod Operations
 pub mod Mixing
 pub mod Quotient
 pub mod Whole
+pub mod Signed

@@ -1,2 +1,3 @@
 -- The predicates that the laws of rounding are stated with. Assumes nothing.
 pub mod Values
+pub mod Signed

@@ -4,6 +4,7 @@ mod scan;
 
 ghost use mathlib.Core.Path.{_≡_};
 ghost use Rattle.skin.specs.Scan.{examined};
+ghost use Rattle.grid.specs.Values.{asFloats, gridBefore};
 use grid::Block;
 use grid::EachAxis;
 use grid::Extent;
@@ -14,8 +15,16 @@ pub struct Enclosed {
     pub enclosed: bool,
 }
 
-pub fn is_enclosed(sdf: &[f32], dims: Extent, low: Extent, high: Extent) -> Enclosed
-    ensures { λ r. ⌜ r ≡ examined (now (sdf .entry)) dims low high ⌝ }
+fn examine(
+    width: u32,
+    sdf: &[f32],
+    sdf16: &[i16],
+    sdf8: &[i8],
+    dims: Extent,
+    low: Extent,
+    high: Extent,
+) -> Enclosed
+    ensures { λ r. ⌜ r ≡ examined (gridBefore width sdf sdf16 sdf8) dims low high ⌝ }
 {
     let k = Block {
         dims,
@@ -27,7 +36,7 @@ pub fn is_enclosed(sdf: &[f32], dims: Extent, low: Extent, high: Extent) -> Encl
             z: false,
         },
     };
-    let fault = grid::checks::first_fault(k, sdf.len());
+    let fault = grid::values::first_fault_of(k, width, sdf, sdf16, sdf8);
     if fault != 0 {
         return Enclosed {
             answer: fault,
@@ -36,6 +45,24 @@ pub fn is_enclosed(sdf: &[f32], dims: Extent, low: Extent, high: Extent) -> Encl
     }
     Enclosed {
         answer: 0,
-        enclosed: !scan::stray_box(sdf, k),
+        enclosed: !scan::stray_box(width, sdf, sdf16, sdf8, k),
     }
+}
+
+pub fn is_enclosed(sdf: &[f32], dims: Extent, low: Extent, high: Extent) -> Enclosed
+    ensures { λ r. ⌜ r ≡ examined (now (sdf .entry)) dims low high ⌝ }
+{
+    examine(32, sdf, &[], &[], dims, low, high)
+}
+
+pub fn is_enclosed_i16(sdf: &[i16], dims: Extent, low: Extent, high: Extent) -> Enclosed
+    ensures { λ r. ⌜ r ≡ examined (asFloats (now (sdf .entry))) dims low high ⌝ }
+{
+    examine(16, &[], sdf, &[], dims, low, high)
+}
+
+pub fn is_enclosed_i8(sdf: &[i8], dims: Extent, low: Extent, high: Extent) -> Enclosed
+    ensures { λ r. ⌜ r ≡ examined (asFloats (now (sdf .entry))) dims low high ⌝ }
+{
+    examine(8, &[], &[], sdf, dims, low, high)
 }

@@ -7,6 +7,7 @@ ghost use Rattle.grid.specs.Block.{point, boxOf, fieldOf};
 ghost use Rattle.grid.specs.Inside.{Inside};
 ghost use Rattle.skin.specs.Enclosed.{innerSide, inner};
 ghost use Rattle.skin.specs.Scan.{strayRow, strayLayer, strayBox};
+ghost use Rattle.grid.specs.Values.{gridGiven, gridBefore};
 use grid::Block;
 use grid::Extent;
 
@@ -45,10 +46,18 @@ pub(crate) fn is_stray(d: f32, k: Block, p: Extent) -> bool
     !is_inner(k, p)
 }
 
-pub(crate) fn stray_row(sdf: &[f32], k: Block, y: u32, z: u32) -> bool
-    requires { ⌜ Inside (now sdf) k ⌝ }
+pub(crate) fn stray_row(
+    width: u32,
+    sdf: &[f32],
+    sdf16: &[i16],
+    sdf8: &[i8],
+    k: Block,
+    y: u32,
+    z: u32,
+) -> bool
+    requires { ⌜ Inside (gridGiven width sdf sdf16 sdf8) k ⌝ }
     requires { ⌜ (k .low .y ≤ y) × (y ≤ k .high .y) × (k .low .z ≤ z) × (z ≤ k .high .z) ⌝ }
-    ensures { λ r. ⌜ r ≡ strayRow (fieldOf (now (sdf .entry)) k) (boxOf k) z y ⌝ }
+    ensures { λ r. ⌜ r ≡ strayRow (fieldOf (gridBefore width sdf sdf16 sdf8) k) (boxOf k) z y ⌝ }
 {
     let from = k.low.x;
     let end = k.high.x + 1;
@@ -56,34 +65,44 @@ pub(crate) fn stray_row(sdf: &[f32], k: Block, y: u32, z: u32) -> bool
     for x in from..end {
         let p = Extent { x, y, z };
         let at = grid::place::linearize(k.dims, p);
-        stray = grid::scan::either(stray, is_stray(sdf[at], k, p));
+        stray = grid::scan::either(
+            stray,
+            is_stray(grid::values::value_at(width, sdf, sdf16, sdf8, at), k, p),
+        );
     }
     stray
 }
 
-pub(crate) fn stray_layer(sdf: &[f32], k: Block, z: u32) -> bool
-    requires { ⌜ Inside (now sdf) k ⌝ }
+pub(crate) fn stray_layer(
+    width: u32,
+    sdf: &[f32],
+    sdf16: &[i16],
+    sdf8: &[i8],
+    k: Block,
+    z: u32,
+) -> bool
+    requires { ⌜ Inside (gridGiven width sdf sdf16 sdf8) k ⌝ }
     requires { ⌜ (k .low .z ≤ z) × (z ≤ k .high .z) ⌝ }
-    ensures { λ r. ⌜ r ≡ strayLayer (fieldOf (now (sdf .entry)) k) (boxOf k) z ⌝ }
+    ensures { λ r. ⌜ r ≡ strayLayer (fieldOf (gridBefore width sdf sdf16 sdf8) k) (boxOf k) z ⌝ }
 {
     let from = k.low.y;
     let end = k.high.y + 1;
     let mut stray = false;
     for y in from..end {
-        stray = grid::scan::either(stray, stray_row(sdf, k, y, z));
+        stray = grid::scan::either(stray, stray_row(width, sdf, sdf16, sdf8, k, y, z));
     }
     stray
 }
 
-pub(crate) fn stray_box(sdf: &[f32], k: Block) -> bool
-    requires { ⌜ Inside (now sdf) k ⌝ }
-    ensures { λ r. ⌜ r ≡ strayBox (fieldOf (now (sdf .entry)) k) (boxOf k) ⌝ }
+pub(crate) fn stray_box(width: u32, sdf: &[f32], sdf16: &[i16], sdf8: &[i8], k: Block) -> bool
+    requires { ⌜ Inside (gridGiven width sdf sdf16 sdf8) k ⌝ }
+    ensures { λ r. ⌜ r ≡ strayBox (fieldOf (gridBefore width sdf sdf16 sdf8) k) (boxOf k) ⌝ }
 {
     let from = k.low.z;
     let end = k.high.z + 1;
     let mut stray = false;
     for z in from..end {
-        stray = grid::scan::either(stray, stray_layer(sdf, k, z));
+        stray = grid::scan::either(stray, stray_layer(width, sdf, sdf16, sdf8, k, z));
     }
     stray
 }

@@ -1,5 +1,6 @@
--- What the whole call lends for a layer's vertices, and what comes back: the lists have room, and with the part of the map put back they are what the
--- rules say of the layer in the whole grid. Assumes nothing.
+-- What the whole call lends for a layer: of each of the grid's three lists the layer's parts, which are the two layers of distances; and for its
+-- vertices, and what comes back: the lists have room, and with the part of the map put back they are what the rules say of the layer in the whole grid.
+-- Assumes nothing.
 use Prim.Native.Nat.{ℕ, _+_, _-_, _*_, _≤_, _<_}
 use native.Mathlib.Nat.{mul-one, mul-le-mul-left}
 use native.Mathlib.Omega.{arith}
@@ -7,9 +8,10 @@ use mathlib.Core.List.{List, _++_, map}
 use mathlib.Core.Path.{_≡_, refl, sym, ap, _∙_}
 use lib.Dec.{T}
 use lib.Ieee.{Float}
+use lib.IntN.{ℤ}
 use lib.ListN.{length, take, drop}
 use lib.Seq.{sets}
-use Rattle.rules.specs.Grid.{GridPoint, Box, Field}
+use Rattle.rules.specs.Grid.{GridPoint, Box, Field, inBox, value}
 use Rattle.rules.specs.Vertices.{cells, surfaceCell, vertices, layerVertices, firstVertex}
 use Rattle.rules.specs.Call.{Buffers}
 use Rattle.lists.proofs.Lists.{many-most}
@@ -17,11 +19,13 @@ use Rattle.rules.proofs.Counting.{cell-count}
 use Rattle.grid.specs.declared.Block.{Block}
 use Rattle.grid.specs.Block.{point, boxOf, flagsOf, fieldOf, callOf}
 use Rattle.grid.specs.Inside.{Inside}
-use Rattle.grid.specs.Layers.{layerDist, twoLayers}
+use Rattle.grid.specs.Layers.{layerDist, twoLayers, InLayers}
+use Rattle.grid.specs.Values.{gridOf}
 use Rattle.grid.proofs.Bounds.{fits}
 use Rattle.grid.proofs.Order.{box-ends}
 use Rattle.grid.proofs.Rows.{box-short}
-use Rattle.grid.proofs.Slab.{layer-alike}
+use Rattle.grid.proofs.Slab.{slab, layer-alike}
+use Rattle.grid.proofs.Places.{Place, Range, part-lent, part-of-grid, rest-of-grid}
 use Rattle.layer_vertices.specs.declared.Next.{Next}
 use Rattle.layer_vertices.specs.Marked.{Lists, lists, listed, layerEntry, marked, Room}
 use Rattle.layer_vertices.proofs.Alike.{marked-alike}
@@ -29,8 +33,35 @@ use Rattle.whole_box.specs.declared.Made.{Made}
 use Rattle.whole_box.specs.LentLists.{listsOf}
 use Rattle.whole_box.specs.Layers.{layerMarked, Written}
 use Rattle.whole_box.proofs.Map.{part-back}
-use Rattle.grid.proofs.Parts.{part, rest, layers-agree, layer-end}
+use Rattle.grid.proofs.Parts.{part, rest, layers-agree, layers-lent, layer-end, layer-few}
 use Rattle.whole_box.proofs.Steps.{vertices-within, first-is, first-more, SameLengths, written-lengths}
+
+-- ---- the layer's parts of the grid
+
+-- two lists that are the layer's two parts of the grid
+pub record Lends (sdf : List Float) (k : Block) (z : ℕ) (lower upper : List Float) : Type 0 where
+  pub lowerIs : lower ≡ part (k .dims .x * k .dims .y * z) (k .dims .x * k .dims .y) sdf
+  pub upperIs : upper ≡ rest (k .dims .x * k .dims .y * z + k .dims .x * k .dims .y) sdf
+
+-- they are two layers that hold the box's points, and have the grid's distances there
+module _ (sdf : List Float) (k : Block) (i : Inside sdf k) (z : ℕ) (zs : (k .low .z ≤ z) × (z < k .high .z)) {lower upper : List Float} (t : Lends sdf k z lower upper) where
+  pub lent-layers : InLayers lower upper k z
+  lent-layers = layers-lent sdf k i z zs (t .lowerIs) (t .upperIs)
+
+  pub lent-agree : (p : GridPoint) → T (inBox (slab (boxOf k) z) p) → value (twoLayers lower upper k z) p ≡ value (fieldOf sdf k) p
+  lent-agree = rw (t .lowerIs, t .upperIs) (layers-agree sdf k i z zs)
+
+-- where the layer begins and ends in each of the three lists: the parts that are lent of them
+module _ (width : ℕ) (f : List Float) (s b : List ℤ) (k : Block) (i : Inside (gridOf width f s b) k) (z : ℕ) (zs : (k .low .z ≤ z) × (z < k .high .z)) {fs fe ss se bs be : ℕ}
+    (from : Place width (k .dims .x * k .dims .y * z) fs ss bs) (to : Place width (k .dims .x * k .dims .y * z + k .dims .x * k .dims .y) fe se be) where
+  pub lent-ranges : Range fs fe (length f) × Range ss se (length s) × Range bs be (length b)
+  lent-ranges = part-lent width f s b from to (omega arith) (layer-end (gridOf width f s b) k i z zs) (layer-few (gridOf width f s b) k i z zs)
+
+  pub lent-parts : Lends (gridOf width f s b) k z (gridOf width (take (fe - fs) (drop fs f)) (take (se - ss) (drop ss s)) (take (be - bs) (drop bs b)))
+      (gridOf width (take (length f - fe) (drop fe f)) (take (length s - se) (drop se s)) (take (length b - be) (drop be b)))
+  lent-parts = record { lowerIs = part-of-grid width f s b from to; upperIs = rest-of-grid width f s b to }
+
+-- ---- what is lent for the layer's vertices
 
 module _ (sdf : List Float) (k : Block) (i : Inside sdf k) where
   -- there are few vertices
@@ -57,21 +88,19 @@ module _ (sdf : List Float) (k : Block) (i : Inside sdf k) where
     abbrev b : Box
     b = boxOf k
 
-    abbrev two : ℕ → Float
-    two = layerDist (part (k .dims .x * k .dims .y * z) (k .dims .x * k .dims .y) sdf) (rest (k .dims .x * k .dims .y * z + k .dims .x * k .dims .y) sdf)
-        (k .dims .x * k .dims .y) z
+    -- the two layers, as distances by index
+    abbrev two : List Float → List Float → ℕ → Float
+    two lower upper = layerDist lower upper (k .dims .x * k .dims .y) z
 
-    pub layer-same : layerVertices (twoLayers (part (k .dims .x * k .dims .y * z) (k .dims .x * k .dims .y) sdf)
-        (rest (k .dims .x * k .dims .y * z + k .dims .x * k .dims .y) sdf) k z) (boxOf k) z ≡ layerVertices (fieldOf sdf k) (boxOf k) z
-    layer-same = layer-alike (point (k .dims)) two (g .dist) b z (layers-agree sdf k i z zs)
+    pub layer-same : {lower upper : List Float} → Lends sdf k z lower upper → layerVertices (twoLayers lower upper k z) (boxOf k) z ≡ layerVertices (fieldOf sdf k) (boxOf k) z
+    layer-same {lower} {upper} t = layer-alike (point (k .dims)) (two lower upper) (g .dist) b z (lent-agree sdf k i z zs t)
 
     -- the room of the whole lists is that of what is lent
-    pub room-lent : {next : Next} {p n : List Float} {cs st xs mp mp' : List ℕ} → Room next (length (layerVertices (fieldOf sdf k) (boxOf k) z)) (lists p n cs st xs mp)
-        → Room next (length (layerVertices (twoLayers (part (k .dims .x * k .dims .y * z) (k .dims .x * k .dims .y) sdf)
-        (rest (k .dims .x * k .dims .y * z + k .dims .x * k .dims .y) sdf) k z) (boxOf k) z))
-        (lists p n cs st xs mp')
-    room-lent r =
-        let e = ap length layer-same in
+    pub room-lent : {lower upper : List Float} {next : Next} {p n : List Float} {cs st xs mp mp' : List ℕ} → Lends sdf k z lower upper
+        → Room next (length (layerVertices (fieldOf sdf k) (boxOf k) z)) (lists p n cs st xs mp)
+        → Room next (length (layerVertices (twoLayers lower upper k z) (boxOf k) z)) (lists p n cs st xs mp')
+    room-lent t r =
+        let e = ap length (layer-same t) in
         record {
           positions = omega (arith, r .positions, e);
           normals = omega (arith, r .normals, e);
@@ -82,19 +111,19 @@ module _ (sdf : List Float) (k : Block) (i : Inside sdf k) where
         }
 
     -- what comes back
-    pub marked-back : (first : ℕ) {p n : List Float} {cs st xs q : List ℕ} (p₀ n₀ : List Float) (cs₀ st₀ xs₀ mp₀ : List ℕ) → length sdf ≤ length mp₀
-        → lists p n cs st xs q ≡ marked (twoLayers (part (k .dims .x * k .dims .y * z) (k .dims .x * k .dims .y) sdf)
-        (rest (k .dims .x * k .dims .y * z + k .dims .x * k .dims .y) sdf) k z) (boxOf k) z (record { place = first; number = first })
+    pub marked-back : {lower upper : List Float} → Lends sdf k z lower upper → (first : ℕ) {p n : List Float} {cs st xs q : List ℕ} (p₀ n₀ : List Float) (cs₀ st₀ xs₀ mp₀ : List ℕ)
+        → length sdf ≤ length mp₀ → lists p n cs st xs q ≡ marked (twoLayers lower upper k z) (boxOf k) z (record { place = first; number = first })
         (lists p₀ n₀ cs₀ st₀ xs₀ (part (k .dims .x * k .dims .y * z) (k .dims .x * k .dims .y) mp₀))
         → lists p n cs st xs (take (k .dims .x * k .dims .y * z) mp₀
         ++ (q ++ drop (k .dims .x * k .dims .y * z + k .dims .x * k .dims .y - k .dims .x * k .dims .y * z) (drop (k .dims .x * k .dims .y * z) mp₀)))
         ≡ layerMarked (fieldOf sdf k) (boxOf k) z first (lists p₀ n₀ cs₀ st₀ xs₀ mp₀)
     unfolding layerMarked marked
-    marked-back first {p} {n} {cs} {st} {xs} {q} p₀ n₀ cs₀ st₀ xs₀ mp₀ long e =
+    marked-back {lower} {upper} t first {p} {n} {cs} {st} {xs} {q} p₀ n₀ cs₀ st₀ xs₀ mp₀ long e =
         let a = k .dims .x * k .dims .y * z in
         let w = k .dims .x * k .dims .y in
+        let here : Next = record { place = first; number = first } in
         ap (λ (s : Lists). lists (s .positions) (s .normals) (s .cells) (s .strides) (s .crossings) (take a mp₀ ++ (s .map ++ drop (a + w - a) (drop a mp₀))))
-        (e ∙ marked-alike (point (k .dims)) two (g .dist) b z (layers-agree sdf k i z zs) (record { place = first; number = first }) (lists p₀ n₀ cs₀ st₀ xs₀ (part a w mp₀)))
+        (e ∙ marked-alike (point (k .dims)) (two lower upper) (g .dist) b z (lent-agree sdf k i z zs t) here (lists p₀ n₀ cs₀ st₀ xs₀ (part a w mp₀)))
         ∙ ap (λ (l : List ℕ). listed g first (layerVertices g b z) l (lists p₀ n₀ cs₀ st₀ xs₀ mp₀))
         (part-back (g .dims) plane-up z (layerEntry g b z first) mp₀ (omega (arith, layer-end sdf k i z zs)))
 

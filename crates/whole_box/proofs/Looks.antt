@@ -12,7 +12,7 @@ use lib.Ieee.Bits.{is-true}
 use lib.ListN.{length, getD, take, drop, length-append, length-drop}
 use lib.Seq.{getD-take, getD-drop, length-take-le, take-all}
 use Rattle.lists.specs.Lists.{over}
-use Rattle.rules.specs.Grid.{GridPoint, Box, Field, index, isCell, value}
+use Rattle.rules.specs.Grid.{GridPoint, Box, Field, index, inBox, isCell, value}
 use Rattle.rules.specs.Cell.{Vector}
 use Rattle.rules.specs.Vertices.{surfaceCell, layerVertices, firstVertex, vertexNumber, vertexPosition, nullVertex, cellEntry}
 use Rattle.rules.specs.Faces.{Flags, layerEdges, layerIndices}
@@ -27,14 +27,15 @@ use Rattle.grid.specs.Inside.{Inside}
 use Rattle.grid.specs.Layers.{inLayer, layerDist, twoLayers}
 use Rattle.grid.proofs.Bounds.{fits, below-length}
 use Rattle.grid.proofs.Layers.{in-plane}
-use Rattle.grid.proofs.Slab.{layer-alike, edges-alike, positions-alike, surface-alike, number-alike}
+use Rattle.grid.proofs.Slab.{slab, layer-alike, edges-alike, positions-alike, surface-alike, number-alike}
 use Rattle.layer_vertices.proofs.Passing.{vectors-append, points-append}
 use Rattle.layer_faces.specs.Below.{Kept, indicesOver, Standing}
 use Rattle.layer_faces.proofs.Alike.{Right, indices-are}
 use Rattle.whole_box.specs.declared.Made.{Made}
 use Rattle.whole_box.specs.Layers.{verticesTo, writtenTo, Written, Stands}
 use Rattle.whole_box.proofs.Map.{map-number}
-use Rattle.grid.proofs.Parts.{part, rest, length-part, part-at, layers-agree, layer-end, corner-in}
+use Rattle.grid.proofs.Parts.{part, length-part, part-at, layer-end, corner-in}
+use Rattle.whole_box.proofs.Lent.{Lends, lent-agree}
 use Rattle.whole_box.proofs.Steps.{vertices-more, vertices-within, first-is, part-of, SameLengths, written-lengths}
 
 -- ---- a part of what is written
@@ -116,8 +117,8 @@ module _ (sdf : List Float) (k : Block) (i : Inside sdf k) (z : ℕ) (zs : (k .l
 
 -- ---- what is lent for the layer's faces
 
-module _ (sdf : List Float) (k : Block) (i : Inside sdf k) (z : ℕ) (zs : (k .low .z ≤ z) × (z < k .high .z)) (first below : ℕ) (cs mp : List ℕ) (ps : List Float)
-    (s : Stands (fieldOf sdf k) (boxOf k) z first below cs mp ps) (long : length sdf ≤ length mp) where
+module _ (sdf : List Float) (k : Block) (i : Inside sdf k) (z : ℕ) (zs : (k .low .z ≤ z) × (z < k .high .z)) {lower upper : List Float} (lent : Lends sdf k z lower upper)
+    (first below : ℕ) (cs mp : List ℕ) (ps : List Float) (s : Stands (fieldOf sdf k) (boxOf k) z first below cs mp ps) (long : length sdf ≤ length mp) where
   abbrev plane : ℕ
   plane = k .dims .x * k .dims .y
 
@@ -135,10 +136,13 @@ module _ (sdf : List Float) (k : Block) (i : Inside sdf k) (z : ℕ) (zs : (k .l
 
   -- the two layers, as distances by index
   abbrev two : ℕ → Float
-  two = layerDist (part (k .dims .x * k .dims .y * z) (k .dims .x * k .dims .y) sdf) (rest (k .dims .x * k .dims .y * z + k .dims .x * k .dims .y) sdf) (k .dims .x * k .dims .y) z
+  two = layerDist lower upper (k .dims .x * k .dims .y) z
 
   abbrev whole : ℕ → Float
   whole = fieldOf sdf k .dist
+
+  agree : (p : GridPoint) → T (inBox (slab (boxOf k) z) p) → value (twoLayers lower upper k z) p ≡ value (fieldOf sdf k) p
+  agree = lent-agree sdf k i z zs lent
 
   -- where a cell of the box stands in its layer
   within-plane : (c : GridPoint) → T (isCell b c) → inLayer (point (k .dims)) c < k .dims .x * k .dims .y
@@ -150,14 +154,14 @@ module _ (sdf : List Float) (k : Block) (i : Inside sdf k) (z : ℕ) (zs : (k .l
   number-of c t on h = s .numbers c t h ∙ ap (λ (y : Bool). cond y (vertexNumber g b (firstVertex g b (c .z)) c) nullVertex) (is-true (surfaceCell g c) on)
 
   pub standing : (count : ℕ) → count ≡ length (layerVertices (fieldOf sdf k) (boxOf k) z)
-      → Standing (twoLayers (part (k .dims .x * k .dims .y * z) (k .dims .x * k .dims .y) sdf) (rest (k .dims .x * k .dims .y * z + k .dims .x * k .dims .y) sdf) k z) (boxOf k)
+      → Standing (twoLayers lower upper k z) (boxOf k)
       first z
       (part (3 * first) (3 * count) cs) (part (k .dims .x * k .dims .y * z) (k .dims .x * k .dims .y) mp) (part (3 * first) (3 * count) ps)
   standing count e =
       let n : 3 * first + 3 * count - 3 * first ≡ 3 * length (layerVertices g b z) = omega arith in
       record {
-        cells = ap (λ (l : ℕ). take l (drop (3 * first) cs)) n ∙ s .cells ∙ ap flatPoints (sym (layer-alike d two whole b z (layers-agree sdf k i z zs)));
-        positions = ap (λ (l : ℕ). take l (drop (3 * first) ps)) n ∙ s .positions ∙ ap flatVectors (sym (positions-alike d two whole b z (layers-agree sdf k i z zs)));
+        cells = ap (λ (l : ℕ). take l (drop (3 * first) cs)) n ∙ s .cells ∙ ap flatPoints (sym (layer-alike d two whole b z agree));
+        positions = ap (λ (l : ℕ). take l (drop (3 * first) ps)) n ∙ s .positions ∙ ap flatVectors (sym (positions-alike d two whole b z agree));
         numbers = numbers;
         holds = omega (arith, corner-in sdf k i z zs, length-part (plane * z) plane mp (omega (arith, layer-end sdf k i z zs)));
       }
@@ -169,9 +173,9 @@ module _ (sdf : List Float) (k : Block) (i : Inside sdf k) (z : ℕ) (zs : (k .l
           let at : plane * z + inLayer d c ≡ index d c = omega arith in
           part-at (plane * z) plane mp (inLayer d c) 0 (within-plane c t)
           ∙ ap (λ (n : ℕ). getD mp n 0) at
-          ∙ number-of c t (subst T (surface-alike d two whole b z (layers-agree sdf k i z zs) c t ez) on) (omega arith)
+          ∙ number-of c t (subst T (surface-alike d two whole b z agree c t ez) on) (omega arith)
           ∙ ap (λ (n : ℕ). vertexNumber g b n c) (ap (firstVertex g b) ez ∙ sym (s .here))
-          ∙ sym (number-alike d two whole b z (layers-agree sdf k i z zs) first c ez)
+          ∙ sym (number-alike d two whole b z agree first c ez)
 
   -- the layer below, from the place `under` of the map on
   module _ (under : ℕ) (back : k .low .z < z → under ≡ k .dims .x * k .dims .y * z - k .dims .x * k .dims .y) where
@@ -235,13 +239,11 @@ module _ (sdf : List Float) (k : Block) (i : Inside sdf k) (z : ℕ) (zs : (k .l
         before y l e = omega (arith, s .here, s .before ∙ ap (firstVertex g b) (pred y e), firstVertex-next g b y l, ap (firstVertex g b) e)
 
     -- the indices that are put are the rules'
-    pub faces-are : indicesOver (twoLayers (part (k .dims .x * k .dims .y * z) (k .dims .x * k .dims .y) sdf) (rest (k .dims .x * k .dims .y * z + k .dims .x * k .dims .y) sdf) k
-        z) (boxOf k) (flagsOf k) first z
+    pub faces-are : indicesOver (twoLayers lower upper k z) (boxOf k) (flagsOf k) first z
         (record { map = take (k .dims .x * k .dims .y * z - under) (drop under mp); positions = take (3 * first - 3 * below) (drop (3 * below) ps); first = below })
         ≡ layerIndices (fieldOf sdf k) (boxOf k) (flagsOf k) first z
-    faces-are = indices-are d two whole b m first z (layers-agree sdf k i z zs) kept right
+    faces-are = indices-are d two whole b m first z agree kept right
 
-  pub edges-count : 6 * length (layerEdges (twoLayers (part (k .dims .x * k .dims .y * z) (k .dims .x * k .dims .y) sdf)
-      (rest (k .dims .x * k .dims .y * z + k .dims .x * k .dims .y) sdf) k z) (boxOf k) (flagsOf k) z)
+  pub edges-count : 6 * length (layerEdges (twoLayers lower upper k z) (boxOf k) (flagsOf k) z)
       ≡ length (layerIndices (fieldOf sdf k) (boxOf k) (flagsOf k) first z)
-  edges-count = ap (λ (n : ℕ). 6 * n) (ap length (edges-alike d two whole b z (layers-agree sdf k i z zs) m)) ∙ sym (layer-index-count g b m first z)
+  edges-count = ap (λ (n : ℕ). 6 * n) (ap length (edges-alike d two whole b z agree m)) ∙ sym (layer-index-count g b m first z)

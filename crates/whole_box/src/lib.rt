@@ -14,6 +14,7 @@ ghost use Rattle.layer_vertices.specs.Marked.{Room};
 ghost use Rattle.layer_vertices.specs.Lent.{listsGiven, listsBefore, listsAfter};
 ghost use Rattle.whole_box.specs.LentLists.{buffersGiven, buffersBefore, buffersAfter, Roomy};
 ghost use Rattle.whole_box.specs.Layers.{layerMarked, layerWritten, layerMade, lastAt, InMap, Reached, Stands};
+ghost use Rattle.grid.specs.Values.{gridGiven, gridBefore};
 use grid::Block;
 use layer_faces::Firsts;
 use layer_vertices::Next;
@@ -27,7 +28,10 @@ pub struct Made {
 
 // The vertices of the layer z.
 fn mark_part(
+    width: u32,
     sdf: &[f32],
+    sdf16: &[i16],
+    sdf8: &[i8],
     k: Block,
     z: u32,
     first: usize,
@@ -38,25 +42,36 @@ fn mark_part(
     crossings: &mut [u8],
     map: &mut [u32],
 ) -> usize
-    requires { ⌜ Inside (now sdf) k ⌝ }
+    requires { ⌜ Inside (gridGiven width sdf sdf16 sdf8) k ⌝ }
     requires { ⌜ (k .low .z ≤ z) × (z < k .high .z) ⌝ }
-    requires { ⌜ length (now sdf) ≤ length (now map) ⌝ }
-    requires { ⌜ Room (record { place = first; number = first }) (length (layerVertices (fieldOf (now sdf) k) (boxOf k) z))
+    requires { ⌜ length (gridGiven width sdf sdf16 sdf8) ≤ length (now map) ⌝ }
+    requires { ⌜ Room (record { place = first; number = first }) (length (layerVertices (fieldOf (gridGiven width sdf sdf16 sdf8) k) (boxOf k) z))
         (listsGiven positions normals cells strides crossings map) ⌝ }
     ensures { λ r. ⌜ listsAfter positions normals cells strides crossings map
-        ≡ layerMarked (fieldOf (now (sdf .entry)) k) (boxOf k) z first (listsBefore positions normals cells strides crossings map) ⌝ }
-    ensures { λ r. ⌜ r ≡ length (layerVertices (fieldOf (now (sdf .entry)) k) (boxOf k) z) ⌝ }
+        ≡ layerMarked (fieldOf (gridBefore width sdf sdf16 sdf8) k) (boxOf k) z first (listsBefore positions normals cells strides crossings map) ⌝ }
+    ensures { λ r. ⌜ r ≡ length (layerVertices (fieldOf (gridBefore width sdf sdf16 sdf8) k) (boxOf k) z) ⌝ }
 {
     let plane = (k.dims.x as usize) * (k.dims.y as usize);
     let start = plane * (z as usize);
     let end = start + plane;
+    let fs = grid::values::float_place(width, start);
+    let fe = grid::values::float_place(width, end);
+    let ss = grid::values::sixteen_place(width, start);
+    let se = grid::values::sixteen_place(width, end);
+    let bs = grid::values::eight_place(width, start);
+    let be = grid::values::eight_place(width, end);
     let next = Next {
         place: first,
         number: first as u32,
     };
     layer_vertices::mark_layer(
-        &sdf[start..end],
-        &sdf[end..],
+        width,
+        &sdf[fs..fe],
+        &sdf[fe..],
+        &sdf16[ss..se],
+        &sdf16[se..],
+        &sdf8[bs..be],
+        &sdf8[be..],
         k,
         z,
         next,
@@ -82,7 +97,10 @@ fn part_below(low: u32, z: u32, start: usize, plane: usize) -> usize
 
 // Its faces. No face of the first layer of the box needs one below it, and an empty part is lent.
 fn face_part(
+    width: u32,
     sdf: &[f32],
+    sdf16: &[i16],
+    sdf8: &[i8],
     k: Block,
     z: u32,
     made: Made,
@@ -92,18 +110,25 @@ fn face_part(
     positions: &[f32],
     indices: &mut [u32],
 ) -> usize
-    requires { ⌜ Inside (now sdf) k ⌝ }
+    requires { ⌜ Inside (gridGiven width sdf sdf16 sdf8) k ⌝ }
     requires { ⌜ (k .low .z ≤ z) × (z < k .high .z) ⌝ }
-    requires { ⌜ length (now sdf) ≤ length (now map) ⌝ }
-    requires { ⌜ count ≡ length (layerVertices (fieldOf (now sdf) k) (boxOf k) z) ⌝ }
-    requires { ⌜ Stands (fieldOf (now sdf) k) (boxOf k) z (made .vertices) (made .below) (now cells) (now map) (now positions) ⌝ }
-    requires { ⌜ made .indices + length (layerIndices (fieldOf (now sdf) k) (boxOf k) (flagsOf k) (made .vertices) z) ≤ length (now indices) ⌝ }
-    ensures { λ r. ⌜ now (indices .exit) ≡ sets (now (indices .entry)) (made .indices) (layerIndices (fieldOf (now (sdf .entry)) k) (boxOf k) (flagsOf k) (made .vertices) z) ⌝ }
-    ensures { λ r. ⌜ r ≡ length (layerIndices (fieldOf (now (sdf .entry)) k) (boxOf k) (flagsOf k) (made .vertices) z) ⌝ }
+    requires { ⌜ length (gridGiven width sdf sdf16 sdf8) ≤ length (now map) ⌝ }
+    requires { ⌜ count ≡ length (layerVertices (fieldOf (gridGiven width sdf sdf16 sdf8) k) (boxOf k) z) ⌝ }
+    requires { ⌜ Stands (fieldOf (gridGiven width sdf sdf16 sdf8) k) (boxOf k) z (made .vertices) (made .below) (now cells) (now map) (now positions) ⌝ }
+    requires { ⌜ made .indices + length (layerIndices (fieldOf (gridGiven width sdf sdf16 sdf8) k) (boxOf k) (flagsOf k) (made .vertices) z) ≤ length (now indices) ⌝ }
+    ensures { λ r. ⌜ now (indices .exit) ≡ sets (now (indices .entry)) (made .indices)
+        (layerIndices (fieldOf (gridBefore width sdf sdf16 sdf8) k) (boxOf k) (flagsOf k) (made .vertices) z) ⌝ }
+    ensures { λ r. ⌜ r ≡ length (layerIndices (fieldOf (gridBefore width sdf sdf16 sdf8) k) (boxOf k) (flagsOf k) (made .vertices) z) ⌝ }
 {
     let plane = (k.dims.x as usize) * (k.dims.y as usize);
     let start = plane * (z as usize);
     let end = start + plane;
+    let fs = grid::values::float_place(width, start);
+    let fe = grid::values::float_place(width, end);
+    let ss = grid::values::sixteen_place(width, start);
+    let se = grid::values::sixteen_place(width, end);
+    let bs = grid::values::eight_place(width, start);
+    let be = grid::values::eight_place(width, end);
     let under = part_below(k.low.z, z, start, plane);
     let below = 3 * made.below;
     let here = 3 * made.vertices;
@@ -114,8 +139,13 @@ fn face_part(
         below: made.below as u32,
     };
     layer_faces::face_layer(
-        &sdf[start..end],
-        &sdf[end..],
+        width,
+        &sdf[fs..fe],
+        &sdf[fe..],
+        &sdf16[ss..se],
+        &sdf16[se..],
+        &sdf8[bs..be],
+        &sdf8[be..],
         k,
         z,
         first,
@@ -131,7 +161,10 @@ fn face_part(
 
 // The layer z of cells: all its vertices and faces, and nothing else.
 fn mesh_layer(
+    width: u32,
     sdf: &[f32],
+    sdf16: &[i16],
+    sdf8: &[i8],
     k: Block,
     z: u32,
     positions: &mut [f32],
@@ -143,16 +176,19 @@ fn mesh_layer(
     indices: &mut [u32],
     made: Made,
 ) -> Made
-    requires { ⌜ Inside (now sdf) k ⌝ }
+    requires { ⌜ Inside (gridGiven width sdf sdf16 sdf8) k ⌝ }
     requires { ⌜ (k .low .z ≤ z) × (z < k .high .z) ⌝ }
-    requires { ⌜ Reached (callOf (now sdf) k) z made (buffersGiven positions normals cells strides crossings map indices) ⌝ }
+    requires { ⌜ Reached (callOf (gridGiven width sdf sdf16 sdf8) k) z made (buffersGiven positions normals cells strides crossings map indices) ⌝ }
     ensures { λ r. ⌜ buffersAfter positions normals cells strides crossings map indices
-        ≡ layerWritten (callOf (now (sdf .entry)) k) z made (buffersBefore positions normals cells strides crossings map indices) ⌝ }
-    ensures { λ r. ⌜ r ≡ layerMade (callOf (now (sdf .entry)) k) z made ⌝ }
+        ≡ layerWritten (callOf (gridBefore width sdf sdf16 sdf8) k) z made (buffersBefore positions normals cells strides crossings map indices) ⌝ }
+    ensures { λ r. ⌜ r ≡ layerMade (callOf (gridBefore width sdf sdf16 sdf8) k) z made ⌝ }
 {
     let first = made.vertices;
     let count = mark_part(
+        width,
         sdf,
+        sdf16,
+        sdf8,
         k,
         z,
         first,
@@ -163,7 +199,20 @@ fn mesh_layer(
         crossings,
         map,
     );
-    let used = face_part(sdf, k, z, made, count, cells, map, positions, indices);
+    let used = face_part(
+        width,
+        sdf,
+        sdf16,
+        sdf8,
+        k,
+        z,
+        made,
+        count,
+        cells,
+        map,
+        positions,
+        indices,
+    );
     Made {
         vertices: made.vertices + count,
         indices: made.indices + used,
@@ -185,7 +234,10 @@ fn clear_part(k: Block, map: &mut [u32])
 // The whole box, layer after layer, from no vertex and no index, and the last layer of points, of a flat box too: all that document 01 and request 7 of
 // document 02 say of an answer 0.
 pub fn mesh_box(
+    width: u32,
     sdf: &[f32],
+    sdf16: &[i16],
+    sdf8: &[i8],
     k: Block,
     positions: &mut [f32],
     normals: &mut [f32],
@@ -195,10 +247,11 @@ pub fn mesh_box(
     map: &mut [u32],
     indices: &mut [u32],
 )
-    requires { ⌜ Inside (now sdf) k ⌝ }
-    requires { ⌜ Roomy (fieldOf (now sdf) k) (boxOf k) (flagsOf k) (length (now sdf)) (buffersGiven positions normals cells strides crossings map indices) ⌝ }
+    requires { ⌜ Inside (gridGiven width sdf sdf16 sdf8) k ⌝ }
+    requires { ⌜ Roomy (fieldOf (gridGiven width sdf sdf16 sdf8) k) (boxOf k) (flagsOf k) (length (gridGiven width sdf sdf16 sdf8))
+        (buffersGiven positions normals cells strides crossings map indices) ⌝ }
     ensures { λ r. ⌜ buffersAfter positions normals cells strides crossings map indices
-        ≡ written (callOf (now (sdf .entry)) k) (buffersBefore positions normals cells strides crossings map indices) ⌝ }
+        ≡ written (callOf (gridBefore width sdf sdf16 sdf8) k) (buffersBefore positions normals cells strides crossings map indices) ⌝ }
 {
     let from = k.low.z;
     let end = k.high.z;
@@ -209,7 +262,10 @@ pub fn mesh_box(
     };
     for z in from..end {
         state = mesh_layer(
+            width,
             sdf,
+            sdf16,
+            sdf8,
             k,
             z,
             positions,

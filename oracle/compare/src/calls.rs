@@ -3,7 +3,7 @@
 use crate::fields::Field;
 use crate::random::Random;
 use oracle::call::{Call, MaxPlane, Room};
-use oracle::expected::room_needed;
+use oracle::expected::{room_needed, Contents};
 
 /// A call that owns its grid.
 #[derive(Clone)]
@@ -119,4 +119,19 @@ fn spoil_outside_the_box(random: &mut Random, call: &mut OwnCall) {
             ]));
         }
     }
+}
+
+/// What the buffers hold before the call: anything, as in memory that was used before. A map's old
+/// numbers are small half of the time, so that they could be taken for vertices.
+pub fn old_contents(room: &Room, random: &mut Random) -> Contents {
+    let mut anything = |length: usize| -> Vec<u32> { (0..length).map(|_| random.word()).collect() };
+    let mut contents = room.each(&mut anything);
+    if random.one_in(2) {
+        contents.map.iter_mut().for_each(|entry| *entry %= 16);
+    }
+    contents
+        .crossings
+        .iter_mut()
+        .for_each(|number| *number %= 256);
+    contents
 }

@@ -1,5 +1,6 @@
 //! One call, asked of both: every number of every buffer, the marks around them, and the verdict.
 
+use crate::calls::old_contents;
 use crate::guarded::Guarded;
 use crate::library;
 use crate::random::Random;
@@ -99,19 +100,4 @@ impl Checker {
             println!("    grid {:?}", call.grid);
         }
     }
-}
-
-/// What the buffers hold before the call: anything, as in memory that was used before. A map's old
-/// numbers are small half of the time, so that they could be taken for vertices.
-pub fn old_contents(room: &Room, random: &mut Random) -> Contents {
-    let mut anything = |length: usize| -> Vec<u32> { (0..length).map(|_| random.word()).collect() };
-    let mut contents = room.each(&mut anything);
-    if random.one_in(2) {
-        contents.map.iter_mut().for_each(|entry| *entry %= 16);
-    }
-    contents
-        .crossings
-        .iter_mut()
-        .for_each(|number| *number %= 256);
-    contents
 }

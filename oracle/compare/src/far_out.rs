@@ -4,8 +4,7 @@
 //! both maps are made once and used for all calls: the library's map and the Rust's start equal and
 //! must stay equal over their whole length.
 
-use crate::calls::some_flags;
-use crate::check::old_contents;
+use crate::calls::{old_contents, some_flags};
 use crate::fields::FIELDS;
 use crate::library;
 use crate::random::Random;

@@ -7,7 +7,7 @@ use crate::CAP;
 #[derive(Clone, Copy)]
 pub struct Field {
     pub name: &'static str,
-    make: fn(&mut Random, [u32; 3], &mut [f32]),
+    pub make: fn(&mut Random, [u32; 3], &mut [f32]),
 }
 
 impl Field {
@@ -63,8 +63,6 @@ pub const FIELDS: [Field; 11] = [
         make: noise,
     },
 ];
-
-/// The largest distance that is not refused.
 
 /// The bits of 2^100, from which on distances are far fill values.
 const FAR: u32 = (100 + 127) << 23;

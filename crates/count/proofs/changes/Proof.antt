@@ -1,10 +1,15 @@
 -- The invariant: the count is that of the first j edges, and at most j, so that it fits 32 bits. Assumes nothing.
-use Prim.Native.Nat.{_≤_, _-_}
+use Prim.Native.Nat.{_≤_, _<_, _-_, _^_}
 use mathlib.Core.Path.{_≡_, refl, ap, ap₂, _∙_}
 use native.Mathlib.Omega.{arith}
 use mathlib.Core.Bool.{Bool}
-use lib.Ieee.{unlike}
+use mathlib.Core.List.{List}
+use lib.Ieee.{Float, unlike}
+use lib.ListN.{length}
 use Rattle.lists.specs.Lists.{one}
+use Rattle.rules.specs.Cell.{negative}
+use Rattle.grid.specs.Values.{gridOf}
+use Rattle.grid.proofs.Places.{grid-counted}
 use Rattle.count.specs.Runs.{changesAt, changesRun}
 use Rattle.count.proofs.Runs.{none-counted, one-more}
 use borrow.Author.Needs.{needs}
@@ -12,34 +17,52 @@ use Rattle.count.proofs.changes.Statement.{statement}
 use Rattle.count.proofs.changes.Tie as tie
 
 abbrev Inv-loop : tie.InvT-loop
-Inv-loop a p b q n count₀ j₀ count j = (j ≤ n) × (count ≤ j) × (count ≡ changesRun a p b q j)
+Inv-loop width a a16 a8 p b b16 b8 q n count₀ j₀ count j = (j ≤ n) × (count ≤ j) × (count ≡ changesRun (gridOf width a a16 a8) p (gridOf width b b16 b8) q j)
 
 abbrev μ-loop : tie.MeasureT-loop
-μ-loop a p b q n count₀ j₀ count j = n - j
+μ-loop width a a16 a8 p b b16 b8 q n count₀ j₀ count j = n - j
+
+-- ---- the places that a later one leads back to
+
+abbrev entry-of : tie.At-loop Inv-loop μ-loop → tie.Start Inv-loop μ-loop
+entry-of c = c .before .before .before
+
+abbrev turn-of : tie.After-value-at Inv-loop μ-loop → tie.At-loop Inv-loop μ-loop
+turn-of c = c .before .before
+
+abbrev low-of : tie.Start Inv-loop μ-loop → List Float
+low-of s = let a = s .args in gridOf (a .width) (a .a .now) (a .a16 .now) (a .a8 .now)
+
+abbrev high-of : tie.Start Inv-loop μ-loop → List Float
+high-of s = let a = s .args in gridOf (a .width) (a .b .now) (a .b16 .now) (a .b8 .now)
+
+short-low : (s : tie.Start Inv-loop μ-loop) → length (low-of s) < 2 ^ 64
+short-low s = let a = s .args in grid-counted (a .width) (a .a .now) (a .a16 .now) (a .a8 .now) (omega arith) (omega arith) (omega arith)
+
+short-high : (s : tie.Start Inv-loop μ-loop) → length (high-of s) < 2 ^ 64
+short-high s = let a = s .args in grid-counted (a .width) (a .b .now) (a .b16 .now) (a .b8 .now) (omega arith) (omega arith) (omega arith)
+
+-- ---- the needs
 
 loop-holds : tie.Need-loop-holds Inv-loop μ-loop
-loop-holds c = let a = c .before .before .args in (omega arith, omega arith, none-counted (changesAt (a .a .now) (a .p) (a .b .now) (a .q)))
+loop-holds c =
+    let s = c .before .before in
+    (omega arith, omega arith, none-counted (changesAt (low-of s) (s .args .p) (high-of s) (s .args .q)))
 
-add-negative : tie.Need-add-negative Inv-loop μ-loop
-add-negative c = search needs
+add-value-at : tie.Need-add-value-at Inv-loop μ-loop
+add-value-at c = let h = short-low (entry-of (c .before)) in omega arith
 
-mul-negative : tie.Need-mul-negative Inv-loop μ-loop
-mul-negative c = search needs
-
-shared-slice-read-negative : tie.Need-shared-slice-read-negative Inv-loop μ-loop
-shared-slice-read-negative c = search needs
+value-at-requires : tie.Need-value-at-requires Inv-loop μ-loop
+value-at-requires c κs = search needs
 
 negative-requires : tie.Need-negative-requires Inv-loop μ-loop
 negative-requires c κs = search needs
 
-add-negative-2 : tie.Need-add-negative-2 Inv-loop μ-loop
-add-negative-2 c = search needs
+add-value-at-2 : tie.Need-add-value-at-2 Inv-loop μ-loop
+add-value-at-2 c = let h = short-high (entry-of (turn-of (c .before))) in omega arith
 
-mul-negative-2 : tie.Need-mul-negative-2 Inv-loop μ-loop
-mul-negative-2 c = search needs
-
-shared-slice-read-negative-2 : tie.Need-shared-slice-read-negative-2 Inv-loop μ-loop
-shared-slice-read-negative-2 c = search needs
+value-at-requires-2 : tie.Need-value-at-requires-2 Inv-loop μ-loop
+value-at-requires-2 c κs = search needs
 
 negative-requires-2 : tie.Need-negative-requires-2 Inv-loop μ-loop
 negative-requires-2 c κs = search needs
@@ -58,17 +81,24 @@ loop-less c = search needs
 
 loop-again : tie.Need-loop-again Inv-loop μ-loop
 loop-again c =
-    let a = c .before .before .before .before .before .before .before .before .before .args in
-    let w = c .before .before .before .before .before .before .loop in
-    let more = c .counted .ensures .0 ∙ ap₂ (λ (s t : Bool). one (unlike s t)) (c .before .before .before .negative .ensures) (c .before .negative2 .ensures) in
-    (omega arith, omega arith, one-more (changesAt (a .a .now) (a .p) (a .b .now) (a .q)) (w .j) (w .inv .2) more refl)
+    let high = c .before .before in
+    let low = high .before .before in
+    let l = turn-of low in
+    let s = entry-of l in
+    let a = s .args in
+    let w = l .loop in
+    let lower = high .before .negative .ensures ∙ ap negative (low .value-at .ensures) in
+    let upper = c .before .negative2 .ensures ∙ ap negative (high .value-at2 .ensures) in
+    let more = c .counted .ensures .0 ∙ ap₂ (λ (s t : Bool). one (unlike s t)) lower upper in
+    (omega arith, omega arith, one-more (changesAt (low-of s) (a .p) (high-of s) (a .q)) (w .j) (w .inv .2) more refl)
 
 returns : tie.Need-returns Inv-loop μ-loop
 returns c =
-    let a = c .before .before .before .before .args in
+    let s = entry-of (c .before) in
+    let a = s .args in
     let w = c .before .loop in
     let end : w .j ≡ a .n = omega arith in
-    w .inv .2 ∙ ap (changesRun (a .a .now) (a .p) (a .b .now) (a .q)) end
+    w .inv .2 ∙ ap (changesRun (low-of s) (a .p) (high-of s) (a .q)) end
 
 pub changes-spec : {M : Type 1} → statement M
 changes-spec =
@@ -77,13 +107,11 @@ changes-spec =
     Inv-loop
     μ-loop
     loop-holds
-    add-negative
-    mul-negative
-    shared-slice-read-negative
+    add-value-at
+    value-at-requires
     negative-requires
-    add-negative-2
-    mul-negative-2
-    shared-slice-read-negative-2
+    add-value-at-2
+    value-at-requires-2
     negative-requires-2
     counted-requires
     add-count

@@ -2,10 +2,13 @@
 -- Assumes nothing.
 use Prim.Native.Nat.{_+_, _-_}
 use native.Mathlib.Omega.{arith}
+use mathlib.Core.List.{List}
 use mathlib.Core.Path.{_∙_}
+use lib.Ieee.{Float}
 use borrow.Author.Needs.{needs}
 use Rattle.rules.specs.Call.{badLayer}
 use Rattle.grid.specs.Block.{boxOf, fieldOf}
+use Rattle.grid.specs.Values.{gridOf}
 use Rattle.grid.specs.Order.{boxTo}
 use Rattle.grid.proofs.Runs.{box-is}
 use Rattle.grid.proofs.Walks.{Ahead, ahead-begun, ahead-more, ahead-ended, cell-spans, AtLayer, at-layer, box-done}
@@ -15,11 +18,12 @@ use Rattle.count.proofs.count_box.Statement.{statement}
 use Rattle.count.proofs.count_box.Tie as tie
 
 abbrev Inv-loop : tie.InvT-loop
-Inv-loop sdf k from end bad₀ vertices₀ indices₀ z₀ bad vertices indices z =
-    Ahead (badLayer (fieldOf sdf k) (boxOf k)) from end z bad × Counts (fieldOf sdf k) k (boxTo (boxOf k) z) vertices indices
+Inv-loop width sdf sdf16 sdf8 k from end bad₀ vertices₀ indices₀ z₀ bad vertices indices z =
+    let field = fieldOf (gridOf width sdf sdf16 sdf8) k in
+    Ahead (badLayer field (boxOf k)) from end z bad × Counts field k (boxTo (boxOf k) z) vertices indices
 
 abbrev μ-loop : tie.MeasureT-loop
-μ-loop sdf k from end bad₀ vertices₀ indices₀ z₀ bad vertices indices z = end - z
+μ-loop width sdf sdf16 sdf8 k from end bad₀ vertices₀ indices₀ z₀ bad vertices indices z = end - z
 
 -- the places that a later one leads back to
 abbrev entry-of : tie.At-loop Inv-loop μ-loop → tie.Start Inv-loop μ-loop
@@ -28,31 +32,34 @@ entry-of c = c .before .before .before
 abbrev turn-of : tie.After-count-part Inv-loop μ-loop → tie.In-loop Inv-loop μ-loop
 turn-of c = c .before .before .before
 
+abbrev grid-of : tie.Start Inv-loop μ-loop → List Float
+grid-of s = let a = s .args in gridOf (a .width) (a .sdf .now) (a .sdf16 .now) (a .sdf8 .now)
+
 -- the layer of a turn, and what it adds
 here : (c : tie.In-loop Inv-loop μ-loop) → let a = entry-of (c .before) .args in AtLayer (a .k) (c .before .loop .z)
-here c = at-layer (entry-of (c .before) .pre) (c .before .loop .inv .0 .count) (c .loop-test .taken)
+here c = at-layer (entry-of (c .before) .pre .0) (c .before .loop .inv .0 .count) (c .loop-test .taken)
 
-more : (c : tie.After-count-part Inv-loop μ-loop) → let a = entry-of (turn-of c .before) .args in let w = turn-of c .before .loop in let r = c .count-part .result in
-    Step (fieldOf (a .sdf .now) (a .k)) (a .k) (boxTo (boxOf (a .k)) (w .z + 1)) (w .vertices) (w .indices) (r .vertices) (r .indices)
+more : (c : tie.After-count-part Inv-loop μ-loop) → let s = entry-of (turn-of c .before) in let a = s .args in let w = turn-of c .before .loop in let r = c .count-part .result in
+    Step (fieldOf (grid-of s) (a .k)) (a .k) (boxTo (boxOf (a .k)) (w .z + 1)) (w .vertices) (w .indices) (r .vertices) (r .indices)
 more c = let h = here (turn-of c) in step (turn-of c .before .loop .inv .1) (record { same = c .count-part .ensures }) (h .grows) (h .short)
 
 bad-layer-requires : tie.Need-bad-layer-requires Inv-loop μ-loop
-bad-layer-requires c κs = let z = cell-spans (c .before .pre) .z in (c .before .pre, omega arith)
+bad-layer-requires c κs = let s = c .before in let z = cell-spans (s .pre .0) .z in (s .pre .0, (s .pre .1, omega arith))
 
 loop-holds : tie.Need-loop-holds Inv-loop μ-loop
-loop-holds c = let s = c .before .before in (ahead-begun (cell-spans (s .pre) .z) (c .bad-layer .ensures), counts-none (box-begins (boxOf (s .args .k))))
+loop-holds c = let s = c .before .before in (ahead-begun (cell-spans (s .pre .0) .z) (c .bad-layer .ensures), counts-none (box-begins (boxOf (s .args .k))))
 
 add-bad-layer : tie.Need-add-bad-layer Inv-loop μ-loop
 add-bad-layer c = let t = here c .turn in omega arith
 
 bad-layer-requires-2 : tie.Need-bad-layer-requires-2 Inv-loop μ-loop
-bad-layer-requires-2 c κs = let t = here c .turn in (entry-of (c .before) .pre, omega arith)
+bad-layer-requires-2 c κs = let s = entry-of (c .before) in let t = here c .turn in (s .pre .0, (s .pre .1, omega arith))
 
 either-requires : tie.Need-either-requires Inv-loop μ-loop
 either-requires c κs = search needs
 
 count-part-requires : tie.Need-count-part-requires Inv-loop μ-loop
-count-part-requires c κs = let t = c .before .before in (entry-of (t .before) .pre, here t .turn .here)
+count-part-requires c κs = let t = c .before .before in (entry-of (t .before) .pre .0, here t .turn .here)
 
 add-vertices : tie.Need-add-vertices Inv-loop μ-loop
 add-vertices c = more (c .before) .vertices-fit
@@ -74,10 +81,11 @@ loop-again c =
 
 returns : tie.Need-returns Inv-loop μ-loop
 returns c =
-    let a = entry-of (c .before) .args in
+    let s = entry-of (c .before) in
+    let k = s .args .k in
     let w = c .before .loop in
-    let bad = ahead-ended (w .inv .0) (c .loop-test .left) ∙ box-is (a .sdf .now) (a .k) in
-    (bad, counts-all (w .inv .1) (box-done (a .k) (w .inv .0 .count) (c .loop-test .left)))
+    let bad = ahead-ended (w .inv .0) (c .loop-test .left) ∙ box-is (grid-of s) k in
+    (bad, counts-all (w .inv .1) (box-done k (w .inv .0 .count) (c .loop-test .left)))
 
 pub count-box-spec : {M : Type 1} → statement M
 count-box-spec =

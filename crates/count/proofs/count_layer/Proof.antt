@@ -1,7 +1,10 @@
 -- The invariant: the counts are those of the cells before the row y. Assumes nothing.
 use Prim.Native.Nat.{_+_, _-_}
+use mathlib.Core.List.{List}
+use lib.Ieee.{Float}
 use Rattle.grid.specs.Block.{boxOf}
 use Rattle.grid.specs.Layers.{twoLayers}
+use Rattle.grid.specs.Values.{gridOf}
 use Rattle.grid.specs.Order.{layerTo}
 use Rattle.grid.proofs.Walks.{Counting, AtRow, layer-done}
 use Rattle.grid.proofs.Order.{layer-begins}
@@ -11,10 +14,12 @@ use Rattle.count.proofs.count_layer.Statement.{statement}
 use Rattle.count.proofs.count_layer.Tie as tie
 
 abbrev Inv-loop : tie.InvT-loop
-Inv-loop lower upper k z from end vertices₀ indices₀ y₀ vertices indices y = Counting from end y × Counts (twoLayers lower upper k z) k (layerTo (boxOf k) z y) vertices indices
+Inv-loop width lower upper lower16 upper16 lower8 upper8 k z from end vertices₀ indices₀ y₀ vertices indices y =
+    let two = twoLayers (gridOf width lower lower16 lower8) (gridOf width upper upper16 upper8) k z in
+    Counting from end y × Counts two k (layerTo (boxOf k) z y) vertices indices
 
 abbrev μ-loop : tie.MeasureT-loop
-μ-loop lower upper k z from end vertices₀ indices₀ y₀ vertices indices y = end - y
+μ-loop width lower upper lower16 upper16 lower8 upper8 k z from end vertices₀ indices₀ y₀ vertices indices y = end - y
 
 -- the places that a later one leads back to
 abbrev entry-of : tie.At-loop Inv-loop μ-loop → tie.Start Inv-loop μ-loop
@@ -23,12 +28,18 @@ entry-of c = c .before .before .before
 abbrev turn-of : tie.After-count-row Inv-loop μ-loop → tie.In-loop Inv-loop μ-loop
 turn-of c = c .before
 
+abbrev lower-of : tie.Start Inv-loop μ-loop → List Float
+lower-of s = let a = s .args in gridOf (a .width) (a .lower .now) (a .lower16 .now) (a .lower8 .now)
+
+abbrev upper-of : tie.Start Inv-loop μ-loop → List Float
+upper-of s = let a = s .args in gridOf (a .width) (a .upper .now) (a .upper16 .now) (a .upper8 .now)
+
 -- the row of a turn, and what it adds
 here : (c : tie.In-loop Inv-loop μ-loop) → let a = entry-of (c .before) .args in AtRow (a .k) (a .z) (c .before .loop .y)
 here c = row-of (entry-of (c .before) .pre) (c .before .loop .inv .0) (c .loop-test .taken)
 
-more : (c : tie.After-count-row Inv-loop μ-loop) → let a = entry-of (turn-of c .before) .args in let w = turn-of c .before .loop in let r = c .count-row .result in
-    Step (twoLayers (a .lower .now) (a .upper .now) (a .k) (a .z)) (a .k) (layerTo (boxOf (a .k)) (a .z) (w .y + 1)) (w .vertices) (w .indices) (r .vertices) (r .indices)
+more : (c : tie.After-count-row Inv-loop μ-loop) → let s = entry-of (turn-of c .before) in let a = s .args in let w = turn-of c .before .loop in let r = c .count-row .result in
+    Step (twoLayers (lower-of s) (upper-of s) (a .k) (a .z)) (a .k) (layerTo (boxOf (a .k)) (a .z) (w .y + 1)) (w .vertices) (w .indices) (r .vertices) (r .indices)
 more c = let h = here (turn-of c) in step (turn-of c .before .loop .inv .1) (record { same = c .count-row .ensures }) (h .grows) (h .short)
 
 loop-holds : tie.Need-loop-holds Inv-loop μ-loop

@@ -2,8 +2,11 @@
 use Prim.Native.Nat.{_+_, _-_, _*_, _≤_}
 use native.Mathlib.Omega.{arith}
 use mathlib.Core.Path.{refl, ap}
+use mathlib.Core.List.{List}
+use lib.Ieee.{Float}
 use borrow.Author.Needs.{needs}
 use Rattle.grid.specs.Block.{boxOf}
+use Rattle.grid.specs.Values.{gridOf}
 use Rattle.grid.proofs.Walks.{cell-spans}
 use Rattle.grid.proofs.Layers.{somewhere}
 use Rattle.grid.proofs.LayerWalks.{Row, row-fits, first-fits}
@@ -18,10 +21,16 @@ use Rattle.count.proofs.count_row.Tie as tie
 abbrev entry-of : tie.After-struct-known3 → tie.Start
 entry-of c = c .before .before .before .before .before
 
-row : (s : tie.Start) → Row (s .args .lower .now) (s .args .upper .now) (s .args .k) (s .args .y) (s .args .z)
+abbrev lower-of : tie.Start → List Float
+lower-of s = let a = s .args in gridOf (a .width) (a .lower .now) (a .lower16 .now) (a .lower8 .now)
+
+abbrev upper-of : tie.Start → List Float
+upper-of s = let a = s .args in gridOf (a .width) (a .upper .now) (a .upper16 .now) (a .upper8 .now)
+
+row : (s : tie.Start) → Row (lower-of s) (upper-of s) (s .args .k) (s .args .y) (s .args .z)
 row s = record { layers = s .pre .0; along-y = s .pre .1 }
 
-there : (s : tie.Start) → let a = s .args in Reach (a .lower .now) (a .upper .now) (a .k) (a .y) (a .z) (a .k .low .x + a .k .dims .x * a .y)
+there : (s : tie.Start) → let a = s .args in Reach (lower-of s) (upper-of s) (a .k) (a .y) (a .z) (a .k .low .x + a .k .dims .x * a .y)
 there s = reach (row s) refl
 
 -- whatever is owned, no more than the row has
@@ -87,33 +96,33 @@ changes-requires-3 c κs =
     let o = few (c .before .before .before) in
     ((omega arith, omega arith), omega arith)
 
-cast-t16 : tie.Need-cast-t16
-cast-t16 c = search needs
+cast-vertices : tie.Need-cast-vertices
+cast-vertices c = search needs
 
-cast-t17 : tie.Need-cast-t17
-cast-t17 c = search needs
+cast-x-faces : tie.Need-cast-x-faces
+cast-x-faces c = search needs
 
-cast-t18 : tie.Need-cast-t18
-cast-t18 c = search needs
+cast-y-faces : tie.Need-cast-y-faces
+cast-y-faces c = search needs
 
-add-t19 : tie.Need-add-t19
-add-t19 c = search needs
+add-flat-faces : tie.Need-add-flat-faces
+add-flat-faces c = search needs
 
-cast-t20 : tie.Need-cast-t20
-cast-t20 c = search needs
+cast-z-faces : tie.Need-cast-z-faces
+cast-z-faces c = search needs
 
-add-t21 : tie.Need-add-t21
-add-t21 c = search needs
+add-faces : tie.Need-add-faces
+add-faces c = search needs
 
-mul-t22 : tie.Need-mul-t22
-mul-t22 c = search needs
+mul-indices : tie.Need-mul-indices
+mul-indices c = search needs
 
 returns : tie.Need-returns
 returns c =
     let o = c .before .before .before .before in
     let s = entry-of (o .before) in
     let a = s .args in
-    row-tally (a .lower .now) (a .upper .now) (a .k) (s .pre .0) (s .pre .1) refl (o .owned-edges .ensures) (c .before .before .before .surface-cells .ensures)
+    row-tally (lower-of s) (upper-of s) (a .k) (s .pre .0) (s .pre .1) refl (o .owned-edges .ensures) (c .before .before .before .surface-cells .ensures)
     (c .before .before .changes .ensures) (c .before .changes2 .ensures) (c .changes3 .ensures)
 
 pub count-row-spec : {M : Type 1} → statement M
@@ -133,11 +142,11 @@ count-row-spec =
     add-changes
     changes-requires-2
     changes-requires-3
-    cast-t18
-    cast-t16
-    cast-t17
-    add-t19
-    cast-t20
-    add-t21
-    mul-t22
+    cast-vertices
+    cast-x-faces
+    cast-y-faces
+    cast-z-faces
+    add-flat-faces
+    add-faces
+    mul-indices
     returns)

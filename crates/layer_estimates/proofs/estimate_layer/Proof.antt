@@ -1,17 +1,20 @@
 -- The invariant: the lists are what the vertices of the first `done` cells leave. A turn is a batch, and after the last one the cells are all of the
 -- layer's. Assumes nothing.
-use Prim.Native.Nat.{ℕ, _+_, _-_, _/_, _≤_, zero-le}
+use Prim.Native.Nat.{ℕ, _+_, _-_, _/_, _≤_, _<_, _^_, zero-le}
 use native.Mathlib.Omega.{arith}
-use mathlib.Core.List.{map}
+use mathlib.Core.List.{List, map}
 use mathlib.Core.Path.{_≡_, ap, _∙_}
 use mir.Syntax.{w64}
 use mir.Val.{Fits}
+use lib.Ieee.{Float}
 use lib.ListN.{length}
 use Rattle.lists.specs.Lists.{upTo}
 use Rattle.lists.proofs.Runs.{upTo-none}
 use Rattle.rules.specs.Vertices.{layerVertices}
+use Rattle.rules.specs.Cutting.{Vertex}
 use Rattle.grid.specs.Block.{boxOf}
 use Rattle.grid.specs.Layers.{twoLayers}
+use Rattle.grid.specs.Values.{gridOf}
 use Rattle.layer_estimates.specs.Estimates.{lists, estimated}
 use Rattle.layer_estimates.proofs.Reading.{vertices-counted, vertices-estimated, batch-of}
 use Rattle.layer_estimates.proofs.Writing.{Wrote, wrote-none, wrote-run, wrote-lengths, room-left, wrote-cells}
@@ -20,11 +23,12 @@ use Rattle.layer_estimates.proofs.estimate_layer.Statement.{statement}
 use Rattle.layer_estimates.proofs.estimate_layer.Tie as tie
 
 abbrev Inv-loop : tie.InvT-loop
-Inv-loop lower upper z cells place positions₀ normals₀ crossings₀ row count done₀ positions normals crossings done =
-    (done ≤ count) × Wrote place (lists positions₀ normals₀ crossings₀) (map (estimated lower upper row cells) (upTo 0 done)) (lists positions normals crossings)
+Inv-loop width lower upper lower16 upper16 lower8 upper8 z cells place positions₀ normals₀ crossings₀ row count done₀ positions normals crossings done =
+    let vertex = estimated (gridOf width lower lower16 lower8) (gridOf width upper upper16 upper8) row cells in
+    (done ≤ count) × Wrote place (lists positions₀ normals₀ crossings₀) (map vertex (upTo 0 done)) (lists positions normals crossings)
 
 abbrev μ-loop : tie.MeasureT-loop
-μ-loop lower upper z cells place positions₀ normals₀ crossings₀ row count done₀ positions normals crossings done =
+μ-loop width lower upper lower16 upper16 lower8 upper8 z cells place positions₀ normals₀ crossings₀ row count done₀ positions normals crossings done =
     count - done
 
 -- ---- the places that a later one leads back to
@@ -38,6 +42,17 @@ turn-of c = c .before .before .before
 abbrev call-of : tie.After-slice-known6 Inv-loop μ-loop → tie.After-estimate-some Inv-loop μ-loop
 call-of c = c .before .before .before .before .before .before
 
+-- the two layers of distances
+abbrev lower-of : tie.Start Inv-loop μ-loop → List Float
+lower-of s = let a = s .args in gridOf (a .width) (a .lower .now) (a .lower16 .now) (a .lower8 .now)
+
+abbrev upper-of : tie.Start Inv-loop μ-loop → List Float
+upper-of s = let a = s .args in gridOf (a .width) (a .upper .now) (a .upper16 .now) (a .upper8 .now)
+
+-- the vertex of each cell of the list
+abbrev vertex-of : tie.Start Inv-loop μ-loop → ℕ → Vertex
+vertex-of s = estimated (lower-of s) (upper-of s) (s .args .k .dims .x) (s .args .cells .now)
+
 -- ---- how many cells a turn takes
 
 within : (c : tie.After-lesser Inv-loop μ-loop) → let s = start-of (c .before .before) in let w = c .before .before .loop in let n = c .lesser .result in
@@ -47,15 +62,17 @@ within c =
     let e = c .lesser .ensures in
     (omega arith, omega arith, omega arith)
 
+-- the places of all its vertices are numbers of 64 bits
+places : (s : tie.Start Inv-loop μ-loop) → s .args .place + length (s .args .cells .now) / 3 < 2 ^ 64
+places s = omega (arith, s .pre .1 .1 .crossings, vertices-counted (s .pre .0) (s .pre .1 .0))
+
 -- ---- the needs
 
 cast-row : tie.Need-cast-row Inv-loop μ-loop
 cast-row c = search needs
 
 loop-holds : tie.Need-loop-holds Inv-loop μ-loop
-loop-holds c =
-    let a = c .before .before .before .before .before .before .before .args in
-    (omega arith, wrote-none (ap (map (estimated (a .lower .now) (a .upper .now) (a .k .dims .x) (a .cells .now))) (upTo-none 0 0 zero-le)))
+loop-holds c = (omega arith, wrote-none (ap (map (vertex-of (c .before .before .before .before .before .before .before))) (upTo-none 0 0 zero-le)))
 
 sub-lesser : tie.Need-sub-lesser Inv-loop μ-loop
 sub-lesser c = search needs
@@ -64,7 +81,9 @@ lesser-requires : tie.Need-lesser-requires Inv-loop μ-loop
 lesser-requires c κs = search needs
 
 add-estimate-some : tie.Need-add-estimate-some Inv-loop μ-loop
-add-estimate-some c = search needs
+add-estimate-some c =
+    let l = c .before .before in
+    omega (arith, l .loop .inv .0, places (start-of l))
 
 estimate-some-requires : tie.Need-estimate-some-requires Inv-loop μ-loop
 estimate-some-requires c κs =
@@ -86,12 +105,8 @@ loop-again : tie.Need-loop-again Inv-loop μ-loop
 loop-again c =
     let m = call-of c in
     let t = turn-of (m .before) in
-    let a = start-of (t .before .before) .args in
-    let w = t .before .before .loop in (
-      within t .1,
-      wrote-run (estimated (a .lower .now) (a .upper .now) (a .k .dims .x) (a .cells .now)) (w .done) (t .lesser .result) (w .inv .1)
-          (record { same = m .estimate-some .ensures }),
-    )
+    let w = t .before .before .loop in
+    (within t .1, wrote-run (vertex-of (start-of (t .before .before))) (w .done) (t .lesser .result) (w .inv .1) (record { same = m .estimate-some .ensures }))
 
 same-length : tie.Need-same-length Inv-loop μ-loop
 same-length c = wrote-lengths (c .before .loop .inv .1) .positions
@@ -107,11 +122,10 @@ returns c =
     let s = start-of (c .before) in
     let a = s .args in
     let w = c .before .loop in
-    let g = twoLayers (a .lower .now) (a .upper .now) (a .k) (a .z) in
+    let g = twoLayers (lower-of s) (upper-of s) (a .k) (a .z) in
     let cs = layerVertices g (boxOf (a .k)) (a .z) in
-    let f = estimated (a .lower .now) (a .upper .now) (a .k .dims .x) (a .cells .now) in
     let all : w .done ≡ length cs = omega (arith, w .inv .0, c .loop-test .left, vertices-counted (s .pre .0) (s .pre .1 .0)) in
-    wrote-cells g cs (w .inv .1) (ap (λ (n : ℕ). map f (upTo 0 n)) all ∙ vertices-estimated (s .pre .0) (s .pre .1 .0))
+    wrote-cells g cs (w .inv .1) (ap (λ (n : ℕ). map (vertex-of s) (upTo 0 n)) all ∙ vertices-estimated (s .pre .0) (s .pre .1 .0))
 
 pub estimate-layer-spec : {M : Type 1} → statement M
 estimate-layer-spec =

@@ -1,10 +1,14 @@
 -- The invariant: the lanes before j hold the corner values of their cells. A turn stores the eight of the lane j, by a law of lanes. Assumes nothing.
-use Prim.Native.Nat.{ℕ, _+_, _*_, _-_, _≤_}
+use Prim.Native.Nat.{ℕ, _+_, _*_, _-_, _≤_, _<_, _^_}
 use native.Mathlib.Omega.{arith}
+use mathlib.Core.List.{List}
 use mathlib.Core.Path.{_≡_, refl, ap₂}
+use lib.Ieee.{Float}
 use lib.ListN.{length, length-set}
 use Rattle.rules.specs.Cutting.{pointIn}
 use Rattle.grid.specs.Corners.{eightOf}
+use Rattle.grid.specs.Values.{gridOf}
+use Rattle.grid.proofs.Places.{grid-counted}
 use Rattle.layer_estimates.specs.Estimates.{Reads, cornersOf, Gathered}
 use Rattle.layer_estimates.proofs.Lanes.{eight-more}
 use borrow.Author.Needs.{needs}
@@ -12,11 +16,11 @@ use Rattle.layer_estimates.proofs.gather.Statement.{statement}
 use Rattle.layer_estimates.proofs.gather.Tie as tie
 
 abbrev Inv-loop : tie.InvT-loop
-Inv-loop lower upper row cells from n corners₀ j₀ corners j =
-    (j ≤ n) × ((length corners ≡ 256) × Gathered lower upper row cells from corners j)
+Inv-loop width lower upper lower16 upper16 lower8 upper8 row cells from n corners₀ j₀ corners j =
+    (j ≤ n) × ((length corners ≡ 256) × Gathered (gridOf width lower lower16 lower8) (gridOf width upper upper16 upper8) row cells from corners j)
 
 abbrev μ-loop : tie.MeasureT-loop
-μ-loop lower upper row cells from n corners₀ j₀ corners j = n - j
+μ-loop width lower upper lower16 upper16 lower8 upper8 row cells from n corners₀ j₀ corners j = n - j
 
 -- ---- the places that a later one leads back to, and the cell of a turn
 
@@ -26,9 +30,20 @@ start-of c = c .before .before .before .before .before
 abbrev turn-of : tie.After-side-between2 Inv-loop μ-loop → tie.In-loop Inv-loop μ-loop
 turn-of c = c .before .before .before .before
 
-here : (c : tie.In-loop Inv-loop μ-loop) → let a = start-of (c .before) .args in
-    Reads (a .lower .now) (a .upper .now) (a .row) (pointIn (a .cells .now) (a .from + c .before .loop .j))
+-- the two layers of distances
+abbrev lower-of : tie.Start Inv-loop μ-loop → List Float
+lower-of s = let a = s .args in gridOf (a .width) (a .lower .now) (a .lower16 .now) (a .lower8 .now)
+
+abbrev upper-of : tie.Start Inv-loop μ-loop → List Float
+upper-of s = let a = s .args in gridOf (a .width) (a .upper .now) (a .upper16 .now) (a .upper8 .now)
+
+here : (c : tie.In-loop Inv-loop μ-loop) → let s = start-of (c .before) in
+    Reads (lower-of s) (upper-of s) (s .args .row) (pointIn (s .args .cells .now) (s .args .from + c .before .loop .j))
 here c = start-of (c .before) .pre .0 .reads (c .before .loop .j) (c .loop-test .taken)
+
+-- a place in the lower layer is a number of 64 bits
+short : (s : tie.Start Inv-loop μ-loop) → length (lower-of s) < 2 ^ 64
+short s = let a = s .args in grid-counted (a .width) (a .lower .now) (a .lower16 .now) (a .lower8 .now) (omega arith) (omega arith) (omega arith)
 
 -- ---- the needs
 
@@ -63,16 +78,16 @@ cast-at-2 : tie.Need-cast-at-2 Inv-loop μ-loop
 cast-at-2 c = let t = c .before .before in omega (arith, c .shared-slice-known5 .given (3 * (start-of (t .before) .args .from + t .before .loop .j) + 1))
 
 mul-at-3 : tie.Need-mul-at-3 Inv-loop μ-loop
-mul-at-3 c = omega (arith, here (c .before .before))
+mul-at-3 c = let t = c .before .before in omega (arith, here t, short (start-of (t .before)))
 
 add-at-2 : tie.Need-add-at-2 Inv-loop μ-loop
-add-at-2 c = omega (arith, here (c .before .before))
+add-at-2 c = let t = c .before .before in omega (arith, here t, short (start-of (t .before)))
 
 side-between-requires : tie.Need-side-between-requires Inv-loop μ-loop
 side-between-requires c κs = omega (arith, here (c .before .before))
 
 add-side-between : tie.Need-add-side-between Inv-loop μ-loop
-add-side-between c = omega (arith, here (c .before .before .before))
+add-side-between c = let t = c .before .before .before in omega (arith, here t, short (start-of (t .before)))
 
 side-between-requires-2 : tie.Need-side-between-requires-2 Inv-loop μ-loop
 side-between-requires-2 c κs = omega (arith, here (c .before .before .before))
@@ -165,7 +180,7 @@ loop-again c =
         simp length-set (w .inv .1 .0),
         record {
           each =
-              eight-more (λ (j : ℕ). cornersOf (a .lower .now) (a .upper .now) (a .row) (pointIn (a .cells .now) (a .from + j))) (w .corners) (w .j)
+              eight-more (λ (j : ℕ). cornersOf (lower-of s) (upper-of s) (a .row) (pointIn (a .cells .now) (a .from + j))) (w .corners) (w .j)
               (eightOf (low .result) (high .result)) (w .inv .1 .0) (omega arith) refl (w .inv .1 .1 .each) (ap₂ eightOf (low .ensures) (high .ensures));
         },
       ),

@@ -1,12 +1,15 @@
 -- The invariant: the indices are the faces of the vertices before `done`, batch after batch; after the last, those of the layer. Assumes nothing.
-use Prim.Native.Nat.{ℕ, _+_, _-_, _/_, _≤_, _<_}
+use Prim.Native.Nat.{ℕ, _+_, _-_, _/_, _≤_, _<_, _^_}
+use mathlib.Core.List.{List}
 use mathlib.Core.Path.{_≡_}
 use native.Mathlib.Omega.{arith}
+use lib.Ieee.{Float}
 use lib.ListN.{length}
 use Rattle.rules.specs.Grid.{Field}
 use Rattle.rules.specs.Vertices.{layerVertices}
 use Rattle.grid.specs.Block.{boxOf, flagsOf}
 use Rattle.grid.specs.Layers.{twoLayers}
+use Rattle.grid.specs.Values.{gridOf}
 use Rattle.layer_faces.specs.Below.{Kept}
 use Rattle.layer_faces.proofs.Lookups.{keptOf}
 use Rattle.layer_faces.proofs.Vertices.{count-is, Faced, faced-none, faced-more, faced-room, faced-length, faced-all}
@@ -15,11 +18,12 @@ use Rattle.layer_faces.proofs.face_layer.Statement.{statement}
 use Rattle.layer_faces.proofs.face_layer.Tie as tie
 
 abbrev Inv-loop : tie.InvT-loop
-Inv-loop lower upper k z first cells map positions map-below positions-below indices₀ at count used₀ done₀ indices used done =
-    (done ≤ count) × Faced (twoLayers lower upper k z) (boxOf k) (flagsOf k) (first .here) z (keptOf first map-below positions-below) indices₀ at done used indices
+Inv-loop width lower upper lower16 upper16 lower8 upper8 k z first cells map positions map-below positions-below indices₀ at count used₀ done₀ indices used done =
+    let g = twoLayers (gridOf width lower lower16 lower8) (gridOf width upper upper16 upper8) k z in
+    (done ≤ count) × Faced g (boxOf k) (flagsOf k) (first .here) z (keptOf first map-below positions-below) indices₀ at done used indices
 
 abbrev μ-loop : tie.MeasureT-loop
-μ-loop lower upper k z first cells map positions map-below positions-below indices₀ at count used₀ done₀ indices used done = count - done
+μ-loop width lower upper lower16 upper16 lower8 upper8 k z first cells map positions map-below positions-below indices₀ at count used₀ done₀ indices used done = count - done
 
 -- ---- the places that a later one leads back to
 
@@ -32,13 +36,24 @@ call-of c = c .before .before
 abbrev size-of : tie.After-slice-known2 Inv-loop μ-loop → tie.After-lesser Inv-loop μ-loop
 size-of c = call-of c .before .before
 
+-- the two layers of distances, and the field that they are
+abbrev lower-of : tie.Start Inv-loop μ-loop → List Float
+lower-of s = let a = s .args in gridOf (a .width) (a .lower .now) (a .lower16 .now) (a .lower8 .now)
+
+abbrev upper-of : tie.Start Inv-loop μ-loop → List Float
+upper-of s = let a = s .args in gridOf (a .width) (a .upper .now) (a .upper16 .now) (a .upper8 .now)
+
 abbrev grid-of : tie.Start Inv-loop μ-loop → Field
-grid-of s = let a = s .args in twoLayers (a .lower .now) (a .upper .now) (a .k) (a .z)
+grid-of s = twoLayers (lower-of s) (upper-of s) (s .args .k) (s .args .z)
 
 abbrev kept-of : tie.Start Inv-loop μ-loop → Kept
 kept-of s = let a = s .args in keptOf (a .first) (a .map-below .now) (a .positions-below .now)
 
 -- ---- the vertices of a batch
+
+-- their numbers are of 64 bits
+short : (s : tie.Start Inv-loop μ-loop) → length (s .args .cells .now) < 2 ^ 64
+short s = omega arith
 
 count : (s : tie.Start Inv-loop μ-loop) → length (s .args .cells .now) / 3 ≡ length (layerVertices (grid-of s) (boxOf (s .args .k)) (s .args .z))
 count s = let a = s .args in count-is (grid-of s) (boxOf (a .k)) (a .z) (a .cells .now) (s .pre .1 .0 .cells)
@@ -89,7 +104,7 @@ face-some-requires c κs =
 add-done : tie.Need-add-done Inv-loop μ-loop
 add-done c =
     let l = size-of c in
-    omega (arith, size l .within, entry-of (l .before .before) .good .1 .1 .1 .1 .1 .0)
+    omega (arith, size l .within, short (entry-of (l .before .before)))
 
 loop-less : tie.Need-loop-less Inv-loop μ-loop
 loop-less c =

@@ -1,14 +1,16 @@
 -- The invariant: the indices are the quads of the first q listed edges; after the last, those are the faces of the batch. Assumes nothing.
-use Prim.Native.Nat.{ℕ, _+_, _-_, _*_, _/_, _%_, _≤_}
+use Prim.Native.Nat.{ℕ, _+_, _-_, _*_, _≤_, _<_, _^_}
 use mathlib.Core.List.{List}
 use mathlib.Core.Path.{_≡_, refl, sym, ap, _∙_}
 use native.Mathlib.Omega.{arith}
+use lib.Ieee.{Float}
 use lib.ListN.{length, getD, take}
 use lib.Seq.{sets, length-sets, getD-take}
 use Rattle.lists.specs.Lists.{joined}
 use Rattle.rules.specs.Grid.{Field}
 use Rattle.grid.specs.Block.{boxOf, flagsOf}
 use Rattle.grid.specs.Layers.{twoLayers}
+use Rattle.grid.specs.Values.{gridOf}
 use Rattle.layer_faces.specs.Quads.{listed, quadBy, someEdges}
 use Rattle.layer_faces.proofs.Chosen.{length-quadAt}
 use Rattle.layer_faces.proofs.Vertices.{vertex-is, vertex-cells, faces-more}
@@ -19,11 +21,11 @@ use Rattle.layer_faces.proofs.face_some.Statement.{statement}
 use Rattle.layer_faces.proofs.face_some.Tie as tie
 
 abbrev Inv-loop : tie.InvT-loop
-Inv-loop lower upper z first cells map positions map-below positions-below from n indices₀ at row edges m q₀ indices q =
-    (q ≤ m) × (indices ≡ sets indices₀ at (joined (quadBy first map positions map-below positions-below lower row cells from) (take q edges)))
+Inv-loop width lower upper lower16 upper16 lower8 upper8 z first cells map positions map-below positions-below from n indices₀ at row edges m q₀ indices q =
+    (q ≤ m) × (indices ≡ sets indices₀ at (joined (quadBy first map positions map-below positions-below (gridOf width lower lower16 lower8) row cells from) (take q edges)))
 
 abbrev μ-loop : tie.MeasureT-loop
-μ-loop lower upper z first cells map positions map-below positions-below from n indices₀ at row edges m q₀ indices q = m - q
+μ-loop width lower upper lower16 upper16 lower8 upper8 z first cells map positions map-below positions-below from n indices₀ at row edges m q₀ indices q = m - q
 
 -- ---- the places that a later one leads back to
 
@@ -36,11 +38,18 @@ listed-of c = c .before .before
 abbrev turn-of : tie.After-slice-known2 Inv-loop μ-loop → tie.In-loop Inv-loop μ-loop
 turn-of c = c .before .before .before .before
 
+-- the two layers of distances, and the field that they are
+abbrev lower-of : tie.Start Inv-loop μ-loop → List Float
+lower-of s = let a = s .args in gridOf (a .width) (a .lower .now) (a .lower16 .now) (a .lower8 .now)
+
+abbrev upper-of : tie.Start Inv-loop μ-loop → List Float
+upper-of s = let a = s .args in gridOf (a .width) (a .upper .now) (a .upper16 .now) (a .upper8 .now)
+
 abbrev grid-of : tie.Start Inv-loop μ-loop → Field
-grid-of s = let a = s .args in twoLayers (a .lower .now) (a .upper .now) (a .k) (a .z)
+grid-of s = twoLayers (lower-of s) (upper-of s) (s .args .k) (s .args .z)
 
 abbrev edges-of : tie.After-list-edges Inv-loop μ-loop → List ℕ
-edges-of c = c .list-edges .last .1 .1 .1 .1 .1 .1 .1 .0
+edges-of c = c .list-edges .last .1 .1 .1 .1 .1 .1 .1 .1 .1 .1 .1 .1 .0
 
 abbrev codes-of : tie.Start Inv-loop μ-loop → List ℕ
 codes-of s = let a = s .args in listed (grid-of s) (boxOf (a .k)) (flagsOf (a .k)) (a .cells .now) (a .z) (a .from) (3 * a .n)
@@ -48,7 +57,7 @@ codes-of s = let a = s .args in listed (grid-of s) (boxOf (a .k)) (flagsOf (a .k
 abbrev quad-of : tie.Start Inv-loop μ-loop → ℕ → List ℕ
 quad-of s =
     let a = s .args in
-    quadBy (a .first) (a .map .now) (a .positions .now) (a .map-below .now) (a .positions-below .now) (a .lower .now) (a .k .dims .x) (a .cells .now) (a .from)
+    quadBy (a .first) (a .map .now) (a .positions .now) (a .map-below .now) (a .positions-below .now) (lower-of s) (a .k .dims .x) (a .cells .now) (a .from)
 
 -- ---- the batch
 
@@ -76,6 +85,10 @@ count c =
 
 room : (c : tie.After-list-edges Inv-loop μ-loop) → let a = start-of (c .before) .args in a .at + 6 * c .list-edges .result ≤ length (a .indices .now)
 room c = let r = start-of (c .before) .pre .1 .1 .1 .room in omega (arith, count c)
+
+-- at places of 64 bits
+short : (s : tie.Start Inv-loop μ-loop) → length (s .args .indices .now) < 2 ^ 64
+short s = omega (arith, s .good .1 .1 .1 .1 .1 .1 .1 .1 .1 .1 .1 .1 .1 .1 .1 .1 .1 .0)
 
 long : (c : tie.At-loop Inv-loop μ-loop) → length (c .loop .indices) ≡ length (start-of (listed-of c .before) .args .indices .now)
 long c = ap length (c .loop .inv .1) ∙ simp length-sets
@@ -125,7 +138,7 @@ add-put-face : tie.Need-add-put-face Inv-loop μ-loop
 add-put-face c =
     let h = c .before .loop-test .taken in
     let l = listed-of (c .before .before) in
-    omega (arith, room l, start-of (l .before) .good .1 .1 .1 .1 .1 .1 .1 .1 .1 .1 .1 .1 .0)
+    omega (arith, room l, short (start-of (l .before)))
 
 put-face-requires : tie.Need-put-face-requires Inv-loop μ-loop
 put-face-requires c κs =
@@ -156,7 +169,7 @@ loop-again c =
     let h = t .loop-test .taken in (
       omega arith,
       faces-more (quad-of s) (λ e. length-quadAt _ _ _ _ _ _ _ _ _ _) (edges-of l) (s .args .indices .now) (s .args .at) (w .q) 0 (w .inv .1)
-          (omega (arith, few l, l .list-edges .kept .1 .1 .1 .1 .1 .1 .1 .0)) (c .before .before .put-face .ensures),
+          (omega (arith, few l, l .list-edges .kept .1 .1 .1 .1 .1 .1 .1 .1 .1 .1 .1 .1 .0)) (c .before .before .put-face .ensures),
     )
 
 mul-result : tie.Need-mul-result Inv-loop μ-loop
@@ -165,7 +178,7 @@ mul-result c = omega (arith, few (listed-of (c .before)))
 add-result : tie.Need-add-result Inv-loop μ-loop
 add-result c =
     let l = listed-of (c .before) in
-    omega (arith, room l, start-of (l .before) .good .1 .1 .1 .1 .1 .1 .1 .1 .1 .1 .1 .1 .0)
+    omega (arith, room l, short (start-of (l .before)))
 
 same-length : tie.Need-same-length Inv-loop μ-loop
 same-length c = long (c .before)

@@ -1,26 +1,31 @@
 -- The invariant: the first m entries are the numbers of the edges that give a face, of the j vertices so far. A turn stores three numbers, each of
 -- which counts on if its edge gives one. Assumes nothing.
-use Prim.Native.Nat.{ℕ, _+_, _-_, _*_, _≤_, _<_}
+use Prim.Native.Nat.{ℕ, _+_, _-_, _*_, _≤_, _<_, _^_}
 use mathlib.Core.Bool.{Bool}
+use mathlib.Core.List.{List}
 use mathlib.Core.Path.{_≡_, refl, ap, _∙_}
 use native.Mathlib.Omega.{arith}
+use lib.Ieee.{Float}
 use lib.ListN.{length}
 use Rattle.lists.specs.Lists.{run, keep}
+use Rattle.rules.specs.Grid.{Field}
 use Rattle.rules.specs.Faces.{edge, gives}
 use Rattle.grid.specs.Block.{boxOf, flagsOf}
 use Rattle.grid.specs.Layers.{twoLayers}
+use Rattle.grid.specs.Values.{gridOf}
 use Rattle.layer_faces.specs.Quads.{axisOf, cellAt, edgeAt, listed}
 use Rattle.layer_faces.proofs.Listing.{Stored, stored-none, stored-few, stored-more, edge-at}
 use Rattle.layer_faces.proofs.list_edges.Statement.{statement}
 use Rattle.layer_faces.proofs.list_edges.Tie as tie
 
 abbrev Inv-loop : tie.InvT-loop
-Inv-loop lower upper k z cells from n edges₀ m₀ j₀ edges m j =
+Inv-loop width lower upper lower16 upper16 lower8 upper8 k z cells from n edges₀ m₀ j₀ edges m j =
+    let g = twoLayers (gridOf width lower lower16 lower8) (gridOf width upper upper16 upper8) k z in
     (j ≤ n) × ((length edges ≡ length edges₀)
-    × Stored (λ (e : ℕ). gives (twoLayers lower upper k z) (boxOf k) (flagsOf k) (edgeAt cells z from e)) (3 * j) edges m)
+    × Stored (λ (e : ℕ). gives g (boxOf k) (flagsOf k) (edgeAt cells z from e)) (3 * j) edges m)
 
 abbrev μ-loop : tie.MeasureT-loop
-μ-loop lower upper k z cells from n edges₀ m₀ j₀ edges m j = n - j
+μ-loop width lower upper lower16 upper16 lower8 upper8 k z cells from n edges₀ m₀ j₀ edges m j = n - j
 
 -- ---- the places that a later one leads back to
 
@@ -39,8 +44,18 @@ second-of c = c .before .before .before
 abbrev third-of : tie.After-slice-known4 Inv-loop μ-loop → tie.After-list-edge3 Inv-loop μ-loop
 third-of c = c .before .before
 
+-- the two layers of distances, and the field that they are
+abbrev lower-of : tie.Start Inv-loop μ-loop → List Float
+lower-of s = let a = s .args in gridOf (a .width) (a .lower .now) (a .lower16 .now) (a .lower8 .now)
+
+abbrev upper-of : tie.Start Inv-loop μ-loop → List Float
+upper-of s = let a = s .args in gridOf (a .width) (a .upper .now) (a .upper16 .now) (a .upper8 .now)
+
+abbrev grid-of : tie.Start Inv-loop μ-loop → Field
+grid-of s = twoLayers (lower-of s) (upper-of s) (s .args .k) (s .args .z)
+
 abbrev test-of : tie.Start Inv-loop μ-loop → ℕ → Bool
-test-of s e = let a = s .args in gives (twoLayers (a .lower .now) (a .upper .now) (a .k) (a .z)) (boxOf (a .k)) (flagsOf (a .k)) (edgeAt (a .cells .now) (a .z) (a .from) e)
+test-of s e = let a = s .args in gives (grid-of s) (boxOf (a .k)) (flagsOf (a .k)) (edgeAt (a .cells .now) (a .z) (a .from) e)
 
 -- ---- a turn
 
@@ -48,18 +63,23 @@ test-of s e = let a = s .args in gives (twoLayers (a .lower .now) (a .upper .now
 reads : (c : tie.In-loop Inv-loop μ-loop) → let s = entry-of (c .before) in 3 * (s .args .from + c .before .loop .j) + 2 < length (s .args .cells .now)
 reads c = let h = c .loop-test .taken in omega (arith, entry-of (c .before) .pre .1 .0 .within)
 
+-- at a place of 64 bits
+short : (s : tie.Start Inv-loop μ-loop) → length (s .args .cells .now) < 2 ^ 64
+short s = omega arith
+
 -- there is room for the three
 room : (c : tie.In-loop Inv-loop μ-loop) → 3 * c .before .loop .j + 3 ≤ length (c .before .loop .edges)
 room c = let h = c .loop-test .taken in let l = c .before .loop .inv .1 .0 in omega (arith, entry-of (c .before) .pre .1 .1 .1)
 
 -- whether the edge with the number 3 j + a counts
 counts : (c : tie.After-giving Inv-loop μ-loop) (a : ℕ) {e : ℕ} {y : Bool} → let t = turn-of c in let s = entry-of (t .before) in let r = s .args in
-    y ≡ gives (twoLayers (r .lower .now) (r .upper .now) (r .k) (r .z)) (boxOf (r .k)) (flagsOf (r .k))
+    y ≡ gives (grid-of s) (boxOf (r .k)) (flagsOf (r .k))
     (edge (axisOf a) (cellAt (r .cells .now) (r .z) (r .from + t .before .loop .j))) → a < 3 → e ≡ 3 * t .before .loop .j + a → y ≡ test-of s e
 counts c a g h k =
     let t = turn-of c in
-    let r = entry-of (t .before) .args in
-    g ∙ ap (gives (twoLayers (r .lower .now) (r .upper .now) (r .k) (r .z)) (boxOf (r .k)) (flagsOf (r .k)))
+    let s = entry-of (t .before) in
+    let r = s .args in
+    g ∙ ap (gives (grid-of s) (boxOf (r .k)) (flagsOf (r .k)))
     (edge-at (r .cells .now) (r .z) (r .from) (t .before .loop .j) a h k)
 
 stored1 : (c : tie.After-list-edge Inv-loop μ-loop) → let t = turn-of (c .before .before) in
@@ -103,22 +123,22 @@ loop-holds c =
     (omega arith, (refl, stored-none (test-of s) (s .args .edges .now)))
 
 add-i : tie.Need-add-i Inv-loop μ-loop
-add-i c = omega (arith, reads c, entry-of (c .before) .good .1 .1 .1 .1 .0)
+add-i c = omega (arith, reads c, short (entry-of (c .before)))
 
 mul-i : tie.Need-mul-i Inv-loop μ-loop
-mul-i c = omega (arith, reads c, entry-of (c .before) .good .1 .1 .1 .1 .0)
+mul-i c = omega (arith, reads c, short (entry-of (c .before)))
 
 mul-e : tie.Need-mul-e Inv-loop μ-loop
-mul-e c = omega (arith, reads c, entry-of (c .before) .good .1 .1 .1 .1 .0)
+mul-e c = omega (arith, reads c, short (entry-of (c .before)))
 
 shared-slice-read-e : tie.Need-shared-slice-read-e Inv-loop μ-loop
 shared-slice-read-e c = omega (arith, reads (c .before))
 
 add-list-edge : tie.Need-add-list-edge Inv-loop μ-loop
-add-list-edge c = omega (arith, reads (c .before), entry-of (c .before .before) .good .1 .1 .1 .1 .0)
+add-list-edge c = omega (arith, reads (c .before), short (entry-of (c .before .before)))
 
 mul-list-edge : tie.Need-mul-list-edge Inv-loop μ-loop
-mul-list-edge c = omega (arith, reads (c .before), entry-of (c .before .before) .good .1 .1 .1 .1 .0)
+mul-list-edge c = omega (arith, reads (c .before), short (entry-of (c .before .before)))
 
 shared-slice-read-list-edge : tie.Need-shared-slice-read-list-edge Inv-loop μ-loop
 shared-slice-read-list-edge c = omega (arith, reads (c .before .before))

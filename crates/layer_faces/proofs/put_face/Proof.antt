@@ -1,8 +1,14 @@
 -- Four vertices, the first by its number and three looked up, as the caller owes, and their quad is put. Assumes nothing.
-use Prim.Native.Nat.{_+_, _/_, _%_}
+use Prim.Native.Nat.{_+_, _/_, _%_, _<_, _^_}
+use mathlib.Core.List.{List}
 use mathlib.Core.Path.{ap, _∙_}
 use native.Mathlib.Omega.{arith}
+use lib.Ieee.{Float}
+use lib.ListN.{length}
 use lib.Seq.{sets}
+use Rattle.rules.specs.Cell.{negative}
+use Rattle.grid.specs.Values.{gridOf}
+use Rattle.grid.proofs.Places.{grid-counted}
 use Rattle.layer_faces.specs.Quads.{axisOf}
 use Rattle.layer_faces.proofs.Chosen.{reaches, quad-looked}
 use borrow.Author.Needs.{needs}
@@ -20,6 +26,13 @@ own-of c = c .before .before .before
 abbrev seen-of : tie.After-make-quad-arg → tie.After-look3
 seen-of c = c .before .before .before
 
+-- the layer of distances; a place in it is a number of 64 bits
+abbrev lower-of : tie.Start → List Float
+lower-of s = let a = s .args in gridOf (a .width) (a .lower .now) (a .lower16 .now) (a .lower8 .now)
+
+short : (s : tie.Start) → length (lower-of s) < 2 ^ 64
+short s = let a = s .args in grid-counted (a .width) (a .lower .now) (a .lower16 .now) (a .lower8 .now) (omega arith) (omega arith) (omega arith)
+
 -- ---- the needs
 
 cast-v : tie.Need-cast-v
@@ -29,7 +42,9 @@ add-v : tie.Need-add-v
 add-v c = search needs
 
 place-of-requires : tie.Need-place-of-requires
-place-of-requires c κs = search needs
+place-of-requires c κs =
+    let s = c .before .before .before .before .before .before .before in
+    (s .pre .0 .cell, omega (arith, s .pre .0 .sign, short s))
 
 own-vertex-requires : tie.Need-own-vertex-requires
 own-vertex-requires c κs = search needs
@@ -52,15 +67,9 @@ fourth-way-requires c κs = let s = start-of (own-of (c .before) .before) in (om
 look-requires-3 : tie.Need-look-requires-3
 look-requires-3 c κs = let o = own-of (c .before .before) in reaches (o .before .place-of .ensures) (c .fourth-way .ensures) (start-of (o .before) .pre .0 .four)
 
-mul-negative : tie.Need-mul-negative
-mul-negative c =
+value-at-requires : tie.Need-value-at-requires
+value-at-requires c κs =
     let p = own-of (c .before .before .before) .before in
-    let s = start-of p in
-    omega (arith, p .place-of .ensures, s .pre .0 .sign, s .good .0)
-
-shared-slice-read-negative : tie.Need-shared-slice-read-negative
-shared-slice-read-negative c =
-    let p = own-of (c .before .before .before .before) .before in
     omega (arith, p .place-of .ensures, start-of p .pre .0 .sign)
 
 negative-requires : tie.Need-negative-requires
@@ -79,10 +88,12 @@ returns c =
     let o = own-of w3 in
     let s = start-of (o .before) in
     let a = s .args in
+    let n = c .before .before .before .before in
+    let sign = n .negative .ensures ∙ ap negative (n .before .value-at .ensures) in
     c .before .before .make-quad .ensures
     ∙ ap (sets (a .indices .now) (a .at))
-    (quad-looked (a .first) (a .map .now) (a .positions .now) (a .map-below .now) (a .positions-below .now) (a .lower .now) (a .row) (a .cells .now) (a .from + a .e / 3)
-    (axisOf (a .e % 3)) (o .before .place-of .ensures) (c .before .before .before .before .negative .ensures) (w3 .before .before .second-way .ensures) (w3 .third-way .ensures)
+    (quad-looked (a .first) (a .map .now) (a .positions .now) (a .map-below .now) (a .positions-below .now) (lower-of s) (a .row) (a .cells .now) (a .from + a .e / 3)
+    (axisOf (a .e % 3)) (o .before .place-of .ensures) sign (w3 .before .before .second-way .ensures) (w3 .third-way .ensures)
     (l3 .before .fourth-way .ensures) (o .own-vertex .ensures) (w3 .before .look .ensures) (l3 .before .before .look2 .ensures) (l3 .look3 .ensures))
 
 pub put-face-spec : {M : Type 1} → statement M
@@ -99,8 +110,7 @@ put-face-spec =
     look-requires-2
     fourth-way-requires
     look-requires-3
-    mul-negative
-    shared-slice-read-negative
+    value-at-requires
     negative-requires
     make-quad-requires
     same-length

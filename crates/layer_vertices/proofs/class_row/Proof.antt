@@ -1,9 +1,12 @@
 -- The invariant: the row's part of the map is what the first j cells leave. Assumes nothing.
 use Prim.Native.Nat.{ℕ, _≤_, _-_}
+use mathlib.Core.List.{List}
 use mathlib.Core.Path.{_≡_, ap, _∙_}
 use native.Mathlib.Omega.{arith}
+use lib.Ieee.{Float}
 use lib.ListN.{length}
 use lib.Seq.{sets, length-sets}
+use Rattle.grid.specs.Values.{gridOf}
 use Rattle.layer_vertices.specs.Cells.{classes}
 use Rattle.layer_vertices.proofs.Rows.{classed-none, classed-more}
 use borrow.Author.Needs.{needs}
@@ -11,10 +14,11 @@ use Rattle.layer_vertices.proofs.class_row.Statement.{statement}
 use Rattle.layer_vertices.proofs.class_row.Tie as tie
 
 abbrev Inv-loop : tie.InvT-loop
-Inv-loop lower upper at row n map₀ j₀ map j = (j ≤ n) × (map ≡ sets map₀ at (classes lower upper at row j))
+Inv-loop width lower upper lower16 upper16 lower8 upper8 at row n map₀ j₀ map j =
+    (j ≤ n) × (map ≡ sets map₀ at (classes (gridOf width lower lower16 lower8) (gridOf width upper upper16 upper8) at row j))
 
 abbrev μ-loop : tie.MeasureT-loop
-μ-loop lower upper at row n map₀ j₀ map j = n - j
+μ-loop width lower upper lower16 upper16 lower8 upper8 at row n map₀ j₀ map j = n - j
 
 -- ---- the places that a later one leads back to
 
@@ -24,17 +28,27 @@ entry-of c = c .before .before .before .before
 abbrev turn-of : tie.After-class-entry Inv-loop μ-loop → tie.In-loop Inv-loop μ-loop
 turn-of c = c .before .before .before
 
+-- the two layers of distances
+
+abbrev lower-of : tie.Start Inv-loop μ-loop → List Float
+lower-of s = let a = s .args in gridOf (a .width) (a .lower .now) (a .lower16 .now) (a .lower8 .now)
+
+abbrev upper-of : tie.Start Inv-loop μ-loop → List Float
+upper-of s = let a = s .args in gridOf (a .width) (a .upper .now) (a .upper16 .now) (a .upper8 .now)
+
 long : (c : tie.At-loop Inv-loop μ-loop) → length (c .loop .map) ≡ length (entry-of c .args .map .now)
 long c =
-    let a = entry-of c .args in
-    ap length (c .loop .inv .1) ∙ length-sets (a .map .now) (a .at) (classes (a .lower .now) (a .upper .now) (a .at) (a .row) (c .loop .j))
+    let s = entry-of c in
+    let a = s .args in
+    ap length (c .loop .inv .1) ∙ length-sets (a .map .now) (a .at) (classes (lower-of s) (upper-of s) (a .at) (a .row) (c .loop .j))
 
 -- ---- the needs
 
 loop-holds : tie.Need-loop-holds Inv-loop μ-loop
 loop-holds c =
-    let a = c .before .before .before .args in
-    (omega arith, classed-none (a .lower .now) (a .upper .now) (a .at) (a .row) (a .map .now))
+    let s = c .before .before .before in
+    let a = s .args in
+    (omega arith, classed-none (lower-of s) (upper-of s) (a .at) (a .row) (a .map .now))
 
 add-side-negatives : tie.Need-add-side-negatives Inv-loop μ-loop
 add-side-negatives c = search needs
@@ -63,7 +77,7 @@ add-map c = search needs
 mul-map : tie.Need-mul-map Inv-loop μ-loop
 mul-map c =
     let t = turn-of c in
-    omega (arith, long (t .before))
+    omega (arith, long (t .before), entry-of (t .before) .good .1 .1 .1 .1 .1 .1 .1 .1 .1 .1 .0)
 
 slice-write-map : tie.Need-slice-write-map Inv-loop μ-loop
 slice-write-map c =
@@ -79,10 +93,11 @@ loop-less c = search needs
 loop-again : tie.Need-loop-again Inv-loop μ-loop
 loop-again c =
     let t = turn-of c in
-    let a = entry-of (t .before) .args in
+    let s = entry-of (t .before) in
+    let a = s .args in
     let w = t .before .loop in (
       omega arith,
-      classed-more (a .lower .now) (a .upper .now) (a .at) (a .row) (w .j) (a .map .now) (w .inv .1) (c .before .before .side-negatives .ensures .0)
+      classed-more (lower-of s) (upper-of s) (a .at) (a .row) (w .j) (a .map .now) (w .inv .1) (c .before .before .side-negatives .ensures .0)
           (c .before .side-negatives2 .ensures .0) (c .class-entry .ensures),
     )
 
@@ -91,10 +106,11 @@ same-length c = long (c .before)
 
 returns : tie.Need-returns Inv-loop μ-loop
 returns c =
-    let a = entry-of (c .before) .args in
+    let s = entry-of (c .before) in
+    let a = s .args in
     let w = c .before .loop in
     let end : w .j ≡ a .n = omega arith in
-    w .inv .1 ∙ ap (λ (m : ℕ). sets (a .map .now) (a .at) (classes (a .lower .now) (a .upper .now) (a .at) (a .row) m)) end
+    w .inv .1 ∙ ap (λ (m : ℕ). sets (a .map .now) (a .at) (classes (lower-of s) (upper-of s) (a .at) (a .row) m)) end
 
 pub class-row-spec : {M : Type 1} → statement M
 class-row-spec =

@@ -7,9 +7,11 @@ use mathlib.Core.Path.{refl, sym, ap, _∙_}
 use native.Mathlib.Omega.{arith}
 use lib.ListN.{length, replicate}
 use lib.Seq.{length-sets}
+use Rattle.rules.specs.Grid.{Field}
 use Rattle.rules.specs.Vertices.{rowCells}
 use Rattle.grid.specs.Block.{point, boxOf}
 use Rattle.grid.specs.Layers.{twoLayers}
+use Rattle.grid.specs.Values.{gridOf}
 use Rattle.grid.specs.Order.{layerTo}
 use Rattle.grid.proofs.Order.{layer-begins, layer-grows}
 use Rattle.grid.proofs.Walks.{Counting, AtRow, ended}
@@ -24,13 +26,13 @@ use Rattle.layer_vertices.proofs.find_layer.Statement.{statement}
 use Rattle.layer_vertices.proofs.find_layer.Tie as tie
 
 abbrev Inv-loop : tie.InvT-loop
-Inv-loop lower upper k z cells₀ strides₀ map₀ from end first state₀ y₀ cells strides map state y =
+Inv-loop width lower upper lower16 upper16 lower8 upper8 k z cells₀ strides₀ map₀ from end first state₀ y₀ cells strides map state y =
     Counting from end y
-    × Passes (point (k .dims)) (hasVertex (twoLayers lower upper k z) (boxOf k)) state₀ (finds cells₀ strides₀ map₀) (layerTo (pointsOf (boxOf k)) z y) state
-    (finds cells strides map)
+    × Passes (point (k .dims)) (hasVertex (twoLayers (gridOf width lower lower16 lower8) (gridOf width upper upper16 upper8) k z) (boxOf k)) state₀
+    (finds cells₀ strides₀ map₀) (layerTo (pointsOf (boxOf k)) z y) state (finds cells strides map)
 
 abbrev μ-loop : tie.MeasureT-loop
-μ-loop lower upper k z cells₀ strides₀ map₀ from end first state₀ y₀ cells strides map state y = end - y
+μ-loop width lower upper lower16 upper16 lower8 upper8 k z cells₀ strides₀ map₀ from end first state₀ y₀ cells strides map state y = end - y
 
 -- ---- the places that a later one leads back to
 
@@ -42,6 +44,12 @@ turn-of c = c .before .before .before
 
 abbrev call-of : tie.After-slice-known6 Inv-loop μ-loop → tie.After-find-row Inv-loop μ-loop
 call-of c = c .before .before .before .before .before .before
+
+-- the field that the two layers are
+abbrev layers-of : tie.Start Inv-loop μ-loop → Field
+layers-of s =
+    let a = s .args in
+    twoLayers (gridOf (a .width) (a .lower .now) (a .lower16 .now) (a .lower8 .now)) (gridOf (a .width) (a .upper .now) (a .upper16 .now) (a .upper8 .now)) (a .k) (a .z)
 
 here : (c : tie.In-loop Inv-loop μ-loop) → AtRow (entry-of (c .before) .args .k) (entry-of (c .before) .args .z) (c .before .loop .y)
 here c = row-of (entry-of (c .before) .pre .0) (c .before .loop .inv .0) (c .loop-test .taken)
@@ -61,7 +69,7 @@ find-row-requires c κs =
     let w = t .before .loop in
     let long = passes-lengths (w .inv .1) .map in
     let map = s .pre .1 .0 in
-    let g = twoLayers (a .lower .now) (a .upper .now) (a .k) (a .z) in
+    let g = layers-of s in
     let within = layer-finds g (boxOf (a .k)) (a .z) (w .y) (layers-fit (s .pre .0)) (s .pre .0 .here) (w .inv .0 .low) (here t .turn .next .high) in (
       s .pre .0,
       (
@@ -136,7 +144,7 @@ returns c =
     let w = l .before .loop in
     let b = boxOf (a .k) in
     let f = layers-fit (s .pre .0) in
-    let g = twoLayers (a .lower .now) (a .upper .now) (a .k) (a .z) in
+    let g = layers-of s in
     let last = rowCells (pointsOf b) (a .z) (a .k .high .y) in
     let rows = ap (λ (n : ℕ). layerTo (pointsOf b) (a .z) n ++ last) (ended (w .inv .0) (l .loop-test .left)) ∙ sym (layer-closes b (a .z) (f .y .0)) in
     let whole = passes-cleared (w .inv .1) last (side-y g b (a .z)) (m .clear-row .ensures ∙ row-blank (point (a .k .dims)) b (a .z) (a .k .high .y) (w .map) (f .x .0)) refl in

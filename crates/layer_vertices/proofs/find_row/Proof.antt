@@ -1,8 +1,11 @@
 -- The row is classed, its last point cleared, and what is numbered then is what passing the row's points leaves. Assumes nothing.
 use Prim.Native.Nat.{_+_, _-_, _*_, _<_}
+use mathlib.Core.List.{List}
 use mathlib.Core.Path.{refl}
 use native.Mathlib.Omega.{arith}
+use lib.Ieee.{Float}
 use lib.ListN.{length}
+use Rattle.grid.specs.Values.{gridOf}
 use Rattle.grid.proofs.Layers.{layers-fit}
 use Rattle.grid.proofs.LayerWalks.{Row, row-fits, first-fits}
 use Rattle.layer_vertices.proofs.Passing.{passes-lengths}
@@ -19,12 +22,20 @@ begin-of c = c .before .before .before .before .before .before .before
 abbrev class-of : tie.After-number-row-arg3 → tie.After-class-row
 class-of c = c .before .before .before .before .before
 
+-- ---- the two layers of distances
+
+abbrev lower-of : tie.Start → List Float
+lower-of s = let a = s .args in gridOf (a .width) (a .lower .now) (a .lower16 .now) (a .lower8 .now)
+
+abbrev upper-of : tie.Start → List Float
+upper-of s = let a = s .args in gridOf (a .width) (a .upper .now) (a .upper16 .now) (a .upper8 .now)
+
 -- ---- the row, and where it ends
 
-row : (s : tie.Start) → Row (s .args .lower .now) (s .args .upper .now) (s .args .k) (s .args .y) (s .args .z)
+row : (s : tie.Start) → Row (lower-of s) (upper-of s) (s .args .k) (s .args .y) (s .args .z)
 row s = record { layers = s .pre .0; along-y = s .pre .1 .0 }
 
-there : (s : tie.Start) → let k = s .args .k in Reach (s .args .lower .now) (s .args .upper .now) k (k .low .x + k .dims .x * s .args .y) (k .high .x - k .low .x)
+there : (s : tie.Start) → let k = s .args .k in Reach (lower-of s) (upper-of s) k (k .low .x + k .dims .x * s .args .y) (k .high .x - k .low .x)
 there s = reach (row s) refl refl
 
 within : (s : tie.Start) → let k = s .args .k in k .low .x + k .dims .x * s .args .y + (k .high .x - k .low .x) < length (s .args .map .now)

@@ -1,7 +1,9 @@
 -- The cells that were found are lent for their vertices, and the two halves make the whole. Assumes nothing.
 use native.Mathlib.Omega.{arith}
+use Rattle.rules.specs.Grid.{Field}
 use Rattle.grid.specs.Block.{boxOf}
 use Rattle.grid.specs.Layers.{twoLayers}
+use Rattle.grid.specs.Values.{gridOf}
 use Rattle.layer_vertices.specs.Marked.{lists}
 use Rattle.layer_vertices.specs.Cells.{finds}
 use Rattle.layer_vertices.proofs.Finding.{part-found, marked-found}
@@ -17,10 +19,19 @@ begin-of c = c .before .before .before .before .before .before .before .before .
 abbrev found-of : tie.After-estimate-part-arg4 → tie.After-find-layer
 found-of c = c .before .before .before .before .before .before .before .before .before .before
 
+-- the field that the two layers are
+abbrev layers-of : tie.Start → Field
+layers-of s =
+    let a = s .args in
+    twoLayers (gridOf (a .width) (a .lower .now) (a .lower16 .now) (a .lower8 .now)) (gridOf (a .width) (a .upper .now) (a .upper16 .now) (a .upper8 .now)) (a .k) (a .z)
+
 -- ---- the needs
 
 find-layer-requires : tie.Need-find-layer-requires
-find-layer-requires c κs = search needs
+find-layer-requires c κs =
+    let p = begin-of c .pre in
+    let r = p .1 .1 in
+    (p .0, (p .1 .0, record { cells = r .cells; strides = r .strides; numbers = r .numbers }))
 
 estimate-part-requires : tie.Need-estimate-part-requires
 estimate-part-requires c κs =
@@ -28,7 +39,7 @@ estimate-part-requires c κs =
     let s = begin-of (f .before) in
     let a = s .args in
     let r = s .pre .1 .1 in
-    let g = twoLayers (a .lower .now) (a .upper .now) (a .k) (a .z) in
+    let g = layers-of s in
     let e = f .find-layer .ensures in
     let p = part-found g (boxOf (a .k)) (a .z) (a .next) (finds (a .cells .now) (a .strides .now) (a .map .now)) (e .0) (e .1) (r .cells) in
     let n = e .1 in (
@@ -64,12 +75,13 @@ returns : tie.Need-returns
 returns c =
     let m = c .before .before .before .before .before .before in
     let f = found-of (m .before) in
-    let a = begin-of (f .before) .args in
-    let g = twoLayers (a .lower .now) (a .upper .now) (a .k) (a .z) in
+    let s = begin-of (f .before) in
+    let a = s .args in
+    let g = layers-of s in
     let e = f .find-layer .ensures in
     let v = m .estimate-part .ensures in
-    let s = lists (a .positions .now) (a .normals .now) (a .cells .now) (a .strides .now) (a .crossings .now) (a .map .now) in
-    (marked-found g (boxOf (a .k)) (a .z) (a .next) s (e .0) (v .0) (v .1 .0) (v .1 .1), e .1)
+    let l = lists (a .positions .now) (a .normals .now) (a .cells .now) (a .strides .now) (a .crossings .now) (a .map .now) in
+    (marked-found g (boxOf (a .k)) (a .z) (a .next) l (e .0) (v .0) (v .1 .0) (v .1 .1), e .1)
 
 pub mark-layer-spec : {M : Type 1} → statement M
 mark-layer-spec =

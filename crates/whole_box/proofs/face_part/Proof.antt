@@ -1,63 +1,93 @@
 -- The parts that are lent hold the layer's vertices and those below, so that the indices are the rules'. Assumes nothing.
 use Prim.Native.Nat.{ℕ, _+_, _*_, _≤_}
+use mathlib.Core.List.{List}
 use mathlib.Core.Path.{ap, _∙_}
 use native.Mathlib.Omega.{arith}
+use lib.Ieee.{Float}
 use lib.ListN.{length}
 use lib.Seq.{sets}
 use Rattle.grid.specs.Block.{boxOf, flagsOf, fieldOf}
+use Rattle.grid.specs.Values.{gridOf}
 use Rattle.whole_box.specs.Layers.{Stands}
-use Rattle.grid.proofs.Parts.{layer-end, layer-few, in-layers}
+use Rattle.grid.proofs.Parts.{layer-end, layer-few}
+use Rattle.grid.proofs.Places.{Place, Range}
+use Rattle.whole_box.proofs.Lent.{lent-layers, lent-ranges, lent-parts}
 use Rattle.whole_box.proofs.Looks.{standing, below-long, faces-are, edges-count}
 use Rattle.whole_box.proofs.Layer.{below-first, first-few, plane-under}
 use borrow.Author.Needs.{needs}
 use Rattle.whole_box.proofs.face_part.Statement.{statement}
 use Rattle.whole_box.proofs.face_part.Tie as tie
 
--- ---- the start, from as many places behind it as the number says
+-- ---- the places that a later one leads back to
 
-abbrev start-7 : tie.After-struct-known2 → tie.Start
-start-7 c = c .before .before .before .before .before .before .before
+abbrev start-of : tie.After-struct-known2 → tie.Start
+start-of c = c .before .before .before .before .before .before .before
 
-abbrev start-9 : tie.After-struct-known3 → tie.Start
-start-9 c = start-7 (c .before .before)
+abbrev entry-of : tie.After-eight-place2 → tie.Start
+entry-of c = start-of (c .before .before .before .before .before .before)
 
-abbrev start-10 : tie.After-struct-known4 → tie.Start
-start-10 c = start-9 (c .before)
+-- where the places of the layer below were looked for, by how many places it lies back
+abbrev below-2 : tie.After-struct-known4 → tie.After-part-below
+below-2 c = c .before .before
 
-abbrev start-11 : tie.After-struct-known5 → tie.Start
-start-11 c = start-10 (c .before)
+abbrev below-4 : tie.After-struct-known6 → tie.After-part-below
+below-4 c = below-2 (c .before .before)
 
-abbrev start-12 : tie.After-struct-known6 → tie.Start
-start-12 c = start-11 (c .before)
+abbrev below-9 : tie.After-face-layer-arg5 → tie.After-part-below
+below-9 c = below-4 (c .before .before .before .before .before)
 
-abbrev start-13 : tie.After-face-layer-arg → tie.Start
-start-13 c = start-12 (c .before)
+abbrev below-14 : tie.After-face-layer-arg10 → tie.After-part-below
+below-14 c = below-9 (c .before .before .before .before .before)
 
-abbrev start-14 : tie.After-face-layer-arg2 → tie.Start
-start-14 c = start-13 (c .before)
+abbrev below-16 : tie.After-face-layer-arg12 → tie.After-part-below
+below-16 c = below-14 (c .before .before)
 
-abbrev start-15 : tie.After-face-layer-arg3 → tie.Start
-start-15 c = start-14 (c .before)
+-- ---- where the layer begins and ends, in the grid and in each list
 
-abbrev start-16 : tie.After-face-layer-arg4 → tie.Start
-start-16 c = start-15 (c .before)
+abbrev grid-of : tie.Start → List Float
+grid-of s = let a = s .args in gridOf (a .width) (a .sdf .now) (a .sdf16 .now) (a .sdf8 .now)
 
-abbrev start-17 : tie.After-face-layer-arg5 → tie.Start
-start-17 c = start-16 (c .before)
+abbrev first-of : tie.Start → ℕ
+first-of s = let k = s .args .k in k .dims .x * k .dims .y * s .args .z
 
-abbrev start-18 : tie.After-face-layer-arg6 → tie.Start
-start-18 c = start-17 (c .before)
+abbrev last-of : tie.Start → ℕ
+last-of s = let k = s .args .k in first-of s + k .dims .x * k .dims .y
 
-abbrev start-20 : tie.After-face-layer-arg8 → tie.Start
-start-20 c = start-18 (c .before .before)
+ends : (s : tie.Start) → (last-of s ≤ length (grid-of s)) × (last-of s ≤ 1073741824)
+ends s = let a = s .args in (layer-end (grid-of s) (a .k) (s .pre .0) (a .z) (s .pre .1 .0), layer-few (grid-of s) (a .k) (s .pre .0) (a .z) (s .pre .1 .0))
 
-abbrev start-23 : tie.After-slice-known2 → tie.Start
-start-23 c = start-20 (c .before .before .before)
+firsts : (c : tie.After-eight-place2) → let s = entry-of c in
+    Place (s .args .width) (first-of s) (c .before .before .before .before .before .float-place .result) (c .before .before .before .sixteen-place .result)
+    (c .before .eight-place .result)
+firsts c =
+    record {
+      inFloats = c .before .before .before .before .before .float-place .ensures;
+      inSixteens = c .before .before .before .sixteen-place .ensures;
+      inEights = c .before .eight-place .ensures;
+    }
+
+lasts : (c : tie.After-eight-place2) → let s = entry-of c in
+    Place (s .args .width) (last-of s) (c .before .before .before .before .float-place2 .result) (c .before .before .sixteen-place2 .result) (c .eight-place2 .result)
+lasts c =
+    record {
+      inFloats = c .before .before .before .before .float-place2 .ensures;
+      inSixteens = c .before .before .sixteen-place2 .ensures;
+      inEights = c .eight-place2 .ensures;
+    }
+
+ranges : (c : tie.After-eight-place2) → let a = entry-of c .args in
+    Range (c .before .before .before .before .before .float-place .result) (c .before .before .before .before .float-place2 .result) (length (a .sdf .now))
+    × Range (c .before .before .before .sixteen-place .result) (c .before .before .sixteen-place2 .result) (length (a .sdf16 .now))
+    × Range (c .before .eight-place .result) (c .eight-place2 .result) (length (a .sdf8 .now))
+ranges c =
+    let s = entry-of c in
+    let a = s .args in
+    lent-ranges (a .width) (a .sdf .now) (a .sdf16 .now) (a .sdf8 .now) (a .k) (s .pre .0) (a .z) (s .pre .1 .0) (firsts c) (lasts c)
 
 -- ---- what stands, and the numbers that the code works out
 
-stood : (s : tie.Start) → let a = s .args in Stands (fieldOf (a .sdf .now) (a .k)) (boxOf (a .k)) (a .z) (a .made .vertices) (a .made .below) (a .cells .now) (a .map .now)
-    (a .positions .now)
+stood : (s : tie.Start) → let a = s .args in
+    Stands (fieldOf (grid-of s) (a .k)) (boxOf (a .k)) (a .z) (a .made .vertices) (a .made .below) (a .cells .now) (a .map .now) (a .positions .now)
 stood s = s .pre .1 .1 .1 .1 .0
 
 record Numbers (first below count cells positions : ℕ) : Type 0 where
@@ -71,23 +101,14 @@ numbers s =
     let a = s .args in
     let S = stood s in
     let n = s .pre .1 .1 .1 .0 in
-    let f = first-few (a .sdf .now) (a .k) (s .pre .0) (a .z) (s .pre .1 .0) in
-    let u = below-first (fieldOf (a .sdf .now) (a .k)) (boxOf (a .k)) (flagsOf (a .k)) (a .z) in
+    let f = first-few (grid-of s) (a .k) (s .pre .0) (a .z) (s .pre .1 .0) in
+    let u = below-first (fieldOf (grid-of s) (a .k)) (boxOf (a .k)) (flagsOf (a .k)) (a .z) in
     record {
       few = omega (arith, f, n, S .here);
       back = omega (arith, u, S .here, S .before);
       cellsHold = omega (arith, n, S .cellsHold);
       positionsHold = omega (arith, n, S .positionsHold);
     }
-
--- the layer lies in the grid, and the grid is not too long
-layer : (s : tie.Start) → let plane = s .args .k .dims .x * s .args .k .dims .y in
-    (plane * s .args .z + plane ≤ 1073741824) × (plane * s .args .z + plane ≤ length (s .args .sdf .now))
-layer s = let a = s .args in (layer-few (a .sdf .now) (a .k) (s .pre .0) (a .z) (s .pre .1 .0), layer-end (a .sdf .now) (a .k) (s .pre .0) (a .z) (s .pre .1 .0))
-
--- the part of the map of the layer below, where it was looked for
-abbrev under-of : tie.After-face-layer-arg5 → tie.After-part-below
-under-of c = c .before .before .before .before .before .before .before .before .before
 
 -- ---- the needs
 
@@ -98,230 +119,223 @@ cast-plane-2 : tie.Need-cast-plane-2
 cast-plane-2 c = search needs
 
 mul-plane : tie.Need-mul-plane
-mul-plane c =
-    let s = start-7 c in
-    omega (arith, layer s)
+mul-plane c = let e = ends (start-of c) in omega arith
 
 mul-start : tie.Need-mul-start
-mul-start c =
-    let s = start-7 c in
-    omega (arith, layer s)
+mul-start c = let e = ends (start-of c) in omega arith
 
 add-end : tie.Need-add-end
-add-end c =
-    let s = start-7 c in
-    omega (arith, layer s)
+add-end c = let e = ends (start-of c) in omega arith
+
+float-place-requires : tie.Need-float-place-requires
+float-place-requires c κs = search needs
+
+float-place-requires-2 : tie.Need-float-place-requires-2
+float-place-requires-2 c κs = search needs
+
+sixteen-place-requires : tie.Need-sixteen-place-requires
+sixteen-place-requires c κs = search needs
+
+sixteen-place-requires-2 : tie.Need-sixteen-place-requires-2
+sixteen-place-requires-2 c κs = search needs
+
+eight-place-requires : tie.Need-eight-place-requires
+eight-place-requires c κs = search needs
+
+eight-place-requires-2 : tie.Need-eight-place-requires-2
+eight-place-requires-2 c κs = search needs
 
 part-below-requires : tie.Need-part-below-requires
-part-below-requires c κs = let s = start-7 c in let a = s .args in plane-under (a .sdf .now) (a .k) (s .pre .0) (a .z) (s .pre .1 .0)
+part-below-requires c κs = let s = entry-of c in let a = s .args in plane-under (grid-of s) (a .k) (s .pre .0) (a .z) (s .pre .1 .0)
 
 mul-below : tie.Need-mul-below
-mul-below c =
-    let s = start-9 c in
-    let w = numbers s in
-    omega (arith, w)
+mul-below c = let w = numbers (entry-of (c .before .before)) in omega arith
 
 mul-here : tie.Need-mul-here
-mul-here c =
-    let s = start-10 c in
-    let w = numbers s in
-    omega (arith, w)
+mul-here c = let w = numbers (entry-of (below-2 c .before)) in omega arith
 
 mul-last : tie.Need-mul-last
-mul-last c =
-    let s = start-10 c in
-    let w = numbers s in
-    omega (arith, w)
+mul-last c = let w = numbers (entry-of (below-2 c .before)) in omega arith
 
 add-last : tie.Need-add-last
-add-last c =
-    let s = start-10 c in
-    let w = numbers s in
-    omega (arith, w)
+add-last c = let w = numbers (entry-of (below-2 c .before)) in omega arith
 
-cast-t21 : tie.Need-cast-t21
-cast-t21 c =
-    let s = start-11 c in
-    let w = numbers s in
-    omega (arith, w)
+cast-t30 : tie.Need-cast-t30
+cast-t30 c = let w = numbers (entry-of (below-2 (c .before) .before)) in omega arith
 
-cast-t22 : tie.Need-cast-t22
-cast-t22 c =
-    let s = start-12 c in
-    let w = numbers s in
-    omega (arith, w)
+cast-t31 : tie.Need-cast-t31
+cast-t31 c = let w = numbers (entry-of (below-4 c .before)) in omega arith
 
 mul-face-layer : tie.Need-mul-face-layer
-mul-face-layer c =
-    let s = start-12 c in
-    omega (arith, layer s)
+mul-face-layer c = let r = ranges (below-4 c .before) .0 in omega arith
 
 sub-face-layer : tie.Need-sub-face-layer
-sub-face-layer c =
-    let s = start-12 c in
-    omega (arith, layer s)
+sub-face-layer c = let r = ranges (below-4 c .before) .0 in omega arith
 
 part-face-layer-start : tie.Need-part-face-layer-start
-part-face-layer-start c =
-    let s = start-12 c in
-    omega (arith, layer s)
+part-face-layer-start c = let r = ranges (below-4 c .before) .0 in omega arith
 
 part-face-layer-end : tie.Need-part-face-layer-end
-part-face-layer-end c =
-    let s = start-12 c in
-    omega (arith, layer s)
+part-face-layer-end c = let r = ranges (below-4 c .before) .0 in omega arith
 
 mul-face-layer-2 : tie.Need-mul-face-layer-2
-mul-face-layer-2 c =
-    let s = start-13 c in
-    omega (arith, layer s)
+mul-face-layer-2 c = let r = ranges (below-4 (c .before) .before) .0 in omega arith
 
 sub-face-layer-2 : tie.Need-sub-face-layer-2
-sub-face-layer-2 c =
-    let s = start-13 c in
-    omega (arith, layer s)
+sub-face-layer-2 c = let r = ranges (below-4 (c .before) .before) .0 in omega arith
 
 part-face-layer-start-2 : tie.Need-part-face-layer-start-2
-part-face-layer-start-2 c =
-    let s = start-13 c in
-    omega (arith, layer s)
+part-face-layer-start-2 c = let r = ranges (below-4 (c .before) .before) .0 in omega arith
 
 part-face-layer-end-2 : tie.Need-part-face-layer-end-2
-part-face-layer-end-2 c =
-    let s = start-13 c in
-    omega (arith, layer s)
+part-face-layer-end-2 c = let r = ranges (below-4 (c .before) .before) .0 in omega arith
 
 mul-face-layer-3 : tie.Need-mul-face-layer-3
-mul-face-layer-3 c =
-    let s = start-14 c in
-    let w = numbers s in
-    omega (arith, w)
+mul-face-layer-3 c = let r = ranges (below-4 (c .before .before) .before) .1 in omega arith
 
 sub-face-layer-3 : tie.Need-sub-face-layer-3
-sub-face-layer-3 c =
-    let s = start-14 c in
-    let w = numbers s in
-    omega (arith, w)
+sub-face-layer-3 c = let r = ranges (below-4 (c .before .before) .before) .1 in omega arith
 
 part-face-layer-start-3 : tie.Need-part-face-layer-start-3
-part-face-layer-start-3 c =
-    let s = start-14 c in
-    let w = numbers s in
-    omega (arith, w)
+part-face-layer-start-3 c = let r = ranges (below-4 (c .before .before) .before) .1 in omega arith
 
 part-face-layer-end-3 : tie.Need-part-face-layer-end-3
-part-face-layer-end-3 c =
-    let s = start-14 c in
-    let w = numbers s in
-    omega (arith, w)
+part-face-layer-end-3 c = let r = ranges (below-4 (c .before .before) .before) .1 in omega arith
 
 mul-face-layer-4 : tie.Need-mul-face-layer-4
-mul-face-layer-4 c =
-    let s = start-15 c in
-    omega (arith, layer s, s .pre .1 .1 .0)
+mul-face-layer-4 c = let r = ranges (below-4 (c .before .before .before) .before) .1 in omega arith
 
 sub-face-layer-4 : tie.Need-sub-face-layer-4
-sub-face-layer-4 c =
-    let s = start-15 c in
-    omega (arith, layer s, s .pre .1 .1 .0)
+sub-face-layer-4 c = let r = ranges (below-4 (c .before .before .before) .before) .1 in omega arith
 
 part-face-layer-start-4 : tie.Need-part-face-layer-start-4
-part-face-layer-start-4 c =
-    let s = start-15 c in
-    omega (arith, layer s, s .pre .1 .1 .0)
+part-face-layer-start-4 c = let r = ranges (below-4 (c .before .before .before) .before) .1 in omega arith
 
 part-face-layer-end-4 : tie.Need-part-face-layer-end-4
-part-face-layer-end-4 c =
-    let s = start-15 c in
-    omega (arith, layer s, s .pre .1 .1 .0)
-
-mul-face-layer-5 : tie.Need-mul-face-layer-5
-mul-face-layer-5 c =
-    let s = start-16 c in
-    let w = numbers s in
-    omega (arith, w)
+part-face-layer-end-4 c = let r = ranges (below-4 (c .before .before .before) .before) .1 in omega arith
 
 sub-face-layer-5 : tie.Need-sub-face-layer-5
-sub-face-layer-5 c =
-    let s = start-16 c in
-    let w = numbers s in
-    omega (arith, w)
+sub-face-layer-5 c = let r = ranges (below-4 (c .before .before .before .before) .before) .2 in omega arith
 
 part-face-layer-start-5 : tie.Need-part-face-layer-start-5
-part-face-layer-start-5 c =
-    let s = start-16 c in
-    let w = numbers s in
-    omega (arith, w)
+part-face-layer-start-5 c = let r = ranges (below-4 (c .before .before .before .before) .before) .2 in omega arith
 
 part-face-layer-end-5 : tie.Need-part-face-layer-end-5
-part-face-layer-end-5 c =
-    let s = start-16 c in
-    let w = numbers s in
-    omega (arith, w)
-
-mul-face-layer-6 : tie.Need-mul-face-layer-6
-mul-face-layer-6 c =
-    let s = start-17 c in
-    omega (arith, layer s, s .pre .1 .1 .0, under-of c .part-below .ensures .1)
+part-face-layer-end-5 c = let r = ranges (below-4 (c .before .before .before .before) .before) .2 in omega arith
 
 sub-face-layer-6 : tie.Need-sub-face-layer-6
-sub-face-layer-6 c =
-    let s = start-17 c in
-    omega (arith, layer s, s .pre .1 .1 .0, under-of c .part-below .ensures .1)
+sub-face-layer-6 c = let r = ranges (below-9 c .before) .2 in omega arith
 
 part-face-layer-start-6 : tie.Need-part-face-layer-start-6
-part-face-layer-start-6 c =
-    let s = start-17 c in
-    omega (arith, layer s, s .pre .1 .1 .0, under-of c .part-below .ensures .1)
+part-face-layer-start-6 c = let r = ranges (below-9 c .before) .2 in omega arith
 
 part-face-layer-end-6 : tie.Need-part-face-layer-end-6
-part-face-layer-end-6 c =
-    let s = start-17 c in
-    omega (arith, layer s, s .pre .1 .1 .0, under-of c .part-below .ensures .1)
+part-face-layer-end-6 c = let r = ranges (below-9 c .before) .2 in omega arith
 
-mul-face-layer-7 : tie.Need-mul-face-layer-7
-mul-face-layer-7 c =
-    let s = start-18 c in
-    let w = numbers s in
-    omega (arith, w)
+mul-face-layer-5 : tie.Need-mul-face-layer-5
+mul-face-layer-5 c = let w = numbers (entry-of (below-9 (c .before) .before)) in omega arith
 
 sub-face-layer-7 : tie.Need-sub-face-layer-7
-sub-face-layer-7 c =
-    let s = start-18 c in
-    let w = numbers s in
-    omega (arith, w)
+sub-face-layer-7 c = let w = numbers (entry-of (below-9 (c .before) .before)) in omega arith
 
 part-face-layer-start-7 : tie.Need-part-face-layer-start-7
-part-face-layer-start-7 c =
-    let s = start-18 c in
-    let w = numbers s in
-    omega (arith, w)
+part-face-layer-start-7 c = let w = numbers (entry-of (below-9 (c .before) .before)) in omega arith
 
 part-face-layer-end-7 : tie.Need-part-face-layer-end-7
-part-face-layer-end-7 c =
-    let s = start-18 c in
-    let w = numbers s in
-    omega (arith, w)
+part-face-layer-end-7 c = let w = numbers (entry-of (below-9 (c .before) .before)) in omega arith
+
+mul-face-layer-6 : tie.Need-mul-face-layer-6
+mul-face-layer-6 c = let s = entry-of (below-9 (c .before .before) .before) in let e = ends s in let m = s .pre .1 .1 .0 in omega arith
+
+sub-face-layer-8 : tie.Need-sub-face-layer-8
+sub-face-layer-8 c = let s = entry-of (below-9 (c .before .before) .before) in let e = ends s in let m = s .pre .1 .1 .0 in omega arith
+
+part-face-layer-start-8 : tie.Need-part-face-layer-start-8
+part-face-layer-start-8 c = let s = entry-of (below-9 (c .before .before) .before) in let e = ends s in let m = s .pre .1 .1 .0 in omega arith
+
+part-face-layer-end-8 : tie.Need-part-face-layer-end-8
+part-face-layer-end-8 c = let s = entry-of (below-9 (c .before .before) .before) in let e = ends s in let m = s .pre .1 .1 .0 in omega arith
+
+mul-face-layer-7 : tie.Need-mul-face-layer-7
+mul-face-layer-7 c = let w = numbers (entry-of (below-9 (c .before .before .before) .before)) in omega arith
+
+sub-face-layer-9 : tie.Need-sub-face-layer-9
+sub-face-layer-9 c = let w = numbers (entry-of (below-9 (c .before .before .before) .before)) in omega arith
+
+part-face-layer-start-9 : tie.Need-part-face-layer-start-9
+part-face-layer-start-9 c = let w = numbers (entry-of (below-9 (c .before .before .before) .before)) in omega arith
+
+part-face-layer-end-9 : tie.Need-part-face-layer-end-9
+part-face-layer-end-9 c = let w = numbers (entry-of (below-9 (c .before .before .before) .before)) in omega arith
+
+mul-face-layer-8 : tie.Need-mul-face-layer-8
+mul-face-layer-8 c =
+    let u = below-9 (c .before .before .before .before) in
+    let s = entry-of (u .before) in
+    let e = ends s in
+    let m = s .pre .1 .1 .0 in
+    let l = u .part-below .ensures .1 in
+    omega arith
+
+sub-face-layer-10 : tie.Need-sub-face-layer-10
+sub-face-layer-10 c =
+    let u = below-9 (c .before .before .before .before) in
+    let s = entry-of (u .before) in
+    let e = ends s in
+    let m = s .pre .1 .1 .0 in
+    let l = u .part-below .ensures .1 in
+    omega arith
+
+part-face-layer-start-10 : tie.Need-part-face-layer-start-10
+part-face-layer-start-10 c =
+    let u = below-9 (c .before .before .before .before) in
+    let s = entry-of (u .before) in
+    let e = ends s in
+    let m = s .pre .1 .1 .0 in
+    let l = u .part-below .ensures .1 in
+    omega arith
+
+part-face-layer-end-10 : tie.Need-part-face-layer-end-10
+part-face-layer-end-10 c =
+    let u = below-9 (c .before .before .before .before) in
+    let s = entry-of (u .before) in
+    let e = ends s in
+    let m = s .pre .1 .1 .0 in
+    let l = u .part-below .ensures .1 in
+    omega arith
+
+mul-face-layer-9 : tie.Need-mul-face-layer-9
+mul-face-layer-9 c = let w = numbers (entry-of (below-14 c .before)) in omega arith
+
+sub-face-layer-11 : tie.Need-sub-face-layer-11
+sub-face-layer-11 c = let w = numbers (entry-of (below-14 c .before)) in omega arith
+
+part-face-layer-start-11 : tie.Need-part-face-layer-start-11
+part-face-layer-start-11 c = let w = numbers (entry-of (below-14 c .before)) in omega arith
+
+part-face-layer-end-11 : tie.Need-part-face-layer-end-11
+part-face-layer-end-11 c = let w = numbers (entry-of (below-14 c .before)) in omega arith
 
 face-layer-requires : tie.Need-face-layer-requires
 face-layer-requires c κs =
-    let s = start-20 c in
+    let u = below-16 c in
+    let p = u .before in
+    let s = entry-of p in
     let a = s .args in
     let i = s .pre .0 in
     let zs = s .pre .1 .0 in
-    let u = under-of (c .before .before .before) .part-below in (
-      in-layers (a .sdf .now) (a .k) i (a .z) zs,
+    let t = lent-parts (a .width) (a .sdf .now) (a .sdf16 .now) (a .sdf8 .now) (a .k) (s .pre .0) (a .z) (s .pre .1 .0) (firsts p) (lasts p) in (
+      lent-layers (grid-of s) (a .k) i (a .z) zs t,
       (
-        standing (a .sdf .now) (a .k) i (a .z) zs (a .made .vertices) (a .made .below) (a .cells .now) (a .map .now) (a .positions .now) (stood s) (s .pre .1 .1 .0)
+        standing (grid-of s) (a .k) i (a .z) zs t (a .made .vertices) (a .made .below) (a .cells .now) (a .map .now) (a .positions .now) (stood s) (s .pre .1 .1 .0)
             (a .count) (s .pre .1 .1 .1 .0),
         (
-          below-long (a .sdf .now) (a .k) i (a .z) zs (a .made .vertices) (a .made .below) (a .cells .now) (a .map .now) (a .positions .now) (stood s) (s .pre .1 .1 .0)
-              (u .result) (u .ensures .0),
+          below-long (grid-of s) (a .k) i (a .z) zs t (a .made .vertices) (a .made .below) (a .cells .now) (a .map .now) (a .positions .now) (stood s) (s .pre .1 .1 .0)
+              (u .part-below .result) (u .part-below .ensures .0),
           omega (
             arith,
             s .pre .1 .1 .1 .1 .1,
-            edges-count (a .sdf .now) (a .k) i (a .z) zs (a .made .vertices) (a .made .below) (a .cells .now) (a .map .now) (a .positions .now)
-                (stood s) (s .pre .1 .1 .0),
+            edges-count (grid-of s) (a .k) i (a .z) zs t (a .made .vertices) (a .made .below) (a .cells .now) (a .map .now) (a .positions .now) (stood s) (s .pre .1 .1 .0),
           ),
         ),
       ),
@@ -332,16 +346,18 @@ same-length c = search needs
 
 returns : tie.Need-returns
 returns c =
-    let s = start-23 c in
+    let f = c .before .before in
+    let u = below-16 (f .before) in
+    let p = u .before in
+    let s = entry-of p in
     let a = s .args in
     let i = s .pre .0 in
     let zs = s .pre .1 .0 in
-    let u = under-of (c .before .before .before .before .before .before) .part-below in
-    let f = c .before .before .face-layer in (
-      f .ensures .0 ∙ ap (sets (a .indices .now) (a .made .indices))
-          (faces-are (a .sdf .now) (a .k) i (a .z) zs (a .made .vertices) (a .made .below) (a .cells .now) (a .map .now) (a .positions .now) (stood s) (s .pre .1 .1 .0)
-          (u .result) (u .ensures .0)),
-      f .ensures .1 ∙ edges-count (a .sdf .now) (a .k) i (a .z) zs (a .made .vertices) (a .made .below) (a .cells .now) (a .map .now) (a .positions .now) (stood s)
+    let t = lent-parts (a .width) (a .sdf .now) (a .sdf16 .now) (a .sdf8 .now) (a .k) (s .pre .0) (a .z) (s .pre .1 .0) (firsts p) (lasts p) in (
+      f .face-layer .ensures .0 ∙ ap (sets (a .indices .now) (a .made .indices))
+          (faces-are (grid-of s) (a .k) i (a .z) zs t (a .made .vertices) (a .made .below) (a .cells .now) (a .map .now) (a .positions .now) (stood s) (s .pre .1 .1 .0)
+          (u .part-below .result) (u .part-below .ensures .0)),
+      f .face-layer .ensures .1 ∙ edges-count (grid-of s) (a .k) i (a .z) zs t (a .made .vertices) (a .made .below) (a .cells .now) (a .map .now) (a .positions .now) (stood s)
           (s .pre .1 .1 .0),
     )
 
@@ -354,13 +370,19 @@ face-part-spec =
     mul-plane
     mul-start
     add-end
+    float-place-requires
+    float-place-requires-2
+    sixteen-place-requires
+    sixteen-place-requires-2
+    eight-place-requires
+    eight-place-requires-2
     part-below-requires
     mul-below
     mul-here
     mul-last
     add-last
-    cast-t21
-    cast-t22
+    cast-t30
+    cast-t31
     mul-face-layer
     sub-face-layer
     part-face-layer-start
@@ -377,18 +399,32 @@ face-part-spec =
     sub-face-layer-4
     part-face-layer-start-4
     part-face-layer-end-4
-    mul-face-layer-5
     sub-face-layer-5
     part-face-layer-start-5
     part-face-layer-end-5
-    mul-face-layer-6
     sub-face-layer-6
     part-face-layer-start-6
     part-face-layer-end-6
-    mul-face-layer-7
+    mul-face-layer-5
     sub-face-layer-7
     part-face-layer-start-7
     part-face-layer-end-7
+    mul-face-layer-6
+    sub-face-layer-8
+    part-face-layer-start-8
+    part-face-layer-end-8
+    mul-face-layer-7
+    sub-face-layer-9
+    part-face-layer-start-9
+    part-face-layer-end-9
+    mul-face-layer-8
+    sub-face-layer-10
+    part-face-layer-start-10
+    part-face-layer-end-10
+    mul-face-layer-9
+    sub-face-layer-11
+    part-face-layer-start-11
+    part-face-layer-end-11
     face-layer-requires
     same-length
     returns)

@@ -1,29 +1,75 @@
 -- The parts that are lent are the layer's, and what comes back is the layer in the whole lists. Assumes nothing.
+use Prim.Native.Nat.{ℕ, _+_, _*_, _≤_}
+use mathlib.Core.List.{List}
 use mathlib.Core.Path.{ap, _∙_}
 use native.Mathlib.Omega.{arith}
+use lib.Ieee.{Float}
 use lib.ListN.{length}
-use Rattle.grid.proofs.Parts.{layer-end, layer-few, in-layers, corner-lent}
-use Rattle.whole_box.proofs.Lent.{layer-same, room-lent, marked-back}
+use Rattle.grid.specs.Values.{gridOf}
+use Rattle.grid.proofs.Parts.{layer-end, layer-few, corner-lent}
+use Rattle.grid.proofs.Places.{Place, Range}
+use Rattle.whole_box.proofs.Lent.{lent-layers, lent-ranges, lent-parts, layer-same, room-lent, marked-back}
 use borrow.Author.Needs.{needs}
 use Rattle.whole_box.proofs.mark_part.Statement.{statement}
 use Rattle.whole_box.proofs.mark_part.Tie as tie
 
--- ---- places, by the one that each is looked for from
+-- ---- the places that a later one leads back to
 
-abbrev mark-layer-from-slice-known12 : tie.After-slice-known12 → tie.After-mark-layer
-mark-layer-from-slice-known12 c = c .before .before .before .before .before .before .before .before .before .before .before .before
+abbrev start-of : tie.After-struct-known2 → tie.Start
+start-of c = c .before .before .before .before .before .before .before .before .before
 
-abbrev start-from-struct-known2 : tie.After-struct-known2 → tie.Start
-start-from-struct-known2 c = c .before .before .before .before .before .before .before .before .before
+abbrev entry-of : tie.After-eight-place2 → tie.Start
+entry-of c = start-of (c .before .before .before .before .before .before)
 
-abbrev start-from-mark-layer-arg : tie.After-mark-layer-arg → tie.Start
-start-from-mark-layer-arg c = start-from-struct-known2 (c .before)
+abbrev places-of : tie.After-mark-layer-arg11 → tie.After-eight-place2
+places-of c = c .before .before .before .before .before .before .before .before .before .before .before
 
-abbrev start-from-mark-layer-arg7 : tie.After-mark-layer-arg7 → tie.Start
-start-from-mark-layer-arg7 c = start-from-mark-layer-arg (c .before .before .before .before .before .before)
+abbrev call-of : tie.After-slice-known12 → tie.After-mark-layer
+call-of c = c .before .before .before .before .before .before .before .before .before .before .before .before
 
-abbrev start-from-mark-layer-arg8 : tie.After-mark-layer-arg8 → tie.Start
-start-from-mark-layer-arg8 c = start-from-mark-layer-arg7 (c .before)
+-- ---- where the layer begins and ends, in the grid and in each list
+
+abbrev grid-of : tie.Start → List Float
+grid-of s = let a = s .args in gridOf (a .width) (a .sdf .now) (a .sdf16 .now) (a .sdf8 .now)
+
+abbrev first-of : tie.Start → ℕ
+first-of s = let k = s .args .k in k .dims .x * k .dims .y * s .args .z
+
+abbrev last-of : tie.Start → ℕ
+last-of s = let k = s .args .k in first-of s + k .dims .x * k .dims .y
+
+ends : (s : tie.Start) → (last-of s ≤ length (grid-of s)) × (last-of s ≤ 1073741824)
+ends s = let a = s .args in (layer-end (grid-of s) (a .k) (s .pre .0) (a .z) (s .pre .1 .0), layer-few (grid-of s) (a .k) (s .pre .0) (a .z) (s .pre .1 .0))
+
+firsts : (c : tie.After-eight-place2) → let s = entry-of c in
+    Place (s .args .width) (first-of s) (c .before .before .before .before .before .float-place .result) (c .before .before .before .sixteen-place .result)
+    (c .before .eight-place .result)
+firsts c =
+    record {
+      inFloats = c .before .before .before .before .before .float-place .ensures;
+      inSixteens = c .before .before .before .sixteen-place .ensures;
+      inEights = c .before .eight-place .ensures;
+    }
+
+lasts : (c : tie.After-eight-place2) → let s = entry-of c in
+    Place (s .args .width) (last-of s) (c .before .before .before .before .float-place2 .result) (c .before .before .sixteen-place2 .result) (c .eight-place2 .result)
+lasts c =
+    record {
+      inFloats = c .before .before .before .before .float-place2 .ensures;
+      inSixteens = c .before .before .sixteen-place2 .ensures;
+      inEights = c .eight-place2 .ensures;
+    }
+
+ranges : (c : tie.After-eight-place2) → let a = entry-of c .args in
+    Range (c .before .before .before .before .before .float-place .result) (c .before .before .before .before .float-place2 .result) (length (a .sdf .now))
+    × Range (c .before .before .before .sixteen-place .result) (c .before .before .sixteen-place2 .result) (length (a .sdf16 .now))
+    × Range (c .before .eight-place .result) (c .eight-place2 .result) (length (a .sdf8 .now))
+ranges c =
+    let s = entry-of c in
+    let a = s .args in
+    lent-ranges (a .width) (a .sdf .now) (a .sdf16 .now) (a .sdf8 .now) (a .k) (s .pre .0) (a .z) (s .pre .1 .0) (firsts c) (lasts c)
+
+-- ---- the needs
 
 cast-plane : tie.Need-cast-plane
 cast-plane c = search needs
@@ -32,174 +78,123 @@ cast-plane-2 : tie.Need-cast-plane-2
 cast-plane-2 c = search needs
 
 mul-plane : tie.Need-mul-plane
-mul-plane c =
-    let s = start-from-struct-known2 c in
-    omega (
-      arith,
-      layer-few (s .args .sdf .now) (s .args .k) (s .pre .0) (s .args .z) (s .pre .1 .0),
-      layer-end (s .args .sdf .now) (s .args .k) (s .pre .0) (s .args .z)
-          (s .pre .1 .0),
-    )
+mul-plane c = let e = ends (start-of c) in omega arith
 
 mul-start : tie.Need-mul-start
-mul-start c =
-    let s = start-from-struct-known2 c in
-    omega (
-      arith,
-      layer-few (s .args .sdf .now) (s .args .k) (s .pre .0) (s .args .z) (s .pre .1 .0),
-      layer-end (s .args .sdf .now) (s .args .k) (s .pre .0) (s .args .z)
-          (s .pre .1 .0),
-    )
+mul-start c = let e = ends (start-of c) in omega arith
 
 add-end : tie.Need-add-end
-add-end c =
-    let s = start-from-struct-known2 c in
-    omega (
-      arith,
-      layer-few (s .args .sdf .now) (s .args .k) (s .pre .0) (s .args .z) (s .pre .1 .0),
-      layer-end (s .args .sdf .now) (s .args .k) (s .pre .0) (s .args .z)
-          (s .pre .1 .0),
-    )
+add-end c = let e = ends (start-of c) in omega arith
 
-cast-t17 : tie.Need-cast-t17
-cast-t17 c = let r = start-from-struct-known2 c .pre .1 .1 .1 in omega arith
+float-place-requires : tie.Need-float-place-requires
+float-place-requires c κs = search needs
+
+float-place-requires-2 : tie.Need-float-place-requires-2
+float-place-requires-2 c κs = search needs
+
+sixteen-place-requires : tie.Need-sixteen-place-requires
+sixteen-place-requires c κs = search needs
+
+sixteen-place-requires-2 : tie.Need-sixteen-place-requires-2
+sixteen-place-requires-2 c κs = search needs
+
+eight-place-requires : tie.Need-eight-place-requires
+eight-place-requires c κs = search needs
+
+eight-place-requires-2 : tie.Need-eight-place-requires-2
+eight-place-requires-2 c κs = search needs
+
+cast-t26 : tie.Need-cast-t26
+cast-t26 c = let r = entry-of c .pre .1 .1 .1 in omega arith
 
 mul-mark-layer : tie.Need-mul-mark-layer
-mul-mark-layer c =
-    let s = start-from-struct-known2 c in
-    omega (
-      arith,
-      layer-few (s .args .sdf .now) (s .args .k) (s .pre .0) (s .args .z) (s .pre .1 .0),
-      layer-end (s .args .sdf .now) (s .args .k) (s .pre .0) (s .args .z)
-          (s .pre .1 .0),
-    )
+mul-mark-layer c = let r = ranges c .0 in omega arith
 
 sub-mark-layer : tie.Need-sub-mark-layer
-sub-mark-layer c =
-    let s = start-from-struct-known2 c in
-    omega (
-      arith,
-      layer-few (s .args .sdf .now) (s .args .k) (s .pre .0) (s .args .z) (s .pre .1 .0),
-      layer-end (s .args .sdf .now) (s .args .k) (s .pre .0) (s .args .z)
-          (s .pre .1 .0),
-    )
+sub-mark-layer c = let r = ranges c .0 in omega arith
 
 part-mark-layer-start : tie.Need-part-mark-layer-start
-part-mark-layer-start c =
-    let s = start-from-struct-known2 c in
-    omega (
-      arith,
-      layer-few (s .args .sdf .now) (s .args .k) (s .pre .0) (s .args .z) (s .pre .1 .0),
-      layer-end (s .args .sdf .now) (s .args .k) (s .pre .0) (s .args .z)
-          (s .pre .1 .0),
-    )
+part-mark-layer-start c = let r = ranges c .0 in omega arith
 
 part-mark-layer-end : tie.Need-part-mark-layer-end
-part-mark-layer-end c =
-    let s = start-from-struct-known2 c in
-    omega (
-      arith,
-      layer-few (s .args .sdf .now) (s .args .k) (s .pre .0) (s .args .z) (s .pre .1 .0),
-      layer-end (s .args .sdf .now) (s .args .k) (s .pre .0) (s .args .z)
-          (s .pre .1 .0),
-    )
+part-mark-layer-end c = let r = ranges c .0 in omega arith
 
 mul-mark-layer-2 : tie.Need-mul-mark-layer-2
-mul-mark-layer-2 c =
-    let s = start-from-mark-layer-arg c in
-    omega (
-      arith,
-      layer-few (s .args .sdf .now) (s .args .k) (s .pre .0) (s .args .z) (s .pre .1 .0),
-      layer-end (s .args .sdf .now) (s .args .k) (s .pre .0) (s .args .z)
-          (s .pre .1 .0),
-    )
+mul-mark-layer-2 c = let r = ranges (c .before) .0 in omega arith
 
 sub-mark-layer-2 : tie.Need-sub-mark-layer-2
-sub-mark-layer-2 c =
-    let s = start-from-mark-layer-arg c in
-    omega (
-      arith,
-      layer-few (s .args .sdf .now) (s .args .k) (s .pre .0) (s .args .z) (s .pre .1 .0),
-      layer-end (s .args .sdf .now) (s .args .k) (s .pre .0) (s .args .z)
-          (s .pre .1 .0),
-    )
+sub-mark-layer-2 c = let r = ranges (c .before) .0 in omega arith
 
 part-mark-layer-start-2 : tie.Need-part-mark-layer-start-2
-part-mark-layer-start-2 c =
-    let s = start-from-mark-layer-arg c in
-    omega (
-      arith,
-      layer-few (s .args .sdf .now) (s .args .k) (s .pre .0) (s .args .z) (s .pre .1 .0),
-      layer-end (s .args .sdf .now) (s .args .k) (s .pre .0) (s .args .z)
-          (s .pre .1 .0),
-    )
+part-mark-layer-start-2 c = let r = ranges (c .before) .0 in omega arith
 
 part-mark-layer-end-2 : tie.Need-part-mark-layer-end-2
-part-mark-layer-end-2 c =
-    let s = start-from-mark-layer-arg c in
-    omega (
-      arith,
-      layer-few (s .args .sdf .now) (s .args .k) (s .pre .0) (s .args .z) (s .pre .1 .0),
-      layer-end (s .args .sdf .now) (s .args .k) (s .pre .0) (s .args .z)
-          (s .pre .1 .0),
-    )
+part-mark-layer-end-2 c = let r = ranges (c .before) .0 in omega arith
 
 mul-mark-layer-3 : tie.Need-mul-mark-layer-3
-mul-mark-layer-3 c =
-    let s = start-from-mark-layer-arg7 c in
-    omega (
-      arith,
-      layer-few (s .args .sdf .now) (s .args .k) (s .pre .0) (s .args .z) (s .pre .1 .0),
-      layer-end (s .args .sdf .now) (s .args .k) (s .pre .0) (s .args .z)
-          (s .pre .1 .0),
-      s .pre .1 .1 .0,
-    )
+mul-mark-layer-3 c = let r = ranges (c .before .before) .1 in omega arith
 
 sub-mark-layer-3 : tie.Need-sub-mark-layer-3
-sub-mark-layer-3 c =
-    let s = start-from-mark-layer-arg7 c in
-    omega (
-      arith,
-      layer-few (s .args .sdf .now) (s .args .k) (s .pre .0) (s .args .z) (s .pre .1 .0),
-      layer-end (s .args .sdf .now) (s .args .k) (s .pre .0) (s .args .z)
-          (s .pre .1 .0),
-      s .pre .1 .1 .0,
-    )
+sub-mark-layer-3 c = let r = ranges (c .before .before) .1 in omega arith
 
 part-mark-layer-start-3 : tie.Need-part-mark-layer-start-3
-part-mark-layer-start-3 c =
-    let s = start-from-mark-layer-arg7 c in
-    omega (
-      arith,
-      layer-few (s .args .sdf .now) (s .args .k) (s .pre .0) (s .args .z) (s .pre .1 .0),
-      layer-end (s .args .sdf .now) (s .args .k) (s .pre .0) (s .args .z)
-          (s .pre .1 .0),
-      s .pre .1 .1 .0,
-    )
+part-mark-layer-start-3 c = let r = ranges (c .before .before) .1 in omega arith
 
 part-mark-layer-end-3 : tie.Need-part-mark-layer-end-3
-part-mark-layer-end-3 c =
-    let s = start-from-mark-layer-arg7 c in
-    omega (
-      arith,
-      layer-few (s .args .sdf .now) (s .args .k) (s .pre .0) (s .args .z) (s .pre .1 .0),
-      layer-end (s .args .sdf .now) (s .args .k) (s .pre .0) (s .args .z)
-          (s .pre .1 .0),
-      s .pre .1 .1 .0,
-    )
+part-mark-layer-end-3 c = let r = ranges (c .before .before) .1 in omega arith
+
+mul-mark-layer-4 : tie.Need-mul-mark-layer-4
+mul-mark-layer-4 c = let r = ranges (c .before .before .before) .1 in omega arith
+
+sub-mark-layer-4 : tie.Need-sub-mark-layer-4
+sub-mark-layer-4 c = let r = ranges (c .before .before .before) .1 in omega arith
+
+part-mark-layer-start-4 : tie.Need-part-mark-layer-start-4
+part-mark-layer-start-4 c = let r = ranges (c .before .before .before) .1 in omega arith
+
+part-mark-layer-end-4 : tie.Need-part-mark-layer-end-4
+part-mark-layer-end-4 c = let r = ranges (c .before .before .before) .1 in omega arith
+
+sub-mark-layer-5 : tie.Need-sub-mark-layer-5
+sub-mark-layer-5 c = let r = ranges (c .before .before .before .before) .2 in omega arith
+
+part-mark-layer-start-5 : tie.Need-part-mark-layer-start-5
+part-mark-layer-start-5 c = let r = ranges (c .before .before .before .before) .2 in omega arith
+
+part-mark-layer-end-5 : tie.Need-part-mark-layer-end-5
+part-mark-layer-end-5 c = let r = ranges (c .before .before .before .before) .2 in omega arith
+
+sub-mark-layer-6 : tie.Need-sub-mark-layer-6
+sub-mark-layer-6 c = let r = ranges (c .before .before .before .before .before) .2 in omega arith
+
+part-mark-layer-start-6 : tie.Need-part-mark-layer-start-6
+part-mark-layer-start-6 c = let r = ranges (c .before .before .before .before .before) .2 in omega arith
+
+part-mark-layer-end-6 : tie.Need-part-mark-layer-end-6
+part-mark-layer-end-6 c = let r = ranges (c .before .before .before .before .before) .2 in omega arith
+
+mul-mark-layer-5 : tie.Need-mul-mark-layer-5
+mul-mark-layer-5 c = let s = entry-of (places-of c) in let e = ends s in let m = s .pre .1 .1 .0 in omega arith
+
+sub-mark-layer-7 : tie.Need-sub-mark-layer-7
+sub-mark-layer-7 c = let s = entry-of (places-of c) in let e = ends s in let m = s .pre .1 .1 .0 in omega arith
+
+part-mark-layer-start-7 : tie.Need-part-mark-layer-start-7
+part-mark-layer-start-7 c = let s = entry-of (places-of c) in let e = ends s in let m = s .pre .1 .1 .0 in omega arith
+
+part-mark-layer-end-7 : tie.Need-part-mark-layer-end-7
+part-mark-layer-end-7 c = let s = entry-of (places-of c) in let e = ends s in let m = s .pre .1 .1 .0 in omega arith
 
 mark-layer-requires : tie.Need-mark-layer-requires
 mark-layer-requires c κs =
-    let s = start-from-mark-layer-arg8 c in
+    let p = places-of (c .before) in
+    let s = entry-of p in
     let a = s .args in
     let i = s .pre .0 in
-    let zs = s .pre .1 .0 in (
-      in-layers (a .sdf .now) (a .k) i (a .z) zs,
-      (
-        corner-lent (a .sdf .now) (a .k) i (a .z) zs (a .map .now) (s .pre .1 .1 .0),
-        room-lent (a .sdf .now) (a .k) i (a .z) zs
-            (s .pre .1 .1 .1),
-      ),
+    let zs = s .pre .1 .0 in
+    let t = lent-parts (a .width) (a .sdf .now) (a .sdf16 .now) (a .sdf8 .now) (a .k) (s .pre .0) (a .z) (s .pre .1 .0) (firsts p) (lasts p) in (
+      lent-layers (grid-of s) (a .k) i (a .z) zs t,
+      (corner-lent (grid-of s) (a .k) i (a .z) zs (a .map .now) (s .pre .1 .1 .0), room-lent (grid-of s) (a .k) i (a .z) zs t (s .pre .1 .1 .1)),
     )
 
 same-length : tie.Need-same-length
@@ -222,13 +217,16 @@ same-length-6 c = search needs
 
 returns : tie.Need-returns
 returns c =
-    let e = mark-layer-from-slice-known12 c in
-    let s = e .before .before .before .before .before .before .before .before .before .before .before .before .before .before .before .before .before .before in
+    let m = call-of c in
+    let p = places-of (m .before .before) in
+    let s = entry-of p in
     let a = s .args in
-    let m = e .mark-layer in (
-      marked-back (a .sdf .now) (a .k) (s .pre .0) (a .z) (s .pre .1 .0) (a .first) (a .positions .now) (a .normals .now) (a .cells .now) (a .strides .now)
-          (a .crossings .now) (a .map .now) (s .pre .1 .1 .0) (m .ensures .0),
-      m .ensures .1 ∙ ap length (layer-same (a .sdf .now) (a .k) (s .pre .0) (a .z) (s .pre .1 .0)),
+    let i = s .pre .0 in
+    let zs = s .pre .1 .0 in
+    let t = lent-parts (a .width) (a .sdf .now) (a .sdf16 .now) (a .sdf8 .now) (a .k) (s .pre .0) (a .z) (s .pre .1 .0) (firsts p) (lasts p) in (
+      marked-back (grid-of s) (a .k) i (a .z) zs t (a .first) (a .positions .now) (a .normals .now) (a .cells .now) (a .strides .now) (a .crossings .now) (a .map .now)
+          (s .pre .1 .1 .0) (m .mark-layer .ensures .0),
+      m .mark-layer .ensures .1 ∙ ap length (layer-same (grid-of s) (a .k) i (a .z) zs t),
     )
 
 pub mark-part-spec : {M : Type 1} → statement M
@@ -240,7 +238,13 @@ mark-part-spec =
     mul-plane
     mul-start
     add-end
-    cast-t17
+    float-place-requires
+    float-place-requires-2
+    sixteen-place-requires
+    sixteen-place-requires-2
+    eight-place-requires
+    eight-place-requires-2
+    cast-t26
     mul-mark-layer
     sub-mark-layer
     part-mark-layer-start
@@ -253,6 +257,20 @@ mark-part-spec =
     sub-mark-layer-3
     part-mark-layer-start-3
     part-mark-layer-end-3
+    mul-mark-layer-4
+    sub-mark-layer-4
+    part-mark-layer-start-4
+    part-mark-layer-end-4
+    sub-mark-layer-5
+    part-mark-layer-start-5
+    part-mark-layer-end-5
+    sub-mark-layer-6
+    part-mark-layer-start-6
+    part-mark-layer-end-6
+    mul-mark-layer-5
+    sub-mark-layer-7
+    part-mark-layer-start-7
+    part-mark-layer-end-7
     mark-layer-requires
     same-length
     same-length-2

@@ -2,11 +2,14 @@
 -- documents say. Assumes nothing.
 use Prim.Native.Nat.{ℕ, _-_}
 use native.Mathlib.Omega.{arith}
+use mathlib.Core.List.{List}
 use mathlib.Core.Path.{ap, _∙_}
+use lib.Ieee.{Float}
 use lib.ListN.{length}
 use Rattle.rules.specs.Call.{Buffers}
 use Rattle.lists.proofs.Lists.{length-placed}
 use Rattle.grid.specs.Block.{point, boxOf, callOf}
+use Rattle.grid.specs.Values.{gridOf}
 use Rattle.grid.proofs.Bounds.{fits}
 use Rattle.grid.proofs.Walks.{Counting, begun, ended, cell-spans, AtLayer, at-layer}
 use Rattle.whole_box.specs.LentLists.{buffers, buffersGiven}
@@ -20,17 +23,21 @@ use Rattle.whole_box.proofs.mesh_box.Statement.{statement}
 use Rattle.whole_box.proofs.mesh_box.Tie as tie
 
 abbrev Inv-loop : tie.InvT-loop
-Inv-loop sdf k positions₀ normals₀ cells₀ strides₀ crossings₀ map₀ indices₀ from end state₀ z₀ positions normals cells strides crossings map indices state z =
-    Counting from end z × Written (callOf sdf k) z (buffers positions₀ normals₀ cells₀ strides₀ crossings₀ map₀ indices₀) state
+Inv-loop width sdf sdf16 sdf8 k positions₀ normals₀ cells₀ strides₀ crossings₀ map₀ indices₀ from end state₀ z₀ positions normals cells strides crossings map indices state z =
+    Counting from end z × Written (callOf (gridOf width sdf sdf16 sdf8) k) z (buffers positions₀ normals₀ cells₀ strides₀ crossings₀ map₀ indices₀) state
     (buffers positions normals cells strides crossings map indices)
 
 abbrev μ-loop : tie.MeasureT-loop
-μ-loop sdf k positions₀ normals₀ cells₀ strides₀ crossings₀ map₀ indices₀ from end state₀ z₀ positions normals cells strides crossings map indices state z = end - z
+μ-loop width sdf sdf16 sdf8 k positions₀ normals₀ cells₀ strides₀ crossings₀ map₀ indices₀ from end state₀ z₀ positions normals cells strides crossings map indices state z =
+    end - z
 
 -- ---- the places that a later one leads back to
 
 abbrev entry-of : tie.At-loop Inv-loop μ-loop → tie.Start Inv-loop μ-loop
 entry-of c = c .before .before .before .before .before .before .before .before .before
+
+abbrev grid-of : tie.Start Inv-loop μ-loop → List Float
+grid-of s = let a = s .args in gridOf (a .width) (a .sdf .now) (a .sdf16 .now) (a .sdf8 .now)
 
 -- the lists as they are lent
 abbrev lent-of : tie.Start Inv-loop μ-loop → Buffers
@@ -49,7 +56,7 @@ here c = at-layer (entry-of (c .before) .pre .0) (c .before .loop .inv .0) (c .l
 
 lengths : (c : tie.At-loop Inv-loop μ-loop) → let w = c .loop in
     SameLengths (buffers (w .positions) (w .normals) (w .cells) (w .strides) (w .crossings) (w .map) (w .indices)) (lent-of (entry-of c))
-lengths c = let a = entry-of c .args in let w = c .loop in written-lengths (callOf (a .sdf .now) (a .k)) (w .z) (w .inv .0 .low) (w .inv .0 .high) (w .inv .1)
+lengths c = let s = entry-of c in let w = c .loop in written-lengths (callOf (grid-of s) (s .args .k)) (w .z) (w .inv .0 .low) (w .inv .0 .high) (w .inv .1)
 
 -- ---- the needs
 
@@ -57,7 +64,7 @@ loop-holds : tie.Need-loop-holds Inv-loop μ-loop
 loop-holds c =
     let s = c .before .before .before .before .before .before .before .before in
     let a = s .args in
-    (begun (cell-spans (s .pre .0) .z), written-none (callOf (a .sdf .now) (a .k)) (lent-of s) (s .pre .1))
+    (begun (cell-spans (s .pre .0) .z), written-none (callOf (grid-of s) (a .k)) (lent-of s) (s .pre .1))
 
 mesh-layer-requires : tie.Need-mesh-layer-requires Inv-loop μ-loop
 mesh-layer-requires c κs =
@@ -79,7 +86,7 @@ loop-again c =
     let s = entry-of (t .before) in
     let a = s .args in
     let w = t .before .loop in
-    let more = grown (a .sdf .now) (a .k) (s .pre .0) (w .z) (here t .turn .here) (w .inv .1) in
+    let more = grown (grid-of s) (a .k) (s .pre .0) (w .z) (here t .turn .here) (w .inv .1) in
     (here t .turn .next, record { roomy = w .inv .1 .roomy; same = m .mesh-layer .ensures .0 ∙ more .same; on = m .mesh-layer .ensures .1 ∙ more .on })
 
 -- ---- after the layers of cells, the last layer
@@ -127,11 +134,11 @@ returns c =
     let s = entry-of (l .before) in
     let a = s .args in
     let w = l .before .loop in
-    let call = callOf (a .sdf .now) (a .k) in
+    let call = callOf (grid-of s) (a .k) in
     let before = lent-of s in
-    let f = fits (a .sdf .now) (a .k) (s .pre .0) in
+    let f = fits (grid-of s) (a .k) (s .pre .0) in
     let layers = w .inv .1 .same ∙ ap (λ (n : ℕ). writtenTo call n before) (ended (w .inv .0) (l .loop-test .left)) in
-    written-all call (omega (arith, f .x .1)) (omega (arith, f .y .1)) (plane-up (a .sdf .now) (a .k) (s .pre .0)) before layers (m .clear-part .ensures)
+    written-all call (omega (arith, f .x .1)) (omega (arith, f .y .1)) (plane-up (grid-of s) (a .k) (s .pre .0)) before layers (m .clear-part .ensures)
 
 pub mesh-box-spec : {M : Type 1} → statement M
 mesh-box-spec =

@@ -1,7 +1,10 @@
 -- The two halves of a layer, one after the other. Assumes nothing.
+use mathlib.Core.List.{List}
 use mathlib.Core.Path.{_∙_}
 use native.Mathlib.Omega.{arith}
+use lib.Ieee.{Float}
 use Rattle.grid.specs.Block.{callOf}
+use Rattle.grid.specs.Values.{gridOf}
 use Rattle.whole_box.specs.LentLists.{buffersGiven}
 use Rattle.whole_box.specs.Layers.{Written}
 use Rattle.whole_box.proofs.Lent.{written-room, map-long}
@@ -29,8 +32,11 @@ face-part-from-struct-known2 c = c .before .before .before .before
 abbrev start-of : tie.After-mark-part → tie.Start
 start-of c = c .before .before .before .before .before .before .before .before .before .before .before .before .before .before .before
 
+abbrev grid-of : tie.Start → List Float
+grid-of s = let a = s .args in gridOf (a .width) (a .sdf .now) (a .sdf16 .now) (a .sdf8 .now)
+
 -- the lists that the layers before leave
-so-far : (s : tie.Start) → let a = s .args in Written (callOf (a .sdf .now) (a .k)) (a .z) (s .pre .1 .1 .start) (a .made)
+so-far : (s : tie.Start) → let a = s .args in Written (callOf (grid-of s) (a .k)) (a .z) (s .pre .1 .1 .start) (a .made)
     (buffersGiven (a .positions) (a .normals) (a .cells) (a .strides) (a .crossings) (a .map) (a .indices))
 so-far s = s .pre .1 .1 .written
 
@@ -44,8 +50,8 @@ mark-part-requires c κs =
       (
         s .pre .1 .0,
         (
-          map-long (a .sdf .now) (a .k) (s .pre .0) (a .z) (s .pre .1 .0) (so-far s),
-          written-room (a .sdf .now) (a .k) (s .pre .0) (a .z) (s .pre .1 .0)
+          map-long (grid-of s) (a .k) (s .pre .0) (a .z) (s .pre .1 .0) (so-far s),
+          written-room (grid-of s) (a .k) (s .pre .0) (a .z) (s .pre .1 .0)
               (so-far s),
         ),
       ),
@@ -61,12 +67,12 @@ face-part-requires c κs =
       (
         s .pre .1 .0,
         (
-          map-still (a .sdf .now) (a .k) (s .pre .0) (a .z) (s .pre .1 .0) (so-far s) (e .0),
+          map-still (grid-of s) (a .k) (s .pre .0) (a .z) (s .pre .1 .0) (so-far s) (e .0),
           (
             e .1,
             (
-              stands-marked (a .sdf .now) (a .k) (s .pre .0) (a .z) (s .pre .1 .0) (so-far s) (e .0),
-              indices-room (a .sdf .now) (a .k) (s .pre .0) (a .z) (s .pre .1 .0)
+              stands-marked (grid-of s) (a .k) (s .pre .0) (a .z) (s .pre .1 .0) (so-far s) (e .0),
+              indices-room (grid-of s) (a .k) (s .pre .0) (a .z) (s .pre .1 .0)
                   (so-far s),
             ),
           ),
@@ -74,20 +80,20 @@ face-part-requires c κs =
       ),
     )
 
-add-t35 : tie.Need-add-t35
-add-t35 c =
+add-t38 : tie.Need-add-t38
+add-t38 c =
     let m = mark-part-from-struct-known c in
     let s = start-of m in
     let a = s .args in
-    omega (arith, m .mark-part .ensures .1, vertices-room (a .sdf .now) (a .k) (s .pre .0) (a .z) (s .pre .1 .0) (so-far s))
+    omega (arith, m .mark-part .ensures .1, vertices-room (grid-of s) (a .k) (s .pre .0) (a .z) (s .pre .1 .0) (so-far s))
 
-add-t36 : tie.Need-add-t36
-add-t36 c =
+add-t39 : tie.Need-add-t39
+add-t39 c =
     let f = face-part-from-struct-known2 c in
     let m = f .before .before .before .before .before .before .before .before .before .before .before .before .before .before .before .before .before in
     let s = start-of m in
     let a = s .args in
-    omega (arith, f .face-part .ensures .1, indices-room (a .sdf .now) (a .k) (s .pre .0) (a .z) (s .pre .1 .0) (so-far s), s .good .1 .1 .1 .1 .1 .1 .1 .1 .1 .0)
+    omega (arith, f .face-part .ensures .1, indices-room (grid-of s) (a .k) (s .pre .0) (a .z) (s .pre .1 .0) (so-far s), s .good .1 .1 .1 .1 .1 .1 .1 .1 .1 .1 .1 .1 .0)
 
 same-length : tie.Need-same-length
 same-length c = search needs
@@ -116,7 +122,7 @@ returns c =
     let m = f .before .before .before .before .before .before .before .before .before .before .before .before .before .before .before .before .before in
     let s = start-of m in
     let a = s .args in
-    layer-whole (a .sdf .now) (a .k) (s .pre .0) (a .z) (s .pre .1 .0) (so-far s) (m .mark-part .ensures .0)
+    layer-whole (grid-of s) (a .k) (s .pre .0) (a .z) (s .pre .1 .0) (so-far s) (m .mark-part .ensures .0)
     (f .face-part .ensures .0) (m .mark-part .ensures .1) (f .face-part .ensures .1)
 
 pub mesh-layer-spec : {M : Type 1} → statement M
@@ -125,8 +131,8 @@ mesh-layer-spec =
     (tie.spec
     mark-part-requires
     face-part-requires
-    add-t35
-    add-t36
+    add-t38
+    add-t39
     same-length
     same-length-2
     same-length-3

@@ -9,6 +9,7 @@ use Rattle.rules.specs.Grid.{GridPoint}
 use Rattle.rules.specs.Vertices.{layerCells}
 use Rattle.grid.specs.Block.{boxOf, flagsOf}
 use Rattle.grid.specs.Layers.{twoLayers, InLayers}
+use Rattle.grid.specs.Values.{gridOf}
 use Rattle.count.specs.Tally.{tallyOf}
 use Rattle.count.proofs.Tallies.{none-counted}
 use Rattle.layers.specs.Offer.{before, cellsAt, between}
@@ -16,6 +17,16 @@ use Rattle.layers.proofs.Cells.{cells-first, cells-later, plane-small, 
 use borrow.Author.Needs.{needs}
 use Rattle.layers.proofs.answers.count_below.Statement.{statement}
 use Rattle.layers.proofs.answers.count_below.Tie as tie
+
+-- ---- the places that a later one leads back to
+
+abbrev entry-of : tie.After-half → tie.Start
+entry-of c = c .before .before .before .before .before
+
+abbrev half-of : tie.After-struct-known → tie.After-half
+half-of c = c .before .before .before .before .before .before
+
+-- ---- the needs
 
 returns : tie.Need-returns
 returns c =
@@ -31,14 +42,14 @@ half-requires c κs = search needs
 
 add-end : tie.Need-add-end
 add-end c =
-    let s = c .before .before .before .before .before in
+    let s = entry-of c in
     let e = half-end (s .args .s .block) (s .args .s .taken - 1) (s .pre .offered .long) (c .half .ensures) in
     let p = plane-small (s .pre) in
     record { fits = omega arith }
 
 mul-count-layer : tie.Need-mul-count-layer
 mul-count-layer c =
-    let s = c .before .before .before .before .before in
+    let s = entry-of c in
     let e = half-end (s .args .s .block) (s .args .s .taken - 1) (s .pre .offered .long) (c .half .ensures) in
     let p = plane-small (s .pre) in
     record { fits = omega arith }
@@ -51,28 +62,44 @@ part-count-layer-start c = search needs
 
 part-count-layer-end : tie.Need-part-count-layer-end
 part-count-layer-end c =
-    let s = c .before .before .before .before .before in
+    let s = entry-of c in
     let e = half-end (s .args .s .block) (s .args .s .taken - 1) (s .pre .offered .long) (c .half .ensures) in
     omega (arith, s .pre .kept)
+
+slice-aggregate-count-layer : tie.Need-slice-aggregate-count-layer
+slice-aggregate-count-layer c = search needs
+
+slice-aggregate-count-layer-2 : tie.Need-slice-aggregate-count-layer-2
+slice-aggregate-count-layer-2 c = search needs
+
+slice-aggregate-count-layer-3 : tie.Need-slice-aggregate-count-layer-3
+slice-aggregate-count-layer-3 c = search needs
+
+slice-aggregate-count-layer-4 : tie.Need-slice-aggregate-count-layer-4
+slice-aggregate-count-layer-4 c = search needs
 
 add-count-layer : tie.Need-add-count-layer
 add-count-layer c = search needs
 
 count-layer-requires : tie.Need-count-layer-requires
+unfolding gridOf
 count-layer-requires c κs =
-    let s = c .before .before .before .before .before .before .before in
+    let h = half-of c in
+    let s = entry-of h in
     let a = s .args in
-    let e = half-read (a .s .block) (before (a .s)) (a .distances .now) (s .pre .offered .long) (c .before .before .half .ensures) in
-    let no = c .before .before .before .before .if1 .left in
+    let e = half-read (a .s .block) (before (a .s)) (a .distances .now) (s .pre .offered .long) (h .half .ensures) in
+    let no = h .before .before .if1 .left in
     subst (λ (lower : List Float). InLayers lower (a .layer .now) (a .s .block) (cellsAt (a .s))) (sym e) (in-layers (s .pre) (omega arith))
 
 returns-2 : tie.Need-returns-2
+unfolding gridOf
 returns-2 c =
-    let s = c .before .before .before .before .before .before .before .before in
+    let h = half-of (c .before) in
+    let s = entry-of h in
     let a = s .args in
     let k = a .s .block in
-    let e = half-read k (before (a .s)) (a .distances .now) (s .pre .offered .long) (c .before .before .before .half .ensures) in
-    let no = c .before .before .before .before .before .if1 .left in
+    let e = half-read k (before (a .s)) (a .distances .now) (s .pre .offered .long) (h .half .ensures) in
+    let no = h .before .before .if1 .left in
     c .count-layer .ensures
     ∙ ap (λ (lower : List Float). tallyOf (twoLayers lower (a .layer .now) k (cellsAt (a .s))) (boxOf k) (flagsOf k) (layerCells (boxOf k) (cellsAt (a .s)))) e
     ∙ ap (tallyOf (between (a .s) (a .layer .now) (a .distances .now)) (boxOf k) (flagsOf k)) (sym (cells-later (a .s) (omega arith)))
@@ -89,6 +116,10 @@ count-below-spec =
     sub-count-layer
     part-count-layer-start
     part-count-layer-end
+    slice-aggregate-count-layer
+    slice-aggregate-count-layer-2
+    slice-aggregate-count-layer-3
+    slice-aggregate-count-layer-4
     add-count-layer
     count-layer-requires
     returns-2)

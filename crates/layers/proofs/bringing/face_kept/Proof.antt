@@ -4,9 +4,10 @@ use mathlib.Core.Path.{sym}
 use native.Mathlib.Omega.{arith}
 use lib.ListN.{length}
 use lib.Seq.{length-take-le}
+use Rattle.grid.specs.Values.{gridOf}
 use Rattle.layers.specs.Offer.{before}
 use Rattle.layers.proofs.Cells.{Within, within-half}
-use Rattle.layers.proofs.Brought.{lower-layers, standing-lent, edges-lent, under-corner, faces-put}
+use Rattle.layers.proofs.Brought.{lower-layers, standing-lent, edges-fit, under-corner, faces-put}
 use borrow.Author.Needs.{needs}
 use Rattle.layers.proofs.bringing.face_kept.Statement.{statement}
 use Rattle.layers.proofs.bringing.face_kept.Tie as tie
@@ -15,6 +16,13 @@ use Rattle.layers.proofs.bringing.face_kept.Tie as tie
 
 abbrev entry-of : tie.After-half → tie.Start
 entry-of c = c .before .before .before .before .before .before .before .before .before
+
+-- from where the parts of the layer are lent, and that of the layer below
+abbrev lent-of : tie.After-face-layer-arg6 → tie.After-half2
+lent-of c = c .before .before .before .before .before .before .before
+
+abbrev under-of : tie.After-face-layer-arg8 → tie.After-half2
+under-of c = lent-of (c .before .before)
 
 ends : (c : tie.After-half) → Within (entry-of c .args .s .block) (c .half .result) (length (entry-of c .args .layer .now))
 ends c = let s = entry-of c in within-half (s .pre .0) (before (s .args .s)) (c .half .ensures)
@@ -54,14 +62,26 @@ part-face-layer-start c = search needs
 part-face-layer-end : tie.Need-part-face-layer-end
 part-face-layer-end c = omega (arith, entry-of (c .before) .pre .0 .kept, ends (c .before) .inside)
 
+slice-aggregate-face-layer : tie.Need-slice-aggregate-face-layer
+slice-aggregate-face-layer c = search needs
+
+slice-aggregate-face-layer-2 : tie.Need-slice-aggregate-face-layer-2
+slice-aggregate-face-layer-2 c = search needs
+
+slice-aggregate-face-layer-3 : tie.Need-slice-aggregate-face-layer-3
+slice-aggregate-face-layer-3 c = search needs
+
+slice-aggregate-face-layer-4 : tie.Need-slice-aggregate-face-layer-4
+slice-aggregate-face-layer-4 c = search needs
+
 add-face-layer : tie.Need-add-face-layer
 add-face-layer c = search needs
 
-slice-aggregate-face-layer : tie.Need-slice-aggregate-face-layer
-slice-aggregate-face-layer c = let s = entry-of (c .before .before .before .before) in sym (length-take-le (3 * s .args .count) (s .args .cells .now) (s .pre .1 .1 .1 .0 .0))
+slice-aggregate-face-layer-5 : tie.Need-slice-aggregate-face-layer-5
+slice-aggregate-face-layer-5 c = let s = entry-of (lent-of c .before) in sym (length-take-le (3 * s .args .count) (s .args .cells .now) (s .pre .1 .1 .1 .0 .0))
 
 mul-face-layer-2 : tie.Need-mul-face-layer-2
-mul-face-layer-2 c = ends (c .before .before .before .before) .bytes-fit
+mul-face-layer-2 c = ends (lent-of c .before) .bytes-fit
 
 sub-face-layer-2 : tie.Need-sub-face-layer-2
 sub-face-layer-2 c = search needs
@@ -70,14 +90,13 @@ part-face-layer-start-2 : tie.Need-part-face-layer-start-2
 part-face-layer-start-2 c = search needs
 
 part-face-layer-end-2 : tie.Need-part-face-layer-end-2
-part-face-layer-end-2 c = let h = c .before .before .before .before in omega (arith, entry-of h .pre .1 .1 .0, ends h .inside)
+part-face-layer-end-2 c = let h = lent-of c .before in omega (arith, entry-of h .pre .1 .1 .0, ends h .inside)
 
-slice-aggregate-face-layer-2 : tie.Need-slice-aggregate-face-layer-2
-slice-aggregate-face-layer-2 c = let s = entry-of (c .before .before .before .before .before .before) in sym
-    (length-take-le (3 * s .args .count) (s .args .positions .now) (s .pre .1 .1 .1 .0 .1))
+slice-aggregate-face-layer-6 : tie.Need-slice-aggregate-face-layer-6
+slice-aggregate-face-layer-6 c = let s = entry-of (under-of c .before) in sym (length-take-le (3 * s .args .count) (s .args .positions .now) (s .pre .1 .1 .1 .0 .1))
 
 mul-face-layer-3 : tie.Need-mul-face-layer-3
-mul-face-layer-3 c = under-ends (c .before .before .before .before .before) .bytes-fit
+mul-face-layer-3 c = under-ends (under-of c) .bytes-fit
 
 sub-face-layer-3 : tie.Need-sub-face-layer-3
 sub-face-layer-3 c = search needs
@@ -86,11 +105,12 @@ part-face-layer-start-3 : tie.Need-part-face-layer-start-3
 part-face-layer-start-3 c = search needs
 
 part-face-layer-end-3 : tie.Need-part-face-layer-end-3
-part-face-layer-end-3 c = let h = c .before .before .before .before .before in omega (arith, entry-of (h .before) .pre .1 .1 .0, under-ends h .inside)
+part-face-layer-end-3 c = let u = under-of c in omega (arith, entry-of (u .before) .pre .1 .1 .0, under-ends u .inside)
 
 face-layer-requires : tie.Need-face-layer-requires
+unfolding gridOf
 face-layer-requires c κs =
-    let u = c .before .before .before .before .before .before .before in
+    let u = under-of (c .before .before) in
     let h = u .before in
     let s = entry-of h in
     let p = s .pre in
@@ -98,7 +118,7 @@ face-layer-requires c κs =
       lower-layers (p .0) (p .1 .0) e,
       (
         standing-lent (p .0) (p .1 .0) e (s .args .map .now) (p .1 .1 .1 .1 .0),
-        (λ _. under-corner (p .0) (p .1 .0) e (u .half2 .ensures) (s .args .map .now) (p .1 .1 .0), omega (arith, edges-lent (p .0) (p .1 .0) e, p .1 .1 .1 .1 .1)),
+        (λ _. under-corner (p .0) (p .1 .0) e (u .half2 .ensures) (s .args .map .now) (p .1 .1 .0), edges-fit (p .0) (p .1 .0) e (p .1 .1 .1 .1 .1)),
       ),
     )
 
@@ -106,8 +126,9 @@ same-length : tie.Need-same-length
 same-length c = search needs
 
 returns : tie.Need-returns
+unfolding gridOf
 returns c =
-    let u = c .before .before .before .before .before .before .before .before .before .before in
+    let u = under-of (c .before .before .before .before .before) in
     let h = u .before in
     let s = entry-of h in
     let a = s .args in
@@ -129,13 +150,17 @@ face-kept-spec =
     sub-face-layer
     part-face-layer-start
     part-face-layer-end
-    add-face-layer
     slice-aggregate-face-layer
+    slice-aggregate-face-layer-2
+    slice-aggregate-face-layer-3
+    slice-aggregate-face-layer-4
+    add-face-layer
+    slice-aggregate-face-layer-5
     mul-face-layer-2
     sub-face-layer-2
     part-face-layer-start-2
     part-face-layer-end-2
-    slice-aggregate-face-layer-2
+    slice-aggregate-face-layer-6
     mul-face-layer-3
     sub-face-layer-3
     part-face-layer-start-3

@@ -2,6 +2,7 @@
 use mathlib.Core.Path.{sym, _∙_}
 use native.Mathlib.Omega.{arith}
 use lib.ListN.{length}
+use Rattle.grid.specs.Values.{gridOf}
 use Rattle.layers.specs.Offer.{before}
 use Rattle.layers.proofs.Cells.{Within, within-half}
 use Rattle.layers.proofs.Brought.{room-of, lower-layers, map-corner, vertices-lent, marked-put}
@@ -14,8 +15,9 @@ use Rattle.layers.proofs.bringing.mark_kept.Tie as tie
 abbrev entry-of : tie.After-half → tie.Start
 entry-of c = (c .before .before .before .before .before .before .before .before .before .before .before)
 
-abbrev lent-of : tie.After-mark-layer → tie.After-half
-lent-of c = (c .before .before .before .before .before .before .before .before .before)
+-- from where the part of the map is lent
+abbrev lent-of : tie.After-mark-layer-arg10 → tie.After-half
+lent-of c = (c .before .before .before .before .before .before .before .before .before .before .before)
 
 ends : (c : tie.After-half) → Within (entry-of c .args .s .block) (c .half .result) (length (entry-of c .args .layer .now))
 ends c = let s = entry-of c in within-half (s .pre .0) (before (s .args .s)) (c .half .ensures)
@@ -43,11 +45,23 @@ part-mark-layer-start c = search needs
 part-mark-layer-end : tie.Need-part-mark-layer-end
 part-mark-layer-end c = omega (arith, entry-of c .pre .0 .kept, ends c .inside)
 
+slice-aggregate-mark-layer : tie.Need-slice-aggregate-mark-layer
+slice-aggregate-mark-layer c = search needs
+
+slice-aggregate-mark-layer-2 : tie.Need-slice-aggregate-mark-layer-2
+slice-aggregate-mark-layer-2 c = search needs
+
+slice-aggregate-mark-layer-3 : tie.Need-slice-aggregate-mark-layer-3
+slice-aggregate-mark-layer-3 c = search needs
+
+slice-aggregate-mark-layer-4 : tie.Need-slice-aggregate-mark-layer-4
+slice-aggregate-mark-layer-4 c = search needs
+
 add-mark-layer : tie.Need-add-mark-layer
 add-mark-layer c = search needs
 
 mul-mark-layer-2 : tie.Need-mul-mark-layer-2
-mul-mark-layer-2 c = ends (c .before .before .before .before .before .before .before) .bytes-fit
+mul-mark-layer-2 c = ends (lent-of c) .bytes-fit
 
 sub-mark-layer-2 : tie.Need-sub-mark-layer-2
 sub-mark-layer-2 c = search needs
@@ -56,11 +70,12 @@ part-mark-layer-start-2 : tie.Need-part-mark-layer-start-2
 part-mark-layer-start-2 c = search needs
 
 part-mark-layer-end-2 : tie.Need-part-mark-layer-end-2
-part-mark-layer-end-2 c = let h = (c .before .before .before .before .before .before .before) in omega (arith, entry-of h .pre .1 .1 .0, ends h .inside)
+part-mark-layer-end-2 c = let h = lent-of c in omega (arith, entry-of h .pre .1 .1 .0, ends h .inside)
 
 mark-layer-requires : tie.Need-mark-layer-requires
+unfolding gridOf
 mark-layer-requires c κs =
-    let h = (c .before .before .before .before .before .before .before .before) in
+    let h = lent-of (c .before) in
     let s = entry-of h in
     let p = s .pre in
     let e = h .half .ensures in
@@ -85,9 +100,10 @@ same-length-6 : tie.Need-same-length-6
 same-length-6 c = search needs
 
 returns : tie.Need-returns
+unfolding gridOf
 returns c =
     let m = (c .before .before .before .before .before .before .before .before .before .before .before .before) in
-    let h = lent-of m in
+    let h = lent-of (m .before .before) in
     let s = entry-of h in
     let a = s .args in
     let p = s .pre in
@@ -108,6 +124,10 @@ mark-kept-spec =
     sub-mark-layer
     part-mark-layer-start
     part-mark-layer-end
+    slice-aggregate-mark-layer
+    slice-aggregate-mark-layer-2
+    slice-aggregate-mark-layer-3
+    slice-aggregate-mark-layer-4
     add-mark-layer
     mul-mark-layer-2
     sub-mark-layer-2

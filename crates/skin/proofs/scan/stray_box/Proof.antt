@@ -2,16 +2,17 @@
 use Prim.Native.Nat.{_+_, _-_}
 use borrow.Author.Needs.{needs}
 use Rattle.grid.specs.Block.{boxOf, fieldOf}
+use Rattle.grid.specs.Values.{gridOf}
 use Rattle.grid.proofs.Walks.{Turn, turn, through, end-fits, Scanned, scan-begun, scan-more, scan-ended, point-spans}
 use Rattle.skin.specs.Scan.{strayLayer, strayBox}
 use Rattle.skin.proofs.scan.stray_box.Statement.{statement}
 use Rattle.skin.proofs.scan.stray_box.Tie as tie
 
 abbrev Inv-loop : tie.InvT-loop
-Inv-loop sdf k from end stray₀ z₀ stray z = Scanned (strayLayer (fieldOf sdf k) (boxOf k)) from end z stray
+Inv-loop width sdf sdf16 sdf8 k from end stray₀ z₀ stray z = Scanned (strayLayer (fieldOf (gridOf width sdf sdf16 sdf8) k) (boxOf k)) from end z stray
 
 abbrev μ-loop : tie.MeasureT-loop
-μ-loop sdf k from end stray₀ z₀ stray z = end - z
+μ-loop width sdf sdf16 sdf8 k from end stray₀ z₀ stray z = end - z
 
 abbrev entry-of : tie.At-loop Inv-loop μ-loop → tie.Start Inv-loop μ-loop
 entry-of c = c .before .before .before

@@ -2,16 +2,17 @@
 use Prim.Native.Nat.{_+_, _-_}
 use borrow.Author.Needs.{needs}
 use Rattle.grid.specs.Block.{boxOf, fieldOf}
+use Rattle.grid.specs.Values.{gridOf}
 use Rattle.grid.proofs.Walks.{Turn, turn, through, end-fits, Scanned, scan-begun, scan-more, scan-ended, point-spans}
 use Rattle.skin.specs.Scan.{strayRow, strayLayer}
 use Rattle.skin.proofs.scan.stray_layer.Statement.{statement}
 use Rattle.skin.proofs.scan.stray_layer.Tie as tie
 
 abbrev Inv-loop : tie.InvT-loop
-Inv-loop sdf k z from end stray₀ y₀ stray y = Scanned (strayRow (fieldOf sdf k) (boxOf k) z) from end y stray
+Inv-loop width sdf sdf16 sdf8 k z from end stray₀ y₀ stray y = Scanned (strayRow (fieldOf (gridOf width sdf sdf16 sdf8) k) (boxOf k) z) from end y stray
 
 abbrev μ-loop : tie.MeasureT-loop
-μ-loop sdf k z from end stray₀ y₀ stray y = end - y
+μ-loop width sdf sdf16 sdf8 k z from end stray₀ y₀ stray y = end - y
 
 abbrev entry-of : tie.At-loop Inv-loop μ-loop → tie.Start Inv-loop μ-loop
 entry-of c = c .before .before .before

@@ -1,11 +1,14 @@
 -- The invariant: the flag says whether a point before x of the row is stray. Assumes nothing.
 use Prim.Native.Nat.{ℕ, _+_, _-_}
+use mathlib.Core.List.{List}
 use lib.Dec.{T}
+use lib.Ieee.{Float}
 use borrow.Author.Needs.{needs}
 use Rattle.rules.specs.Grid.{GridPoint, inBox}
 use Rattle.grid.specs.Block.{boxOf, fieldOf}
+use Rattle.grid.specs.Values.{gridOf}
 use Rattle.grid.proofs.Rows.{on-row}
-use Rattle.grid.proofs.Bounds.{point-inside, below-length, place-fits}
+use Rattle.grid.proofs.Bounds.{point-inside, below-length}
 use Rattle.grid.proofs.Walks.{Turn, turn, through, end-fits, Scanned, scan-begun, scan-more, scan-ended, point-spans}
 use Rattle.skin.specs.Enclosed.{stray}
 use Rattle.skin.specs.Scan.{strayRow}
@@ -13,13 +16,17 @@ use Rattle.skin.proofs.scan.stray_row.Statement.{statement}
 use Rattle.skin.proofs.scan.stray_row.Tie as tie
 
 abbrev Inv-loop : tie.InvT-loop
-Inv-loop sdf k y z from end stray₀ x₀ found x = Scanned (λ (x' : ℕ). stray (fieldOf sdf k) (boxOf k) (record { x = x'; y = y; z = z })) from end x found
+Inv-loop width sdf sdf16 sdf8 k y z from end stray₀ x₀ found x =
+    Scanned (λ (x' : ℕ). stray (fieldOf (gridOf width sdf sdf16 sdf8) k) (boxOf k) (record { x = x'; y = y; z = z })) from end x found
 
 abbrev μ-loop : tie.MeasureT-loop
-μ-loop sdf k y z from end stray₀ x₀ found x = end - x
+μ-loop width sdf sdf16 sdf8 k y z from end stray₀ x₀ found x = end - x
 
 abbrev entry-of : tie.At-loop Inv-loop μ-loop → tie.Start Inv-loop μ-loop
 entry-of c = c .before .before .before
+
+abbrev grid-of : tie.Start Inv-loop μ-loop → List Float
+grid-of s = let a = s .args in gridOf (a .width) (a .sdf .now) (a .sdf16 .now) (a .sdf8 .now)
 
 -- the point of a turn
 here : (c : tie.In-loop Inv-loop μ-loop) → let k = entry-of (c .before) .args .k in Turn (k .low .x) (k .high .x + 1) (c .before .loop .x)
@@ -38,16 +45,13 @@ loop-holds : tie.Need-loop-holds Inv-loop μ-loop
 loop-holds c = scan-begun (point-spans (c .before .before .pre .0) .x)
 
 linearize-requires : tie.Need-linearize-requires Inv-loop μ-loop
-linearize-requires c κs = let s = entry-of (c .before) in point-inside (s .args .sdf .now) (s .args .k) (s .pre .0) (spot (c .before)) (within c)
+linearize-requires c κs = let s = entry-of (c .before) in point-inside (grid-of s) (s .args .k) (s .pre .0) (spot (c .before)) (within c)
 
-mul-is-stray : tie.Need-mul-is-stray Inv-loop μ-loop
-mul-is-stray c = place-fits (linearize-requires (c .before) _) (c .linearize .ensures)
-
-shared-slice-read-is-stray : tie.Need-shared-slice-read-is-stray Inv-loop μ-loop
-shared-slice-read-is-stray c =
-    let t = c .before .before in
+value-at-requires : tie.Need-value-at-requires Inv-loop μ-loop
+value-at-requires c κs =
+    let t = c .before in
     let s = entry-of (t .before) in
-    rw (c .before .linearize .ensures) (below-length (s .args .sdf .now) (s .args .k) (s .pre .0) (spot (t .before)) (within t))
+    rw (c .linearize .ensures) (below-length (grid-of s) (s .args .k) (s .pre .0) (spot (t .before)) (within t))
 
 is-stray-requires : tie.Need-is-stray-requires Inv-loop μ-loop
 is-stray-requires c κs = search needs
@@ -63,8 +67,9 @@ loop-less c = here (c .before .before .before .before) .less
 
 loop-again : tie.Need-loop-again Inv-loop μ-loop
 loop-again c =
-    let t = c .before .before .before .before in
-    scan-more (t .before .loop .inv) (here t) (rw (← c .before .before .before .linearize .ensures) (c .before .is-stray .ensures)) (c .either .ensures)
+    let v = c .before .before in
+    let t = v .before .before in
+    scan-more (t .before .loop .inv) (here t) (rw (← v .before .linearize .ensures, ← v .value-at .ensures) (c .before .is-stray .ensures)) (c .either .ensures)
 
 returns : tie.Need-returns Inv-loop μ-loop
 unfolding strayRow
@@ -79,8 +84,7 @@ stray-row-spec =
     add-end
     loop-holds
     linearize-requires
-    mul-is-stray
-    shared-slice-read-is-stray
+    value-at-requires
     is-stray-requires
     either-requires
     add-x

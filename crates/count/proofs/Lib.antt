@@ -1,4 +1,5 @@
--- Laws of the counts: runs with a first or last left out, a row by its runs, and how lists add up.
+-- Laws of the counts: runs with a first or last left out, a row by its runs, a row of one sign, and how lists add up.
 pub mod Runs
 pub mod Rows
+pub mod OneSign
 pub mod Tallies

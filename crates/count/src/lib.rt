@@ -1,7 +1,8 @@
 // V and I before anything is written: the surface cells, and six for each owned edge with exactly one negative end; of the whole box in one walk with
 // condition 5. A layer of cells is counted from its two layers of distances, which are lent apart, so that the whole box and a single layer have one
 // count. A row is counted by loops over runs of distances, which neither branch nor stop early; which of a row's edges the box owns is settled before
-// them, by where a run begins and how long it is.
+// them, by where a run begins and how long it is. Most rows of a bed have points of one sign alone, and nothing is to be counted there: the negatives of
+// each row of points are counted first, once, and carried from row to row.
 ghost use mathlib.Core.Path.{_≡_};
 ghost use mathlib.Core.Bool.{cond};
 ghost use Prim.Native.Nat.{_+_, _-_, _<_, _≤_};
@@ -11,7 +12,7 @@ ghost use Rattle.rules.specs.Call.{badDistance};
 ghost use Rattle.grid.specs.Block.{boxOf, flagsOf, fieldOf};
 ghost use Rattle.grid.specs.Inside.{Inside};
 ghost use Rattle.grid.specs.Layers.{twoLayers, InLayers};
-ghost use Rattle.count.specs.Runs.{surfaceRun, changesRun, ownedEdges};
+ghost use Rattle.count.specs.Runs.{surfaceRun, changesRun, negativesRun, rowStart, rowPoints, rowNegatives, cellsNegatives, ownedEdges};
 ghost use Rattle.count.specs.Tally.{tallyOf, counts};
 ghost use Rattle.grid.specs.Values.{gridGiven, gridBefore, Wholes};
 use grid::Block;
@@ -112,6 +113,43 @@ fn changes(
         count += counted(low != high);
     }
     count
+}
+
+// How many of n distances from p on are negative.
+fn negatives(width: u32, a: &[f32], a16: &[i16], a8: &[i8], p: usize, n: usize) -> u32
+    requires { ⌜ p + n ≤ length (gridGiven width a a16 a8) ⌝ }
+    requires { ⌜ n ≤ 16777217 ⌝ }
+    ensures { λ r. ⌜ r ≡ negativesRun (gridBefore width a a16 a8) p n ⌝ }
+{
+    let mut count = 0u32;
+    for j in 0usize..n {
+        count += counted(cube::negative(grid::values::value_at(width, a, a16, a8, p + j)));
+    }
+    count
+}
+
+// How many of the box's points in the row y are negative, in both layers.
+fn row_negatives(
+    width: u32,
+    lower: &[f32],
+    upper: &[f32],
+    lower16: &[i16],
+    upper16: &[i16],
+    lower8: &[i8],
+    upper8: &[i8],
+    k: Block,
+    y: u32,
+) -> usize
+    requires { ⌜ (k .low .x ≤ k .high .x) × (rowPoints k ≤ 16777217) ⌝ }
+    requires { ⌜ rowStart k y + rowPoints k ≤ length (gridGiven width lower lower16 lower8) ⌝ }
+    requires { ⌜ rowStart k y + rowPoints k ≤ length (gridGiven width upper upper16 upper8) ⌝ }
+    ensures { λ r. ⌜ r ≡ rowNegatives (gridBefore width lower lower16 lower8) (gridBefore width upper upper16 upper8) k y ⌝ }
+{
+    let at = (k.low.x as usize) + (k.dims.x as usize) * (y as usize);
+    let points = ((k.high.x - k.low.x) as usize) + 1;
+    let below = negatives(width, lower, lower16, lower8, at, points);
+    let above = negatives(width, upper, upper16, upper8, at, points);
+    (below as usize) + (above as usize)
 }
 
 fn pick(first: bool, n: usize, m: usize) -> usize
@@ -231,6 +269,50 @@ fn count_row(
     Tally { vertices, indices }
 }
 
+// The same, given how many of the points of the row's cells are negative: where none are, or all, there is nothing to count.
+fn count_where_mixed(
+    width: u32,
+    lower: &[f32],
+    upper: &[f32],
+    lower16: &[i16],
+    upper16: &[i16],
+    lower8: &[i8],
+    upper8: &[i8],
+    k: Block,
+    y: u32,
+    z: u32,
+    negative_points: usize,
+) -> Tally
+    requires { ⌜ InLayers (gridGiven width lower lower16 lower8) (gridGiven width upper upper16 upper8) k z ⌝ }
+    requires { ⌜ (k .low .y ≤ y) × (y < k .high .y) ⌝ }
+    requires { ⌜ «negative_points» ≡ cellsNegatives (gridGiven width lower lower16 lower8) (gridGiven width upper upper16 upper8) k y ⌝ }
+    ensures { λ r. ⌜ r ≡ tallyOf (twoLayers (gridBefore width lower lower16 lower8) (gridBefore width upper upper16 upper8) k z) (boxOf k) (flagsOf k) (rowCells (boxOf k) z y) ⌝ }
+{
+    let all = 4 * (((k.high.x - k.low.x) as usize) + 1);
+    let nothing = Tally {
+        vertices: 0,
+        indices: 0,
+    };
+    if negative_points == 0 {
+        return nothing;
+    }
+    if negative_points == all {
+        return nothing;
+    }
+    count_row(
+        width,
+        lower,
+        upper,
+        lower16,
+        upper16,
+        lower8,
+        upper8,
+        k,
+        y,
+        z,
+    )
+}
+
 // The layer z of cells, from the distances of its lower and its upper points.
 pub fn count_layer(
     width: u32,
@@ -250,8 +332,30 @@ pub fn count_layer(
     let end = k.high.y;
     let mut vertices = 0usize;
     let mut indices = 0usize;
+    let mut near = row_negatives(
+        width,
+        lower,
+        upper,
+        lower16,
+        upper16,
+        lower8,
+        upper8,
+        k,
+        from,
+    );
     for y in from..end {
-        let one = count_row(
+        let far = row_negatives(
+            width,
+            lower,
+            upper,
+            lower16,
+            upper16,
+            lower8,
+            upper8,
+            k,
+            y + 1,
+        );
+        let one = count_where_mixed(
             width,
             lower,
             upper,
@@ -262,9 +366,11 @@ pub fn count_layer(
             k,
             y,
             z,
+            near + far,
         );
         vertices += one.vertices;
         indices += one.indices;
+        near = far;
     }
     Tally { vertices, indices }
 }

@@ -16,7 +16,7 @@ pub fn print() {
         }));
         bare.push(nanoseconds(refused_without_guard));
     }
-    let (guarded, bare) = (median(guarded), median(bare));
+    let (guarded, bare) = (median(&guarded), median(&bare));
     println!(
         "\nThe Rust crate's guard of the floating-point environment: a call that is refused at once takes {guarded:.1} ns\n\
          through the crate and {bare:.1} ns without the guard; the difference is {:.1} ns a call.",

@@ -63,15 +63,20 @@ fn measure(grid_name: &'static str, side: u32, grid: &[f32], originals: &[Origin
     runners.extend(originals.iter().map(|&original| Box::new(original) as _));
     let meshes = warm_up(&mut runners, grid, side);
     assert_eq!(meshes, RUNNERS - 1, "all but the plain loop mesh");
-    let times = medians(&mut runners, grid, side);
+    let times = take_turns(&mut runners, grid, side);
+    let [library, plain_loop, by_layers, originals @ ..] = &times[..] else {
+        unreachable!("there are {RUNNERS} runners");
+    };
     Row {
         grid_name,
         side,
         points: grid.len(),
-        library: times[0],
-        plain_loop: times[1],
-        by_layers: times[2],
-        originals: std::array::from_fn(|i| times[3 + i]),
+        library: median(library),
+        plain_loop: median(plain_loop),
+        by_layers: median(by_layers),
+        by_layers_ratio: ratio(by_layers, library),
+        originals: std::array::from_fn(|i| median(&originals[i])),
+        ratios: std::array::from_fn(|i| ratio(library, &originals[i])),
     }
 }
 
@@ -91,8 +96,8 @@ fn warm_up(runners: &mut [Box<dyn Runner>], grid: &[f32], side: u32) -> usize {
     meshes.len()
 }
 
-/// The median time of each, over rounds in which they take turns; each round begins with another.
-fn medians(runners: &mut [Box<dyn Runner>], grid: &[f32], side: u32) -> Vec<f64> {
+/// The time of each in each round. They take turns, and each round begins with another.
+fn take_turns(runners: &mut [Box<dyn Runner>], grid: &[f32], side: u32) -> Vec<Vec<f64>> {
     let meshes = (POINTS_A_TIME / grid.len()).max(1);
     let mut times = vec![Vec::new(); runners.len()];
     for round in 0..ROUNDS {
@@ -105,10 +110,18 @@ fn medians(runners: &mut [Box<dyn Runner>], grid: &[f32], side: u32) -> Vec<f64>
             times[who].push((clock::thread_seconds() - start) / meshes as f64);
         }
     }
-    times.into_iter().map(median).collect()
+    times
 }
 
-fn median(mut times: Vec<f64>) -> f64 {
-    times.sort_by(f64::total_cmp);
-    times[times.len() / 2]
+fn median(figures: &[f64]) -> f64 {
+    let mut sorted = figures.to_vec();
+    sorted.sort_by(f64::total_cmp);
+    sorted[sorted.len() / 2]
+}
+
+/// How many times as long the one takes as the other: the median over the rounds, in each of which both ran. A machine
+/// that is slower for a while is so for both.
+fn ratio(one: &[f64], other: &[f64]) -> f64 {
+    let rounds: Vec<f64> = one.iter().zip(other).map(|(a, b)| a / b).collect();
+    median(&rounds)
 }

@@ -9,7 +9,8 @@ pub const ORIGINALS: usize = 2 * BUILDS.len();
 /// The first of the scalar originals, which document 02's request 12 speaks of.
 const FIRST_SCALAR: usize = 4;
 
-/// Median seconds a mesh on one grid.
+/// Median seconds a mesh on one grid, and median ratios: of the layer form to the library, and of the library to each
+/// original.
 pub struct Row {
     pub grid_name: &'static str,
     pub side: u32,
@@ -17,7 +18,9 @@ pub struct Row {
     pub library: f64,
     pub plain_loop: f64,
     pub by_layers: f64,
+    pub by_layers_ratio: f64,
     pub originals: [f64; ORIGINALS],
+    pub ratios: [f64; ORIGINALS],
 }
 
 impl Row {
@@ -25,31 +28,29 @@ impl Row {
         format!("| {} | {} |", self.grid_name, self.side)
     }
 
-    fn ratio(&self, original: usize) -> f64 {
-        self.library / self.originals[original]
-    }
-
-    /// The original, from `first` on, that is the fastest here.
+    /// The original, from `first` on, that is the fastest here: to which the library's ratio is the largest.
     fn fastest_from(&self, first: usize) -> usize {
         (first..ORIGINALS)
-            .min_by(|&a, &b| self.originals[a].total_cmp(&self.originals[b]))
+            .max_by(|&a, &b| self.ratios[a].total_cmp(&self.ratios[b]))
             .expect("there are originals")
     }
 
     fn worst(&self) -> f64 {
-        self.ratio(self.fastest_from(0))
+        self.ratios[self.fastest_from(0)]
     }
 }
 
 pub fn print(rows: &[Row], rounds: usize) {
     print_head(rows);
-    println!("\nMedians of {rounds} rounds. The library's time divided by each build's:\n");
+    println!(
+        "\nThe library's time divided by each build's, medians of the ratios of {rounds} rounds:\n"
+    );
     print_titles(&["worst"], &original_names());
     for row in rows {
-        let ratios = (0..ORIGINALS).map(|i| row.ratio(i));
+        let ratios = row.ratios.iter().copied();
         print_row(row, std::iter::once(row.worst()).chain(ratios), 2);
     }
-    println!("\nMilliseconds a mesh:\n");
+    println!("\nMilliseconds a mesh, medians of the same rounds:\n");
     print_titles(&["library"], &original_names());
     for row in rows {
         let times = std::iter::once(&row.library).chain(&row.originals);
@@ -87,15 +88,16 @@ pub fn print(rows: &[Row], rounds: usize) {
             "{} {:.3} | {:.2} |",
             row.cells(),
             1e3 * row.by_layers,
-            row.by_layers / row.library
+            row.by_layers_ratio
         );
     }
 }
 
-/// Median seconds a mesh of one grid of whole numbers: of the call over them, and of the float call on the same numbers.
+/// One grid of whole numbers: the median seconds a mesh of the call over them, and the median ratio to the float call on
+/// the same numbers.
 pub struct Whole {
-    pub whole: f64,
-    pub floats: f64,
+    pub seconds: f64,
+    pub ratio: f64,
 }
 
 /// One grid in the numbers of both widths.
@@ -120,10 +122,8 @@ pub fn print_widths(rows: &[WidthsRow]) {
         &[],
     );
     for row in rows {
-        let figures = [&row.short, &row.byte].map(|one| {
-            let ratio = one.whole / one.floats;
-            format!(" {:.3} | {ratio:.2} |", 1e3 * one.whole)
-        });
+        let figures = [&row.short, &row.byte]
+            .map(|one| format!(" {:.3} | {:.2} |", 1e3 * one.seconds, one.ratio));
         println!("| {} | {} |{}", row.grid_name, row.side, figures.concat());
     }
 }
@@ -148,7 +148,7 @@ fn print_head(rows: &[Row]) {
             let fastest = row.fastest_from(FIRST_SCALAR);
             format!(
                 "{:.2} on the {} (\"{}\": {:.3} ms, the library {:.3} ms)",
-                row.ratio(fastest),
+                row.ratios[fastest],
                 row.grid_name,
                 original_names()[fastest],
                 1e3 * row.originals[fastest],

@@ -3,7 +3,7 @@
 
 use crate::page::{Whole, WidthsRow};
 use crate::runners::{self, Library, Mesh, Runner};
-use crate::{grids, medians, warm_up};
+use crate::{grids, median, ratio, take_turns, warm_up};
 
 /// A ball's distances are taken in twentieths of a grid step. What is past an end of a width's range becomes that end.
 const STEPS: f32 = 20.0;
@@ -37,9 +37,9 @@ fn times<D: Copy + Into<f32> + 'static>(side: u32, grid: Vec<D>, mesh: Mesh<D>) 
     let whole = runners::Whole::beside(&library, grid, mesh);
     let mut runners: Vec<Box<dyn Runner>> = vec![Box::new(library), Box::new(whole)];
     warm_up(&mut runners, &floats, side);
-    let times = medians(&mut runners, &floats, side);
+    let times = take_turns(&mut runners, &floats, side);
     Whole {
-        whole: times[1],
-        floats: times[0],
+        seconds: median(&times[1]),
+        ratio: ratio(&times[1], &times[0]),
     }
 }

@@ -2,13 +2,12 @@
 -- a box and the coordinates are at most 2^24, a difference rounds to at most their sum, and joining only picks or negates. So what is cut is finite where the grid
 -- was, and within the mesher's cap. Assumes nothing.
 use Prim.Native.Nat.{ℕ, _+_, _*_, _/_, _%_, _^_, _≤_, _<_}
-use native.Mathlib.Nat.{mod-lt, div-lt-iff-lt-mul, mul-comm, mul-le-mul-left, mul-le-mul-right}
+use native.Mathlib.Nat.{mod-lt, div-lt-iff-lt-mul, mul-comm, mul-le-mul-left}
 use native.Mathlib.Omega.{arith}
 use mathlib.Core.Bool.{Bool, true, false, not, _||_, cond}
 use mathlib.Core.List.{List}
 use mathlib.Core.Path.{_≡_, refl, sym, ap, subst, _∙_}
 use mathlib.Core.Logic.{_⊎_, inl, inr, ⊎-elim}
-use borrow.Author.Tests.{le-ltb}
 use lib.Dec.{T, eqb, ltb, lit≤, lit<, nltb→le}
 use lib.IntN.{pos}
 use lib.ListN.{length, getD}
@@ -25,6 +24,7 @@ use Rattle.rounding.proofs.Sign.{neg-within}
 use Rattle.rounding.proofs.Bounds.{wider, holds-times}
 use Rattle.rounding.proofs.Operations.{sub-within}
 use Rattle.rounding.proofs.Whole.{integer-held}
+use Rattle.grid.proofs.Widths.{within-cap}
 use Rattle.cube.specs.AsRules.{vector}
 use Rattle.cube.specs.declared.point.Point.{Point}
 use Rattle.fixtures.specs.Record.{reach, past, farPoint}
@@ -160,17 +160,12 @@ module _ (P : Float → Type 0) (bounded : (v : Float) → Within most v → P (
 neg-finite : (v : Float) → Within most v → T (finite (neg v))
 neg-finite v h = neg-within most v h .0
 
-within-cap : (v : Float) → Within most v → T (not (beyond v))
-unfolding beyond
-within-cap nan h = absurd (h .0)
-within-cap (inf s) h = absurd (h .0)
-within-cap (fin s m e) h =
-    let below : most * down e ≤ cap * down e = mul-le-mul-right (down e) (lit≤ tt) in
-    is-not (le-ltb (cap * down e) (m * up e) (omega (arith, h .1)))
+below-cap : (v : Float) → Within most v → T (not (beyond v))
+below-cap v h = within-cap v (wider most cap v (lit≤ tt) h)
 
 module _ (f : List ℕ) (d : GridPoint) (grid : List Float) (i : ℕ) (h : i < length grid) where
   pub cut-finite : T (finite (getD grid i nan)) → T (finite (getD (cutGrid f d grid) i nan))
   cut-finite = cut-keeps (λ (x : Float). T (finite x)) neg-finite f d grid i h
 
   pub cut-capped : T (not (beyond (getD grid i nan))) → T (not (beyond (getD (cutGrid f d grid) i nan)))
-  cut-capped = cut-keeps (λ (x : Float). T (not (beyond x))) (λ v w. within-cap (neg v) (neg-within most v w)) f d grid i h
+  cut-capped = cut-keeps (λ (x : Float). T (not (beyond x))) (λ v w. below-cap (neg v) (neg-within most v w)) f d grid i h

@@ -403,7 +403,7 @@ fn count_part(width: u32, sdf: &[f32], sdf16: &[i16], sdf8: &[i8], k: Block, z: 
     )
 }
 
-// One walk serves both: a layer of points is tried just before the cells below it are counted, while it is at hand.
+// One walk serves both: a layer of points is tried just after the cells below it are counted, while it is at hand.
 pub fn count_box(width: u32, sdf: &[f32], sdf16: &[i16], sdf8: &[i8], k: Block) -> Findings
     requires { ⌜ Inside (gridGiven width sdf sdf16 sdf8) k ⌝ }
     requires { ⌜ (Wholes 16 (now sdf16) × Wholes 8 (now sdf8)) ⌝ }
@@ -416,11 +416,11 @@ pub fn count_box(width: u32, sdf: &[f32], sdf16: &[i16], sdf8: &[i8], k: Block) 
     let mut vertices = 0usize;
     let mut indices = 0usize;
     for z in from..end {
+        let one = count_part(width, sdf, sdf16, sdf8, k, z);
         bad = grid::scan::either(
             bad,
             grid::scan::bad_layer(width, sdf, sdf16, sdf8, k, z + 1),
         );
-        let one = count_part(width, sdf, sdf16, sdf8, k, z);
         vertices += one.vertices;
         indices += one.indices;
     }

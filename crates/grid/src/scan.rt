@@ -13,26 +13,18 @@ use crate::Extent;
 // The largest magnitude that is let in, 2^124.
 pub const CAP: f32 = 21267647932558653966460912964485513216.0;
 
-// Not finite, or above the cap in magnitude.
+// Not finite, or above the cap in magnitude. No comparison holds of not-a-number, so it is beyond too; and there is no branch, since every distance of
+// the box is asked.
 fn is_beyond(d: f32) -> bool
     ensures { λ r. ⌜ r ≡ beyond d ⌝ }
 {
-    if CAP < d {
-        return true;
-    }
-    if d < -CAP {
-        return true;
-    }
-    d != d
+    !((-CAP <= d) & (d <= CAP))
 }
 
 pub fn either(a: bool, b: bool) -> bool
     ensures { λ r. ⌜ r ≡ (a || b) ⌝ }
 {
-    if a {
-        return true;
-    }
-    b
+    a | b
 }
 
 // A row: n distances from `at` on.

@@ -30,7 +30,10 @@ abbrev entry-of : tie.At-loop Inv-loop μ-loop → tie.Start Inv-loop μ-loop
 entry-of c = c .before .before .before
 
 abbrev turn-of : tie.After-count-part Inv-loop μ-loop → tie.In-loop Inv-loop μ-loop
-turn-of c = c .before .before .before
+turn-of c = c .before
+
+abbrev counted-of : tie.After-either Inv-loop μ-loop → tie.After-count-part Inv-loop μ-loop
+counted-of c = c .before .before
 
 abbrev grid-of : tie.Start Inv-loop μ-loop → List Float
 grid-of s = let a = s .args in gridOf (a .width) (a .sdf .now) (a .sdf16 .now) (a .sdf8 .now)
@@ -49,35 +52,36 @@ bad-layer-requires c κs = let s = c .before in let z = cell-spans (s .pre .0) .
 loop-holds : tie.Need-loop-holds Inv-loop μ-loop
 loop-holds c = let s = c .before .before in (ahead-begun (cell-spans (s .pre .0) .z) (c .bad-layer .ensures), counts-none (box-begins (boxOf (s .args .k))))
 
+count-part-requires : tie.Need-count-part-requires Inv-loop μ-loop
+count-part-requires c κs = (entry-of (c .before) .pre .0, here c .turn .here)
+
 add-bad-layer : tie.Need-add-bad-layer Inv-loop μ-loop
-add-bad-layer c = let t = here c .turn in omega arith
+add-bad-layer c = let t = here (turn-of c) .turn in omega arith
 
 bad-layer-requires-2 : tie.Need-bad-layer-requires-2 Inv-loop μ-loop
-bad-layer-requires-2 c κs = let s = entry-of (c .before) in let t = here c .turn in (s .pre .0, (s .pre .1, omega arith))
+bad-layer-requires-2 c κs = let s = entry-of (turn-of c .before) in let t = here (turn-of c) .turn in (s .pre .0, (s .pre .1, omega arith))
 
 either-requires : tie.Need-either-requires Inv-loop μ-loop
 either-requires c κs = search needs
 
-count-part-requires : tie.Need-count-part-requires Inv-loop μ-loop
-count-part-requires c κs = let t = c .before .before in (entry-of (t .before) .pre .0, here t .turn .here)
-
 add-vertices : tie.Need-add-vertices Inv-loop μ-loop
-add-vertices c = more (c .before) .vertices-fit
+add-vertices c = more (counted-of (c .before)) .vertices-fit
 
 add-indices : tie.Need-add-indices Inv-loop μ-loop
-add-indices c = more (c .before .before) .indices-fit
+add-indices c = more (counted-of (c .before .before)) .indices-fit
 
 add-z : tie.Need-add-z Inv-loop μ-loop
-add-z c = here (turn-of (c .before .before)) .turn .fits
+add-z c = here (turn-of (counted-of (c .before .before))) .turn .fits
 
 loop-less : tie.Need-loop-less Inv-loop μ-loop
-loop-less c = here (turn-of (c .before .before)) .turn .less
+loop-less c = here (turn-of (counted-of (c .before .before))) .turn .less
 
 loop-again : tie.Need-loop-again Inv-loop μ-loop
 loop-again c =
-    let p = c .before .before in
+    let tried = c .before .before in
+    let p = counted-of tried in
     let t = turn-of p in
-    (ahead-more (t .before .loop .inv .0) (here t .turn) (p .before .before .bad-layer2 .ensures) (p .before .either .ensures), more p .counts)
+    (ahead-more (t .before .loop .inv .0) (here t .turn) (tried .before .bad-layer2 .ensures) (tried .either .ensures), more p .counts)
 
 returns : tie.Need-returns Inv-loop μ-loop
 returns c =
@@ -95,10 +99,10 @@ count-box-spec =
     μ-loop
     bad-layer-requires
     loop-holds
+    count-part-requires
     add-bad-layer
     bad-layer-requires-2
     either-requires
-    count-part-requires
     add-vertices
     add-indices
     add-z

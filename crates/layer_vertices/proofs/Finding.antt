@@ -7,7 +7,7 @@ use native.Mathlib.Omega.{arith}
 use mathlib.Core.Bool.{Bool, true, false}
 use mathlib.Core.List.{List, [], _∷_, _++_, map, append-assoc}
 use mathlib.Core.Logic.{inl, inr}
-use mathlib.Core.Path.{_≡_, refl, sym, ap, _∙_}
+use mathlib.Core.Path.{_≡_, refl, sym, ap, subst, _∙_}
 use lib.Ieee.{Float}
 use lib.ListN.{length, getD, set, take, drop, length-append, length-set, length-map}
 use lib.Seq.{sets, sets-eq, length-sets, length-take-le, take-at, drop-at, getD-set-same, getD-set-other}
@@ -16,7 +16,8 @@ use Rattle.rules.specs.Grid.{GridPoint, Box, Field}
 use Rattle.rules.specs.Cell.{surface}
 use Rattle.rules.specs.Vertices.{rowCells, layerVertices, vertexPosition, vertexNormal, vertexCrossings, nullVertex}
 use Rattle.rules.specs.Call.{flatVectors, flatPoints}
-use Rattle.lists.proofs.Tests.{less-or-not}
+use Rattle.lists.proofs.Tests.{is-false, one-of, less-or-not}
+use Rattle.lists.proofs.Lists.{All}
 use Rattle.rules.proofs.Indexes.{is-cell}
 use Rattle.rules.proofs.Seen.{length-points}
 use Rattle.grid.specs.declared.Block.{Block}
@@ -35,6 +36,7 @@ use Rattle.layer_vertices.specs.Cells.{
   RoomToFind,
   pointsOf,
   hasVertex,
+  blanked,
   passed,
   found,
   Passes,
@@ -49,8 +51,12 @@ use Rattle.layer_vertices.specs.Cells.{
   Numbered,
 }
 use Rattle.layer_vertices.proofs.Points.{has-cell, side-x}
-use Rattle.layer_vertices.proofs.Passing.{passes-as, passes-by, found-same, found-part}
-use Rattle.layer_vertices.proofs.Rows.{run-split, run-each, stores-on, stored-at, passed-over}
+use Rattle.layer_vertices.proofs.Passing.{passes-none, passes-cleared, passes-as, passes-by, found-same, found-part}
+use Rattle.row_signs.specs.Signs.{rowStart}
+use Rattle.row_signs.proofs.Stores.{stores-on, stored-at}
+use Rattle.row_signs.proofs.OneSign.{OneSign, no-cell}
+use Rattle.layer_vertices.proofs.Clearing.{row-blank}
+use Rattle.layer_vertices.proofs.Rows.{run-split, run-each, passed-over}
 use Rattle.layer_vertices.proofs.Numbering.{numbered-past}
 
 -- ---- where a row ends
@@ -78,6 +84,60 @@ reach {lower} {upper} {k} {y} {z} {at} {n} r e en =
       in-part = omega arith;
       few = omega (arith, in-plane d (point (k .high)) (f .x .1) (f .y .1), plane-small i);
     }
+
+-- ---- the points of a row
+
+row-points : {lower upper : List Float} {k : Block} {y z n : ℕ} → Row lower upper k y z → n ≡ k .high .x - k .low .x
+    → rowCells (pointsOf (boxOf k)) z y ≡ runOf (record { x = k .low .x; y = y; z = z }) (n + 1)
+unfolding rowCells runOf
+row-points {k = k} {y} {z} {n} r en =
+    let f = layers-fit (r .layers) in
+    let far : k .high .x + 1 ≡ k .low .x + (n + 1) = omega arith in
+    ap (λ (x : ℕ). map (λ (x' : ℕ). record { x = x'; y = y; z = z }) (upTo (k .low .x) x)) far
+
+module _ {lower upper : List Float} {k : Block} {y z at n : ℕ} (r : Row lower upper k y z) (e : at ≡ k .low .x + k .dims .x * y) (en : n ≡ k .high .x - k .low .x) where
+  -- a cell of the row has a vertex exactly if it is a surface cell
+  cell-has : (j : ℕ) → j < n → hasVertex (twoLayers lower upper k z) (boxOf k) (onward (record { x = k .low .x; y = y; z = z }) j) ≡ surfaceAt lower upper at (k .dims .x) j
+  cell-has j m =
+      let f = layers-fit (r .layers) in
+      let ys = r .along-y in
+      let g = twoLayers lower upper k z in
+      let p : GridPoint = onward (record { x = k .low .x; y = y; z = z }) j in
+      has-cell g (boxOf k) p (is-cell (boxOf k) p (record { x = omega arith; y = r .along-y; z = r .layers .here }))
+      ∙ ap surface (values-between lower upper k z p refl (omega arith) (omega arith) (at + j) (k .dims .x) (omega arith) refl)
+
+-- a row of one sign has no vertex: its entries are cleared, and nothing else
+pub one-sign-passes : {sign : Bool} {lower upper : List Float} {k : Block} {y z : ℕ} (r : Row lower upper k y z) → OneSign sign lower upper k y
+    → {next : Next} {cs st mp mp' : List ℕ} → mp' ≡ blanked (point (k .dims)) (boxOf k) y mp
+    → Passes (point (k .dims)) (hasVertex (twoLayers lower upper k z) (boxOf k)) next (finds cs st mp) (rowCells (pointsOf (boxOf k)) z y) next (finds cs st mp')
+one-sign-passes {lower = lower} {upper} {k} {y} {z} r o {mp = mp} blank =
+    passes-cleared (passes-none refl) (rowCells (pointsOf b) z y) bare (blank ∙ row-blank (point (k .dims)) b z y mp (layers-fit (r .layers) .x .0)) refl
+  where
+    b : Box
+    b = boxOf k
+
+    g : Field
+    g = twoLayers lower upper k z
+
+    c : GridPoint
+    c = record { x = k .low .x; y = y; z = z }
+
+    n : ℕ
+    n = k .high .x - k .low .x
+
+    cell : (j : ℕ) → j < n → hasVertex g b (onward c j) ≡ false
+    cell j m =
+        cell-has r refl refl j m
+        ∙ is-false (surfaceAt lower upper (rowStart k y) (k .dims .x) j)
+        (λ t. omega (arith, no-cell o j m, one-of (surfaceAt lower upper (rowStart k y) (k .dims .x) j) t))
+
+    last : (j : ℕ) → j < n + 1 → n ≤ j → hasVertex g b (onward c j) ≡ false
+    last j h m = let f = layers-fit (r .layers) in side-x g b (onward c j) (omega arith)
+
+    bare : All (λ p. hasVertex g b p ≡ false) (rowCells (pointsOf b) z y)
+    bare =
+        subst (All (λ p. hasVertex g b p ≡ false)) (sym (row-points r refl))
+        (run-each {P = λ (p : GridPoint). hasVertex g b p ≡ false} c (n + 1) (λ j h. elim (less-or-not j n) [ inl m ↦ cell j m | inr m ↦ last j h m ]))
 
 -- ---- a row, classed
 
@@ -109,13 +169,6 @@ module _ {lower upper : List Float} {k : Block} {y z at n : ℕ} (r : Row lower 
   pub classed-length : length cm ≡ length mp
   classed-length = ap length ec ∙ length-sets mp at (classes lower upper at (k .dims .x) n)
 
-  pub row-points : rowCells (pointsOf (boxOf k)) z y ≡ runOf (record { x = k .low .x; y = y; z = z }) (n + 1)
-  unfolding rowCells runOf
-  row-points =
-      let f = layers-fit (r .layers) in
-      let far : k .high .x + 1 ≡ k .low .x + (n + 1) = omega arith in
-      ap (λ (x : ℕ). map (λ (x' : ℕ). record { x = x'; y = y; z = z }) (upTo (k .low .x) x)) far
-
   -- a point is marked exactly if it has a vertex
   mark-at : (j : ℕ) → j < n + 1 → markedIn d classed (onward c j) ≡ hasVertex g b (onward c j)
   mark-at j h =
@@ -127,15 +180,12 @@ module _ {lower upper : List Float} {k : Block} {y z at n : ℕ} (r : Row lower 
 
       cell : j < n → isMark (getD classed (at + j) 0) ≡ hasVertex g b p
       cell m =
-          let f = layers-fit (r .layers) in
-          let ys = r .along-y in
           ap isMark
           (getD-set-other cm (at + n) (at + j) nullVertex 0 (λ w. omega arith)
           ∙ ap (λ (l : List ℕ). getD l (at + j) 0) ec
           ∙ stored-at class-at mp at n j 0 m (omega arith))
           ∙ mark-class (surfaceAt lower upper at (k .dims .x) j)
-          ∙ sym (ap surface (values-between lower upper k z p refl (omega arith) (omega arith) (at + j) (k .dims .x) (omega arith) refl))
-          ∙ sym (has-cell g b p (is-cell b p (record { x = omega arith; y = r .along-y; z = r .layers .here })))
+          ∙ sym (cell-has r e en j m)
 
       last : n ≤ j → isMark (getD classed (at + j) 0) ≡ hasVertex g b p
       last m =
@@ -154,7 +204,7 @@ module _ {lower upper : List Float} {k : Block} {y z at n : ℕ} (r : Row lower 
         let ys = r .along-y in
         let zs = r .layers .here in
         let marks = found-same (run-each {P = λ (q : GridPoint). markedIn d classed q ≡ hasVertex g b q} c n (λ j h. mark-at j (omega arith))) in
-        let within = found-part d (hasVertex g b) (rowCells (pointsOf b) z y) (runOf c n) (runOf (onward c n) 1) (row-points ∙ run-split c n 1) in
+        let within = found-part d (hasVertex g b) (rowCells (pointsOf b) z y) (runOf c n) (runOf (onward c n) 1) (row-points r en ∙ run-split c n 1) in
         record {
           x = omega arith;
           y = omega arith;
@@ -173,7 +223,7 @@ module _ {lower upper : List Float} {k : Block} {y z at n : ℕ} (r : Row lower 
     pub row-found : {here : Next} {s : Finds}
         → Numbered (point (k .dims)) (record { x = k .low .x; y = y; z = z }) n next (finds cs st (set cm (at + n) nullVertex)) here s
         → Passes (point (k .dims)) (hasVertex (twoLayers lower upper k z) (boxOf k)) next (finds cs st mp) (rowCells (pointsOf (boxOf k)) z y) here s
-    row-found {here} {s} p = passes-as there (sym row-points)
+    row-found {here} {s} p = passes-as there (sym (row-points r en))
       where
         unmarked : (j : ℕ) → j < 1 → markedIn d classed (onward (onward c n) j) ≡ false
         unmarked j h =

@@ -16,17 +16,22 @@ use Rattle.rules.specs.Grid.{GridPoint}
 use Rattle.rules.specs.Cell.{negatives}
 use Rattle.rules.specs.Vertices.{nullVertex}
 use Rattle.lists.proofs.Tests.{less-or-not}
-use Rattle.lists.proofs.Lists.{All, all-map}
+use Rattle.lists.proofs.Lists.{All, all-map, map-same}
 use Rattle.lists.proofs.Runs.{upTo-none, upTo-first, upTo-last, upTo-split, upTo-each}
+use Rattle.grid.specs.declared.Block.{Block}
 use Rattle.grid.specs.declared.corners.Side.{Side}
+use Rattle.grid.specs.Block.{boxOf}
 use Rattle.grid.specs.Corners.{sideBetween, eightOf}
 use Rattle.grid.specs.Layers.{inLayer}
 use Rattle.grid.specs.Signs.{sideNegatives, surfaceAt}
 use Rattle.grid.proofs.Order.{length-upTo}
 use Rattle.grid.proofs.Sides.{both-sides}
-use Rattle.stores.proofs.Runs.{sets-append}
+use Rattle.row_signs.specs.Signs.{rowLength, rowStart, rowPoints}
+use Rattle.row_signs.specs.Codes.{Kept, fourCodes, mixedCode}
+use Rattle.row_signs.proofs.Stores.{stores-none, stores-grow}
+use Rattle.row_signs.proofs.Keeping.{mixed-cell}
 use Rattle.layer_vertices.specs.declared.Next.{Next}
-use Rattle.layer_vertices.specs.Cells.{entered, passed, finds, classOf, classes, onward, runOf}
+use Rattle.layer_vertices.specs.Cells.{entered, passed, finds, classOf, classes, codeClasses, onward, runOf}
 
 -- ---- a run of points
 
@@ -74,41 +79,10 @@ set-before l i j [] v h = refl
 set-before l i j (u ∷ us) v h =
     set-before (set l j u) i (suc j) us v (omega arith) ∙ ap (λ (s : List _). sets s (suc j) us) (set-comm l j i u v (λ e. omega arith))
 
-module _ {A : Type 0} (f : ℕ → A) (l : List A) (i : ℕ) where
-  long : (n : ℕ) → length (map f (upTo 0 n)) ≡ n
-  long n = length-map (upTo 0 n) f ∙ length-upTo 0 n ∙ omega arith
-
-  -- one store more at the end
-  pub stores-on : (n : ℕ) (v : A) → set (sets l i (map f (upTo 0 n))) (i + n) v ≡ sets l i (map f (upTo 0 n) ++ (v ∷ []))
-  stores-on n v = sym (sets-append l i (map f (upTo 0 n)) (v ∷ []) ∙ ap (λ (k : ℕ). set (sets l i (map f (upTo 0 n))) (i + k) v) (long n))
-
-  pub stores-grow : (n : ℕ) → set (sets l i (map f (upTo 0 n))) (i + n) (f n) ≡ sets l i (map f (upTo 0 (n + 1)))
-  stores-grow n =
-      stores-on n (f n)
-      ∙ sym (ap (λ (ks : List ℕ). sets l i (map f ks)) (ap (upTo 0) (add-one n) ∙ upTo-last 0 n (omega arith)) ∙ ap (sets l i) (map-append f (upTo 0 n) (n ∷ [])))
-
-  -- what stands at the place of each
-  pub stored-at : (n j : ℕ) (d : A) → j < n → i + n ≤ length l → getD (sets l i (map f (upTo 0 n))) (i + j) d ≡ f j
-  stored-at zero j d h k = absurd (omega arith)
-  stored-at (suc n) j d h k =
-      ap (λ (s : List A). getD s (i + j) d) (ap (λ (m : ℕ). sets l i (map f (upTo 0 m))) (sym (add-one n)) ∙ sym (stores-grow n))
-      ∙ go (stored-at n j d) (less-or-not j n)
-    where
-      before : List A
-      before = sets l i (map f (upTo 0 n))
-
-      go : (j < n → i + n ≤ length l → getD before (i + j) d ≡ f j) → (j < n) ⊎ (n ≤ j) → getD (set before (i + n) (f n)) (i + j) d ≡ f j
-      go r (inl m) = getD-set-other before (i + n) (i + j) (f n) d (λ e. omega arith) ∙ r m (omega arith)
-      go r (inr m) =
-          let e : j ≡ n = omega arith in
-          ap (λ (k : ℕ). getD (set before (i + n) (f n)) (i + k) d) e
-          ∙ getD-set-same before (i + n) (f n) d (omega (arith, length-sets l i (map f (upTo 0 n))))
-          ∙ ap f (sym e)
-
 -- ---- a row, classed
 
 pub classed-none : (lower upper : List Float) (at row : ℕ) (l : List ℕ) → l ≡ sets l at (classes lower upper at row 0)
-classed-none lower upper at row l = ap (λ (ks : List ℕ). sets l at (map (λ (j : ℕ). classOf (surfaceAt lower upper at row j)) ks)) (sym (upTo-none 0 0 (omega arith)))
+classed-none lower upper at row l = stores-none (λ (j : ℕ). classOf (surfaceAt lower upper at row j)) l at
 
 -- the j-th cell, by the negatives of its sides
 pub classed-more : (lower upper : List Float) (at row j : ℕ) (first : List ℕ) {l : List ℕ} {low high e : ℕ} → l ≡ sets first at (classes lower upper at row j)
@@ -119,6 +93,19 @@ classed-more lower upper at row j first {l} {low} {high} {e} el elow ehigh ee =
     let all : low + high ≡ negatives (eightOf (side (at + j)) (side (at + j + 1))) = omega (arith, both-sides (side (at + j)) (side (at + j + 1))) in
     ap₂ (λ (s : List ℕ) (v : ℕ). set s (at + j) v) el (ee ∙ ap (λ (n : ℕ). classOf (leb 1 n && leb n 7)) all)
     ∙ stores-grow (λ (i : ℕ). classOf (surfaceAt lower upper at row i)) first at j
+
+-- the same by four codes
+pub coded-more : (codes : List ℕ) (here there at j : ℕ) (first : List ℕ) {l : List ℕ} {e : ℕ} → l ≡ sets first at (codeClasses codes here there j)
+    → e ≡ classOf (mixedCode (fourCodes codes here there j)) → set l (at + j) e ≡ sets first at (codeClasses codes here there (j + 1))
+coded-more codes here there at j first el ee =
+    ap₂ (λ (s : List ℕ) (v : ℕ). set s (at + j) v) el ee ∙ stores-grow (λ (i : ℕ). classOf (mixedCode (fourCodes codes here there i))) first at j
+
+-- by the codes of two rows that are kept, as by the distances
+pub classed-alike : {lower upper : List Float} {k : Block} {y here there : ℕ} {codes : List ℕ} → rowPoints k ≤ 1024 → Kept lower upper k y here codes
+    → Kept lower upper k (y + 1) there codes
+    → codeClasses codes here there (rowLength (boxOf k)) ≡ classes lower upper (rowStart k y) (k .dims .x) (rowLength (boxOf k))
+classed-alike {k = k} short near far =
+    map-same (upTo-each 0 (rowLength (boxOf k)) (λ j low high. ap classOf (mixed-cell short near far j high)))
 
 -- ---- a row's own places
 

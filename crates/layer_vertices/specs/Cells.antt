@@ -16,6 +16,7 @@ use Rattle.rules.specs.Vertices.{surfaceCell, layerVertices, nullVertex}
 use Rattle.rules.specs.Call.{flatPoints}
 use Rattle.grid.specs.Layers.{inLayer}
 use Rattle.grid.specs.Signs.{surfaceAt}
+use Rattle.row_signs.specs.Codes.{fourCodes, mixedCode}
 use Rattle.layer_vertices.specs.declared.Next.{Next}
 use Rattle.layer_vertices.specs.Marked.{layerEntry}
 
@@ -91,6 +92,10 @@ classOf surface = cond surface 0 nullVertex
 -- those of n cells in a row, `at` being the place of the first one's lowest corner
 abbrev pub classes : List Float → List Float → ℕ → ℕ → ℕ → List ℕ
 classes lower upper at row n = map (λ (j : ℕ). classOf (surfaceAt lower upper at row j)) (upTo 0 n)
+
+-- the same by the codes of the two rows of points that the cells lie between
+abbrev pub codeClasses : List ℕ → ℕ → ℕ → ℕ → List ℕ
+codeClasses codes here there n = map (λ (j : ℕ). classOf (mixedCode (fourCodes codes here there j))) (upTo 0 n)
 
 -- whether an entry is a mark: anything but that of no vertex
 abbrev pub isMark : ℕ → Bool

@@ -16,9 +16,11 @@ ghost use Rattle.grid.specs.Block.{point, boxOf};
 ghost use Rattle.grid.specs.Inside.{PointInside};
 ghost use Rattle.grid.specs.Layers.{inLayer, InLayers};
 ghost use Rattle.grid.specs.Values.{gridGiven, gridBefore, layersGiven, layersBefore};
+ghost use Rattle.row_signs.specs.Signs.{rowLength, rowStart, cellsNegatives};
+ghost use Rattle.row_signs.specs.Codes.{Kept, Small, mixedCode};
 ghost use Rattle.layer_estimates.specs.Estimates.{RoomFor};
 ghost use Rattle.layer_vertices.specs.Marked.{marked, lastEntry, Room, InPart};
-ghost use Rattle.layer_vertices.specs.Cells.{pointsOf, hasVertex, blanked, found, Passes, RoomToFind, layerFound, classOf, classes, noneMarked, Numbering, Numbered};
+ghost use Rattle.layer_vertices.specs.Cells.{pointsOf, hasVertex, blanked, found, Passes, RoomToFind, layerFound, classOf, classes, codeClasses, noneMarked, Numbering, Numbered};
 ghost use Rattle.layer_vertices.specs.Lent.{listsGiven, listsBefore, listsAfter, findsGiven, findsBefore, findsAfter};
 use grid::Block;
 use grid::Extent;
@@ -105,6 +107,78 @@ fn class_row(
         );
         map[at + j] = class_entry(low + high);
     }
+}
+
+// The entry of a cell by the sum of its four codes.
+fn code_entry(sum: u32) -> u32
+    ensures { λ r. ⌜ r ≡ classOf (mixedCode sum) ⌝ }
+{
+    if (sum != 0) & (sum != 36) {
+        return MARK;
+    }
+    NULL_VERTEX
+}
+
+// n cells between two rows of points whose codes are kept, the first one's entry being at `at`.
+fn class_codes(codes: &[u32], here: usize, there: usize, at: usize, n: usize, map: &mut [u32])
+    requires { ⌜ (here + n < length (now codes)) × (there + n < length (now codes)) ⌝ }
+    requires { ⌜ (Small (now codes) here (n + 1) × Small (now codes) there (n + 1)) ⌝ }
+    requires { ⌜ at + n ≤ length (now map) ⌝ }
+    ensures { λ _. ⌜ now (map .exit) ≡ sets (now (map .entry)) at (codeClasses (now (codes .entry)) here there n) ⌝ }
+{
+    for j in 0usize..n {
+        let near = codes[here + j] + codes[here + j + 1];
+        let far = codes[there + j] + codes[there + j + 1];
+        map[at + j] = code_entry(near + far);
+    }
+}
+
+// The row y of cells, by the codes of its two rows of points where these are kept.
+fn class_points(
+    width: u32,
+    lower: &[f32],
+    upper: &[f32],
+    lower16: &[i16],
+    upper16: &[i16],
+    lower8: &[i8],
+    upper8: &[i8],
+    k: Block,
+    y: u32,
+    codes: &[u32],
+    here: usize,
+    there: usize,
+    map: &mut [u32],
+)
+    requires { ⌜ (k .low .x ≤ k .high .x) × (rowStart k y + rowLength (boxOf k) ≤ length (now map)) ⌝ }
+    requires { ⌜ (rowStart k y + rowLength (boxOf k) + k .dims .x < length (gridGiven width lower lower16 lower8))
+        × (rowStart k y + rowLength (boxOf k) + k .dims .x < length (gridGiven width upper upper16 upper8)) ⌝ }
+    requires { ⌜ (here + 1024 ≤ length (now codes)) × (there + 1024 ≤ length (now codes)) ⌝ }
+    requires { ⌜ Kept (gridGiven width lower lower16 lower8) (gridGiven width upper upper16 upper8) k y here (now codes) ⌝ }
+    requires { ⌜ Kept (gridGiven width lower lower16 lower8) (gridGiven width upper upper16 upper8) k (y + 1) there (now codes) ⌝ }
+    ensures { λ _. ⌜ now (map .exit)
+        ≡ sets (now (map .entry)) (rowStart k y)
+        (classes (gridBefore width lower lower16 lower8) (gridBefore width upper upper16 upper8) (rowStart k y) (k .dims .x) (rowLength (boxOf k))) ⌝ }
+{
+    let row = k.dims.x as usize;
+    let at = (k.low.x as usize) + row * (y as usize);
+    let n = (k.high.x - k.low.x) as usize;
+    if n < 1024 {
+        class_codes(codes, here, there, at, n, map);
+        return;
+    }
+    class_row(
+        width,
+        lower,
+        upper,
+        lower16,
+        upper16,
+        lower8,
+        upper8,
+        at,
+        row,
+        n,
+        map,
+    );
 }
 
 // A cell that is marked gets the next number.
@@ -252,6 +326,9 @@ fn find_row(
     k: Block,
     y: u32,
     z: u32,
+    codes: &[u32],
+    here: usize,
+    there: usize,
     next: Next,
     cells: &mut [u32],
     strides: &mut [u32],
@@ -259,6 +336,9 @@ fn find_row(
 ) -> Next
     requires { ⌜ InLayers (gridGiven width lower lower16 lower8) (gridGiven width upper upper16 upper8) k z ⌝ }
     requires { ⌜ (k .low .y ≤ y) × (y < k .high .y) ⌝ }
+    requires { ⌜ (here + 1024 ≤ length (now codes)) × (there + 1024 ≤ length (now codes)) ⌝ }
+    requires { ⌜ Kept (gridGiven width lower lower16 lower8) (gridGiven width upper upper16 upper8) k y here (now codes) ⌝ }
+    requires { ⌜ Kept (gridGiven width lower lower16 lower8) (gridGiven width upper upper16 upper8) k (y + 1) there (now codes) ⌝ }
     requires { ⌜ inLayer (point (k .dims)) (point (k .high)) < length (now map) ⌝ }
     requires { ⌜ RoomToFind next (found (hasVertex (layersGiven width lower upper lower16 upper16 lower8 upper8 k z) (boxOf k)) (rowCells (pointsOf (boxOf k)) z y))
         (findsGiven cells strides map) ⌝ }
@@ -270,7 +350,7 @@ fn find_row(
     let row = k.dims.x as usize;
     let at = (from as usize) + row * (y as usize);
     let last = at + (n as usize);
-    class_row(
+    class_points(
         width,
         lower,
         upper,
@@ -278,9 +358,11 @@ fn find_row(
         upper16,
         lower8,
         upper8,
-        at,
-        row,
-        n as usize,
+        k,
+        y,
+        codes,
+        here,
+        there,
         map,
     );
     map[last] = NULL_VERTEX;
@@ -312,6 +394,69 @@ fn clear_row(k: Block, y: u32, map: &mut [u32])
     }
 }
 
+// The same, given how many of the points of the row's cells are negative: where none are, or all, there is no vertex.
+fn find_where_mixed(
+    width: u32,
+    lower: &[f32],
+    upper: &[f32],
+    lower16: &[i16],
+    upper16: &[i16],
+    lower8: &[i8],
+    upper8: &[i8],
+    k: Block,
+    y: u32,
+    z: u32,
+    negative_points: usize,
+    codes: &[u32],
+    here: usize,
+    there: usize,
+    next: Next,
+    cells: &mut [u32],
+    strides: &mut [u32],
+    map: &mut [u32],
+) -> Next
+    requires { ⌜ InLayers (gridGiven width lower lower16 lower8) (gridGiven width upper upper16 upper8) k z ⌝ }
+    requires { ⌜ (k .low .y ≤ y) × (y < k .high .y) ⌝ }
+    requires { ⌜ «negative_points» ≡ cellsNegatives (gridGiven width lower lower16 lower8) (gridGiven width upper upper16 upper8) k y ⌝ }
+    requires { ⌜ (here + 1024 ≤ length (now codes)) × (there + 1024 ≤ length (now codes)) ⌝ }
+    requires { ⌜ Kept (gridGiven width lower lower16 lower8) (gridGiven width upper upper16 upper8) k y here (now codes) ⌝ }
+    requires { ⌜ Kept (gridGiven width lower lower16 lower8) (gridGiven width upper upper16 upper8) k (y + 1) there (now codes) ⌝ }
+    requires { ⌜ inLayer (point (k .dims)) (point (k .high)) < length (now map) ⌝ }
+    requires { ⌜ RoomToFind next (found (hasVertex (layersGiven width lower upper lower16 upper16 lower8 upper8 k z) (boxOf k)) (rowCells (pointsOf (boxOf k)) z y))
+        (findsGiven cells strides map) ⌝ }
+    ensures { λ r. ⌜ Passes (point (k .dims)) (hasVertex (layersBefore width lower upper lower16 upper16 lower8 upper8 k z) (boxOf k)) next
+        (findsBefore cells strides map) (rowCells (pointsOf (boxOf k)) z y) r (findsAfter cells strides map) ⌝ }
+{
+    let all = 4 * (((k.high.x - k.low.x) as usize) + 1);
+    if negative_points == 0 {
+        clear_row(k, y, map);
+        return next;
+    }
+    if negative_points == all {
+        clear_row(k, y, map);
+        return next;
+    }
+    find_row(
+        width,
+        lower,
+        upper,
+        lower16,
+        upper16,
+        lower8,
+        upper8,
+        k,
+        y,
+        z,
+        codes,
+        here,
+        there,
+        next,
+        cells,
+        strides,
+        map,
+    )
+}
+
 // The layer z of cells: its surface cells, and the entries of its points. The layer's last row has no cells.
 fn find_layer(
     width: u32,
@@ -338,9 +483,38 @@ fn find_layer(
     let from = k.low.y;
     let end = k.high.y;
     let first = next.place;
+    let mut codes = [0u32; 2048];
+    let mut here = 0usize;
+    let mut near = row_signs::read_row(
+        width,
+        lower,
+        upper,
+        lower16,
+        upper16,
+        lower8,
+        upper8,
+        k,
+        from,
+        &mut codes,
+        0,
+    );
     let mut state = next;
     for y in from..end {
-        state = find_row(
+        let there = 1024 - here;
+        let far = row_signs::read_row(
+            width,
+            lower,
+            upper,
+            lower16,
+            upper16,
+            lower8,
+            upper8,
+            k,
+            y + 1,
+            &mut codes,
+            there,
+        );
+        state = find_where_mixed(
             width,
             lower,
             upper,
@@ -351,11 +525,17 @@ fn find_layer(
             k,
             y,
             z,
+            near + far,
+            &codes,
+            here,
+            there,
             state,
             cells,
             strides,
             map,
         );
+        near = far;
+        here = there;
     }
     clear_row(k, end, map);
     state.place - first

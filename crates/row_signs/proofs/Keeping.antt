@@ -22,7 +22,7 @@ use Rattle.grid.specs.Corners.{sideBetween, eightOf}
 use Rattle.grid.specs.Signs.{sideNegatives, surfaceAt}
 use Rattle.grid.proofs.Sides.{both-sides}
 use Rattle.row_signs.specs.Signs.{negativeAt, rowLength, rowStart, rowPoints}
-use Rattle.row_signs.specs.Codes.{codeAt, codesRun, rowKept, Kept, Half, fourCodes, mixedCode}
+use Rattle.row_signs.specs.Codes.{codeAt, codesRun, rowKept, Kept, Half, fourCodes, mixedCode, Small}
 use Rattle.row_signs.proofs.Stores.{long, stored-at, stored-apart}
 use Rattle.row_signs.proofs.OneSign.{next-row}
 
@@ -70,6 +70,15 @@ module _ {lower upper : List Float} {k : Block} {y from : ℕ} {codes codes' : L
           → (place + j < from) ⊎ (from + length (codesRun lower upper (rowStart k y) (rowPoints k)) ≤ place + j)
       there short j h (inl a) = inl (omega arith)
       there short j h (inr a) = inr (omega (arith, row-long))
+
+pub kept-small : {lower upper : List Float} {k : Block} {y place : ℕ} {codes : List ℕ} → rowPoints k ≤ 1024 → Kept lower upper k y place codes → Small codes place (rowPoints k)
+kept-small {lower} {upper} {k} {y} short kept j h =
+    omega (
+      arith,
+      kept .at short j h,
+      one-most (negativeAt lower (rowStart k y) j),
+      one-most (negativeAt upper (rowStart k y) j),
+    )
 
 -- ---- two halves
 

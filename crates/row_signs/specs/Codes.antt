@@ -40,3 +40,7 @@ fourCodes codes near far j = (getD codes (near + j) 0 + getD codes (near + j + 1
 
 abbrev pub mixedCode : ℕ → Bool
 mixedCode sum = not (eqb sum 0) && not (eqb sum 36)
+
+-- no code of n places is above 9, so that four of them are added up in 32 bits
+abbrev pub Small : List ℕ → ℕ → ℕ → Type 0
+Small codes place n = (j : ℕ) → j < n → getD codes (place + j) 0 ≤ 9

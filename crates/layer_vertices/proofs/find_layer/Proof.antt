@@ -1,11 +1,13 @@
--- The invariant: the lists are what the rows before y leave; after the last row of cells and the one behind it, that is what the rules say of the
--- layer. Assumes nothing.
-use Prim.Native.Nat.{ℕ, _+_, _-_, _*_}
+-- The invariant: the lists are what the rows before y leave, and the row y of points is kept, with the number of its negatives; after the last row of
+-- cells and the one behind it, the lists are what the rules say of the layer. Assumes nothing.
+use Prim.Native.Nat.{ℕ, _+_, _-_, _*_, _≤_}
 use native.Mathlib.Nat.{le-refl}
 use mathlib.Core.List.{List, _++_}
-use mathlib.Core.Path.{refl, sym, ap, _∙_}
+use mathlib.Core.Logic.{inl}
+use mathlib.Core.Path.{_≡_, refl, sym, ap, ap₂, _∙_}
 use native.Mathlib.Omega.{arith}
-use lib.ListN.{length, replicate}
+use lib.Ieee.{Float}
+use lib.ListN.{length, replicate, length-replicate}
 use lib.Seq.{length-sets}
 use Rattle.rules.specs.Grid.{Field}
 use Rattle.rules.specs.Vertices.{rowCells}
@@ -17,53 +19,145 @@ use Rattle.grid.proofs.Order.{layer-begins, layer-grows}
 use Rattle.grid.proofs.Walks.{Counting, AtRow, ended}
 use Rattle.grid.proofs.Layers.{layers-fit}
 use Rattle.grid.proofs.LayerWalks.{row-of, layer-begun}
+use Rattle.row_signs.specs.Signs.{rowNegatives}
+use Rattle.row_signs.specs.Codes.{Kept, Half}
+use Rattle.row_signs.proofs.OneSign.{points-lent, cells-few}
+use Rattle.row_signs.proofs.Keeping.{Reads, kept-length, just-read, still-kept, half-fits, other-half, halves-apart}
 use Rattle.layer_vertices.specs.declared.Next.{Next}
 use Rattle.layer_vertices.specs.Cells.{finds, pointsOf, hasVertex, Passes}
 use Rattle.layer_vertices.proofs.Points.{layer-closes, side-y}
 use Rattle.layer_vertices.proofs.Clearing.{row-blank}
 use Rattle.layer_vertices.proofs.Passing.{SameLengths, passes-none, passes-more, passes-cleared, passes-lengths, passes-room, layer-finds, layer-passed}
+use borrow.Author.Needs.{needs}
 use Rattle.layer_vertices.proofs.find_layer.Statement.{statement}
 use Rattle.layer_vertices.proofs.find_layer.Tie as tie
 
 abbrev Inv-loop : tie.InvT-loop
-Inv-loop width lower upper lower16 upper16 lower8 upper8 k z cells₀ strides₀ map₀ from end first state₀ y₀ cells strides map state y =
+Inv-loop width lower upper lower16 upper16 lower8 upper8 k z cells₀ strides₀ map₀ from end first codes₀ here₀ near₀ state₀ y₀ cells strides map codes here near state y =
+    let l = gridOf width lower lower16 lower8 in
+    let u = gridOf width upper upper16 upper8 in
     Counting from end y
-    × Passes (point (k .dims)) (hasVertex (twoLayers (gridOf width lower lower16 lower8) (gridOf width upper upper16 upper8) k z) (boxOf k)) state₀
-    (finds cells₀ strides₀ map₀) (layerTo (pointsOf (boxOf k)) z y) state (finds cells strides map)
+    × Passes (point (k .dims)) (hasVertex (twoLayers l u k z) (boxOf k)) state₀ (finds cells₀ strides₀ map₀) (layerTo (pointsOf (boxOf k)) z y) state (finds cells strides map)
+    × Half here
+    × (near ≡ rowNegatives l u k y)
+    × (length codes ≡ 2048)
+    × Kept l u k y here codes
 
 abbrev μ-loop : tie.MeasureT-loop
-μ-loop width lower upper lower16 upper16 lower8 upper8 k z cells₀ strides₀ map₀ from end first state₀ y₀ cells strides map state y = end - y
+μ-loop width lower upper lower16 upper16 lower8 upper8 k z cells₀ strides₀ map₀ from end first codes₀ here₀ near₀ state₀ y₀ cells strides map codes here near state y = end - y
 
 -- ---- the places that a later one leads back to
 
 abbrev entry-of : tie.At-loop Inv-loop μ-loop → tie.Start Inv-loop μ-loop
-entry-of c = c .before .before .before .before .before .before
+entry-of c = c .before .before .before .before .before .before .before .before .before
 
-abbrev turn-of : tie.After-find-row-arg3 Inv-loop μ-loop → tie.In-loop Inv-loop μ-loop
-turn-of c = c .before .before .before
+abbrev read-of : tie.After-find-where-mixed-arg3 Inv-loop μ-loop → tie.After-read-row2 Inv-loop μ-loop
+read-of c = c .before .before .before .before .before
 
-abbrev call-of : tie.After-slice-known6 Inv-loop μ-loop → tie.After-find-row Inv-loop μ-loop
+abbrev turn-of : tie.After-read-row2 Inv-loop μ-loop → tie.In-loop Inv-loop μ-loop
+turn-of c = c .before .before
+
+abbrev call-of : tie.After-slice-known6 Inv-loop μ-loop → tie.After-find-where-mixed Inv-loop μ-loop
 call-of c = c .before .before .before .before .before .before
 
--- the field that the two layers are
+-- the two layers of distances, and the field that they are
+abbrev lower-of : tie.Start Inv-loop μ-loop → List Float
+lower-of s = let a = s .args in gridOf (a .width) (a .lower .now) (a .lower16 .now) (a .lower8 .now)
+
+abbrev upper-of : tie.Start Inv-loop μ-loop → List Float
+upper-of s = let a = s .args in gridOf (a .width) (a .upper .now) (a .upper16 .now) (a .upper8 .now)
+
 abbrev layers-of : tie.Start Inv-loop μ-loop → Field
-layers-of s =
-    let a = s .args in
-    twoLayers (gridOf (a .width) (a .lower .now) (a .lower16 .now) (a .lower8 .now)) (gridOf (a .width) (a .upper .now) (a .upper16 .now) (a .upper8 .now)) (a .k) (a .z)
+layers-of s = twoLayers (lower-of s) (upper-of s) (s .args .k) (s .args .z)
 
 here : (c : tie.In-loop Inv-loop μ-loop) → AtRow (entry-of (c .before) .args .k) (entry-of (c .before) .args .z) (c .before .loop .y)
 here c = row-of (entry-of (c .before) .pre .0) (c .before .loop .inv .0) (c .loop-test .taken)
 
+-- ---- the rows of points that are read
+
+abbrev begin-of : tie.After-read-row Inv-loop μ-loop → tie.Start Inv-loop μ-loop
+begin-of c = c .before .before .before .before .before .before .before
+
+abbrev first-codes : tie.After-read-row Inv-loop μ-loop → List ℕ
+first-codes c = c .read-row .last .1 .1 .1 .1 .1 .1 .1 .1 .1 .0
+
+first-read : (c : tie.After-read-row Inv-loop μ-loop) → let s = begin-of c in let a = s .args in
+    Reads (lower-of s) (upper-of s) (a .k) (a .k .low .y) 0 (replicate 2048 0) (first-codes c)
+first-read c = record { same = c .read-row .ensures .1 }
+
+abbrev next-codes : tie.After-read-row2 Inv-loop μ-loop → List ℕ
+next-codes c = c .read-row2 .last .1 .1 .1 .1 .1 .1 .1 .1 .1 .0
+
+next-read : (c : tie.After-read-row2 Inv-loop μ-loop) → let l = turn-of c .before in let s = entry-of l in let a = s .args in
+    Reads (lower-of s) (upper-of s) (a .k) (l .loop .y + 1) (1024 - l .loop .here) (l .loop .codes) (next-codes c)
+next-read c = record { same = c .read-row2 .ensures .1 }
+
+next-room : (c : tie.In-loop Inv-loop μ-loop) → 1024 - c .before .loop .here + 1024 ≤ length (c .before .loop .codes)
+next-room c = let w = c .before .loop in omega (arith, half-fits (other-half (w .inv .2)), w .inv .4)
+
+next-long : (c : tie.After-read-row2 Inv-loop μ-loop) → length (next-codes c) ≡ 2048
+next-long c = kept-length (next-read c) ∙ turn-of c .before .loop .inv .4
+
+-- the row y is kept still, and the row y + 1 now
+near-kept : (c : tie.After-read-row2 Inv-loop μ-loop) → let l = turn-of c .before in let s = entry-of l in
+    Kept (lower-of s) (upper-of s) (s .args .k) (l .loop .y) (l .loop .here) (next-codes c)
+near-kept c = let w = turn-of c .before .loop in still-kept (next-read c) (w .inv .5) (halves-apart (w .inv .2))
+
+far-kept : (c : tie.After-read-row2 Inv-loop μ-loop) → let l = turn-of c .before in let s = entry-of l in
+    Kept (lower-of s) (upper-of s) (s .args .k) (l .loop .y + 1) (1024 - l .loop .here) (next-codes c)
+far-kept c = just-read (next-read c) (next-room (turn-of c))
+
 -- ---- the needs
+
+slice-aggregate-read-row : tie.Need-slice-aggregate-read-row Inv-loop μ-loop
+slice-aggregate-read-row c = search needs
+
+read-row-requires : tie.Need-read-row-requires Inv-loop μ-loop
+read-row-requires c κs =
+    let s = c .before .before .before .before .before .before in
+    let p = points-lent (s .pre .0) (layer-begun (s .pre .0) .high) in
+    (p .0, (p .1 .0, (p .1 .1, omega arith)))
 
 loop-holds : tie.Need-loop-holds Inv-loop μ-loop
 loop-holds c =
-    let s = c .before .before .before .before .before in
-    (layer-begun (s .pre .0), passes-none (layer-begins (pointsOf (boxOf (s .args .k))) (s .args .z)))
+    let r = c .before in
+    let s = begin-of r in (
+      layer-begun (s .pre .0),
+      passes-none (layer-begins (pointsOf (boxOf (s .args .k))) (s .args .z)),
+      inl refl,
+      r .read-row .ensures .0,
+      kept-length (first-read r) ∙ length-replicate {A = ℕ} 2048 0,
+      just-read (first-read r) (omega (arith, length-replicate {A = ℕ} 2048 0)),
+    )
 
-find-row-requires : tie.Need-find-row-requires Inv-loop μ-loop
-find-row-requires c κs =
-    let t = turn-of c in
+sub-there : tie.Need-sub-there Inv-loop μ-loop
+sub-there c = omega (arith, half-fits (c .before .loop .inv .2))
+
+add-read-row : tie.Need-add-read-row Inv-loop μ-loop
+add-read-row c = here c .turn .fits
+
+slice-aggregate-read-row-2 : tie.Need-slice-aggregate-read-row-2 Inv-loop μ-loop
+slice-aggregate-read-row-2 c = search needs
+
+read-row-requires-2 : tie.Need-read-row-requires-2 Inv-loop μ-loop
+read-row-requires-2 c κs =
+    let t = c .before in
+    let p = points-lent (entry-of (t .before) .pre .0) (here t .turn .next .high) in
+    (p .0, (p .1 .0, (p .1 .1, next-room t)))
+
+add-find-where-mixed : tie.Need-add-find-where-mixed Inv-loop μ-loop
+add-find-where-mixed c =
+    let r = c .before in
+    let l = turn-of r .before in
+    cells-few (entry-of l .pre .0) (l .loop .y) (l .loop .inv .3) (r .read-row2 .ensures .0)
+
+slice-aggregate-find-where-mixed : tie.Need-slice-aggregate-find-where-mixed Inv-loop μ-loop
+slice-aggregate-find-where-mixed c = search needs
+
+find-where-mixed-requires : tie.Need-find-where-mixed-requires Inv-loop μ-loop
+find-where-mixed-requires c κs =
+    let r = read-of c in
+    let t = turn-of r in
     let s = entry-of (t .before) in
     let a = s .args in
     let w = t .before .loop in
@@ -75,26 +169,45 @@ find-row-requires c κs =
       (
         here t .turn .here,
         (
-          omega arith,
-          passes-room (w .inv .1) (rowCells (pointsOf (boxOf (a .k))) (a .z) (w .y)) (s .pre .1 .1) within,
+          ap₂ _+_ (w .inv .3) (r .read-row2 .ensures .0),
+          (
+            (omega (arith, half-fits (w .inv .2), next-long r), omega (arith, half-fits (other-half (w .inv .2)), next-long r)),
+            (
+              near-kept r,
+              (
+                far-kept r,
+                (
+                  omega (arith, long, map),
+                  passes-room (w .inv .1) (rowCells (pointsOf (boxOf (a .k))) (a .z) (w .y)) (s .pre .1 .1) within,
+                ),
+              ),
+            ),
+          ),
         ),
       ),
     )
 
 add-y : tie.Need-add-y Inv-loop μ-loop
-add-y c = here (turn-of (call-of c .before)) .turn .fits
+add-y c = here (turn-of (read-of (call-of c .before))) .turn .fits
 
 loop-less : tie.Need-loop-less Inv-loop μ-loop
-loop-less c = here (turn-of (call-of c .before)) .turn .less
+loop-less c = here (turn-of (read-of (call-of c .before))) .turn .less
 
 loop-again : tie.Need-loop-again Inv-loop μ-loop
 loop-again c =
     let m = call-of c in
-    let t = turn-of (m .before) in
+    let r = read-of (m .before) in
+    let t = turn-of r in
     let a = entry-of (t .before) .args in
     let w = t .before .loop in
-    let b = pointsOf (boxOf (a .k)) in
-    (here t .turn .next, passes-more (w .inv .1) (rowCells b (a .z) (w .y)) (m .find-row .ensures) (layer-grows b (a .z) (w .y) (w .inv .0 .low)))
+    let b = pointsOf (boxOf (a .k)) in (
+      here t .turn .next,
+      passes-more (w .inv .1) (rowCells b (a .z) (w .y)) (m .find-where-mixed .ensures) (layer-grows b (a .z) (w .y) (w .inv .0 .low)),
+      other-half (w .inv .2),
+      r .read-row2 .ensures .0,
+      next-long r,
+      far-kept r,
+    )
 
 -- ---- after the rows of cells, the last row
 
@@ -158,8 +271,16 @@ find-layer-spec =
     (tie.spec
     Inv-loop
     μ-loop
+    slice-aggregate-read-row
+    read-row-requires
     loop-holds
-    find-row-requires
+    sub-there
+    add-read-row
+    slice-aggregate-read-row-2
+    read-row-requires-2
+    add-find-where-mixed
+    slice-aggregate-find-where-mixed
+    find-where-mixed-requires
     add-y
     loop-less
     loop-again

@@ -17,9 +17,9 @@ use Rattle.layer_vertices.proofs.find_row.Tie as tie
 -- ---- the places that a later one leads back to
 
 abbrev begin-of : tie.After-struct-known2 → tie.Start
-begin-of c = c .before .before .before .before .before .before .before
+begin-of c = c .before .before .before .before .before .before .before .before
 
-abbrev class-of : tie.After-number-row-arg3 → tie.After-class-row
+abbrev class-of : tie.After-number-row-arg3 → tie.After-class-points
 class-of c = c .before .before .before .before .before
 
 -- ---- the two layers of distances
@@ -39,13 +39,13 @@ there : (s : tie.Start) → let k = s .args .k in Reach (lower-of s) (upper-of s
 there s = reach (row s) refl refl
 
 within : (s : tie.Start) → let k = s .args .k in k .low .x + k .dims .x * s .args .y + (k .high .x - k .low .x) < length (s .args .map .now)
-within s = omega (arith, there s .in-part, s .pre .1 .1 .0)
+within s = omega (arith, there s .in-part, s .pre .1 .1 .1 .1 .1 .0)
 
 -- ---- the needs
 
 sub-n : tie.Need-sub-n
 sub-n c =
-    let s = c .before .before .before .before .before .before in
+    let s = c .before .before .before .before .before .before .before in
     layers-fit (s .pre .0) .x .0
 
 cast-row : tie.Need-cast-row
@@ -66,14 +66,12 @@ cast-last c = search needs
 add-last : tie.Need-add-last
 add-last c = omega (arith, there (begin-of c) .few)
 
-cast-class-row : tie.Need-cast-class-row
-cast-class-row c = search needs
-
-class-row-requires : tie.Need-class-row-requires
-class-row-requires c κs =
+class-points-requires : tie.Need-class-points-requires
+class-points-requires c κs =
     let s = begin-of (c .before) in
     let r = there s in
-    ((r .in-lower, r .in-upper), omega (arith, within s))
+    let kept = s .pre .1 .1 in
+    ((layers-fit (s .pre .0) .x .0, omega (arith, within s)), ((r .in-lower, r .in-upper), (kept .0, (kept .1 .0, kept .1 .1 .0))))
 
 mul-map : tie.Need-mul-map
 mul-map c = omega (arith, there (begin-of (c .before .before .before .before)) .few)
@@ -82,13 +80,13 @@ slice-write-map : tie.Need-slice-write-map
 slice-write-map c =
     let m = c .before .before in
     let s = begin-of (m .before .before) in
-    omega (arith, within s, classed-length (row s) refl refl (s .args .map .now) (m .class-row .ensures) (within s))
+    omega (arith, within s, classed-length (row s) refl refl (s .args .map .now) (m .class-points .ensures) (within s))
 
 number-row-requires : tie.Need-number-row-requires
 number-row-requires c κs =
     let m = class-of c in
     let s = begin-of (m .before .before) in
-    row-asks (row s) refl refl (s .args .map .now) (m .class-row .ensures) (within s) (s .pre .1 .1 .1)
+    row-asks (row s) refl refl (s .args .map .now) (m .class-points .ensures) (within s) (s .pre .1 .1 .1 .1 .1 .1)
 
 same-length : tie.Need-same-length
 same-length c = search needs
@@ -101,7 +99,7 @@ returns c =
     let n = c .before .before .before .before .before .before in
     let m = class-of (n .before) in
     let s = begin-of (m .before .before) in
-    row-found (row s) refl refl (s .args .map .now) (m .class-row .ensures) (within s) (n .number-row .ensures)
+    row-found (row s) refl refl (s .args .map .now) (m .class-points .ensures) (within s) (n .number-row .ensures)
 
 same-length-3 : tie.Need-same-length-3
 same-length-3 c = passes-lengths (returns c) .map
@@ -117,8 +115,7 @@ find-row-spec =
     add-at
     cast-last
     add-last
-    cast-class-row
-    class-row-requires
+    class-points-requires
     mul-map
     slice-write-map
     number-row-requires

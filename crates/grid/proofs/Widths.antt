@@ -104,24 +104,6 @@ wholes-fit l i h =
     let at : i < length l = le-trans h (le-of-eq (length-map l (ofInt binary32))) in
     rw (float-at l i at) (ofInt-fits binary32 (getD l i (pos 0)))
 
-module _ (floats : List Float) (sixteens eights : List ℤ) where
-  pub grid-fits : (width : ℕ) → Binary32 floats → Binary32 (gridOf width floats sixteens eights)
-  unfolding gridOf
-  grid-fits width h = go (eqb width 16) (eqb width 8)
-    where
-      go : (a b : Bool) → Binary32 (cond a (asFloats sixteens) (cond b (asFloats eights) floats))
-      go true b = wholes-fit sixteens
-      go false true = wholes-fit eights
-      go false false = h
-
-  pub fits-16 : Binary32 (gridOf 16 floats sixteens eights)
-  unfolding gridOf
-  fits-16 = wholes-fit sixteens
-
-  pub fits-8 : Binary32 (gridOf 8 floats sixteens eights)
-  unfolding gridOf
-  fits-8 = wholes-fit eights
-
 -- ---- no whole number is beyond the cap
 
 pub within-cap : (x : Float) → Within cap x → T (not (beyond x))

@@ -1,4 +1,5 @@
--- Document 01, "What a claim has to settle": "Show that two outcomes that fit are equal". For each public function of marks, grid, count, judge, step, pass, surface_nets and bed
+-- Document 01, "What a claim has to settle": "Show that two outcomes that fit are equal". For each public function of marks, grid, stores, row_signs, count, judge,
+-- layer_estimates, layer_vertices, layer_faces, whole_box, surface_nets and bed
 -- one outcome alone fits the contract: the result, and every list behind a `&mut` afterwards, refused calls too. Those of cube stand in
 -- its own proofs/Unique. Assumes nothing.
 use Prim.Native.Nat.{ℕ}
@@ -92,6 +93,8 @@ use Rattle.stores.proofs.put_three.Kinds as put-three-kinds
 use Rattle.stores.proofs.put_three.Reads as put-three
 use Rattle.stores.proofs.put_six.Kinds as put-six-kinds
 use Rattle.stores.proofs.put_six.Reads as put-six
+use Rattle.row_signs.proofs.read_row.Kinds as read-row-kinds
+use Rattle.row_signs.proofs.read_row.Reads as read-row
 use Rattle.layer_estimates.proofs.estimate_layer.Kinds as estimate-layer-kinds
 use Rattle.layer_estimates.proofs.estimate_layer.Reads as estimate-layer
 use Rattle.layer_vertices.proofs.mark_layer.Kinds as mark-layer-kinds
@@ -270,6 +273,13 @@ put-three-once κs a o o' l l' = let s = l ∙ sym l' in λ i. record { result =
 
 pub put-six-once : OneOutcome 1 put-six-kinds.ps put-six-kinds.r put-six.Learnt
 put-six-once κs a o o' l l' = let s = l ∙ sym l' in λ i. record { result = tt; last = (s i, (tt, (tt, (tt, (tt, (tt, (tt, (tt, tt)))))))) }
+
+-- a row of points: how many of them are negative, and the list of codes
+pub read-row-once : OneOutcome 7 read-row-kinds.ps read-row-kinds.r read-row.Learnt
+read-row-once κs a o o' l l' =
+    let n = l .0 ∙ sym (l' .0) in
+    let c = l .1 ∙ sym (l' .1) in
+    λ i. record { result = n i; last = (tt, (tt, (tt, (tt, (tt, (tt, (tt, (tt, (tt, (c i, (tt, tt))))))))))) }
 
 -- the vertices of a layer's surface cells: their three lists
 pub estimate-layer-once : OneOutcome 10 estimate-layer-kinds.ps estimate-layer-kinds.r estimate-layer.Learnt

@@ -1,52 +1,28 @@
--- A row of cells whose points are all negative, or none of them: it has no surface cell and no edge that gives a face. How many of the points are
--- negative tells it. Assumes nothing.
-use Prim.Native.Nat.{ℕ, _+_, _-_, _*_, _≤_, _<_}
-use native.Mathlib.Nat.{add-assoc, mul-add, mul-one}
+-- A row of cells whose points are all negative, or none of them, counts nothing: no edge of it changes sign, as no cell of it is a surface cell.
+-- Assumes nothing.
+use Prim.Native.Nat.{ℕ, _+_, _*_, _≤_}
 use native.Mathlib.Omega.{arith}
-use mathlib.Core.Bool.{Bool, true, false, _&&_}
+use mathlib.Core.Bool.{Bool, true, false, _||_}
 use mathlib.Core.List.{List}
-use mathlib.Core.Path.{_≡_, refl, sym, ap, ap₂, _∙_}
-use mir.Syntax.{w64}
-use mir.Val.{Fits}
-use lib.Dec.{leb}
-use lib.ListN.{length, getD}
-use lib.Ieee.{Float, nan, unlike}
+use mathlib.Core.Path.{_≡_, refl, sym, ap₂, _∙_}
+use lib.Dec.{eqb}
+use lib.Ieee.{Float, unlike}
+use borrow.Author.Tests.{eqb-true}
 use Rattle.lists.specs.Lists.{one}
-use Rattle.rules.specs.Cell.{negative}
 use Rattle.rules.specs.Vertices.{rowCells}
 use Rattle.grid.specs.declared.Block.{Block}
-use Rattle.grid.specs.Block.{point, boxOf, flagsOf}
-use Rattle.grid.specs.Corners.{sideBetween}
-use Rattle.grid.specs.Signs.{sideNegatives, surfaceAt}
-use Rattle.grid.specs.Layers.{twoLayers, InLayers}
-use Rattle.grid.proofs.Bounds.{small}
-use Rattle.grid.proofs.Layers.{in-order, layers-fit}
+use Rattle.grid.specs.Block.{boxOf, flagsOf}
+use Rattle.grid.specs.Signs.{surfaceAt}
+use Rattle.grid.specs.Layers.{twoLayers}
 use Rattle.grid.proofs.LayerWalks.{Row}
-use Rattle.grid.proofs.Sides.{surface-by-sides}
+use Rattle.row_signs.specs.Signs.{rowLength, rowStart, rowPoints, cellsNegatives}
+use Rattle.row_signs.proofs.Runs.{run-never}
+use Rattle.row_signs.proofs.OneSign.{Alike, OneSign, none-negative, all-negative, next-row, no-cell}
 use Rattle.count.specs.declared.Tally.{Tally}
-use Rattle.count.specs.Runs.{negativeAt, negativesRun, changesAt, changesRun, surfaceRun, rowLength, rowStart, rowPoints, rowNegatives, cellsNegatives, ownedEdges}
+use Rattle.count.specs.Runs.{changesAt, changesRun, surfaceRun, ownedEdges}
 use Rattle.count.specs.Tally.{tallyOf}
-use Rattle.count.proofs.Runs.{run-most, run-never, run-none, run-all}
+use Rattle.count.specs.Kept.{oneSign}
 use Rattle.count.proofs.Rows.{reach, row-tally}
-
--- ---- a run of distances of one sign
-
--- the n distances from p on are all negative, or none of them, as `sign` says
-record Alike (sign : Bool) (l : List Float) (p n : ℕ) : Type 0 where
-  at : (i : ℕ) → p ≤ i → i < p + n → negative (getD l i nan) ≡ sign
-
-alike : {sign : Bool} {l : List Float} {p n : ℕ} → ((j : ℕ) → j < n → negativeAt l p j ≡ sign) → Alike sign l p n
-alike {sign} {l} {p} {n} each = record { at = λ i low high. ap (λ (m : ℕ). negative (getD l m nan)) (there i low) ∙ each (i - p) (omega arith) }
-  where
-    there : (i : ℕ) → p ≤ i → i ≡ p + (i - p)
-    there i low = omega arith
-
--- by the number of its negatives
-none-alike : (l : List Float) (p n : ℕ) → negativesRun l p n ≡ 0 → Alike false l p n
-none-alike l p n e = alike (run-none (negativeAt l p) n e)
-
-all-alike : (l : List Float) (p n : ℕ) → negativesRun l p n ≡ n → Alike true l p n
-all-alike l p n e = alike (run-all (negativeAt l p) n e)
 
 same-sign : (sign : Bool) → one (unlike sign sign) ≡ 0
 same-sign true = refl
@@ -59,75 +35,17 @@ no-changes {sign} {l} {l'} a a' p' q' m low high low' high' =
     sym (run-never (changesAt l p' l' q') m
     (λ j h. ap₂ (λ (s t : Bool). one (unlike s t)) (a .at (p' + j) (omega arith) (omega arith)) (a' .at (q' + j) (omega arith) (omega arith)) ∙ same-sign sign))
 
--- ---- the points of a row of cells
-
-record OneSign (sign : Bool) (lower upper : List Float) (k : Block) (y : ℕ) : Type 0 where
-  near-lower : Alike sign lower (rowStart k y) (rowPoints k)
-  near-upper : Alike sign upper (rowStart k y) (rowPoints k)
-  far-lower : Alike sign lower (rowStart k (y + 1)) (rowPoints k)
-  far-upper : Alike sign upper (rowStart k (y + 1)) (rowPoints k)
-
-negatives-few : (lower upper : List Float) (k : Block) (y : ℕ) → rowNegatives lower upper k y ≤ 2 * rowPoints k
-unfolding rowNegatives
-negatives-few lower upper k y = omega (arith, run-most (negativeAt lower (rowStart k y)) (rowPoints k), run-most (negativeAt upper (rowStart k y)) (rowPoints k))
-
-none-negative : (lower upper : List Float) (k : Block) (y : ℕ) → cellsNegatives lower upper k y ≡ 0 → OneSign false lower upper k y
-unfolding rowNegatives
-none-negative lower upper k y e =
-    record {
-      near-lower = none-alike lower (rowStart k y) (rowPoints k) (omega arith);
-      near-upper = none-alike upper (rowStart k y) (rowPoints k) (omega arith);
-      far-lower = none-alike lower (rowStart k (y + 1)) (rowPoints k) (omega arith);
-      far-upper = none-alike upper (rowStart k (y + 1)) (rowPoints k) (omega arith);
-    }
-
-all-negative : (lower upper : List Float) (k : Block) (y : ℕ) → cellsNegatives lower upper k y ≡ 4 * rowPoints k → OneSign true lower upper k y
-unfolding rowNegatives
-all-negative lower upper k y e =
-    let most : (l : List Float) (y' : ℕ) → negativesRun l (rowStart k y') (rowPoints k) ≤ rowPoints k = λ l y'. run-most (negativeAt l (rowStart k y')) (rowPoints k) in
-    let nl = most lower y in
-    let nu = most upper y in
-    let fl = most lower (y + 1) in
-    let fu = most upper (y + 1) in
-    record {
-      near-lower = all-alike lower (rowStart k y) (rowPoints k) (omega arith);
-      near-upper = all-alike upper (rowStart k y) (rowPoints k) (omega arith);
-      far-lower = all-alike lower (rowStart k (y + 1)) (rowPoints k) (omega arith);
-      far-upper = all-alike upper (rowStart k (y + 1)) (rowPoints k) (omega arith);
-    }
-
--- eight corners of one sign
-no-surface : (sign : Bool) → 0 ≡ one (leb 1 (4 * one sign + 4 * one sign) && leb (4 * one sign + 4 * one sign) 7)
-no-surface true = refl
-no-surface false = refl
-
 module _ {lower upper : List Float} {k : Block} {y z : ℕ} (r : Row lower upper k y z) where
   abbrev start : ℕ
   start = rowStart k y
 
-  next-row : rowStart k (y + 1) ≡ start + k .dims .x
-  next-row = omega (arith, mul-add (k .dims .x) y 1, mul-one (k .dims .x))
-
   module _ {sign : Bool} (o : OneSign sign lower upper k y) where
-    side : (j : ℕ) → j < rowPoints k → 4 * one sign ≡ sideNegatives (sideBetween lower upper (start + j) (k .dims .x))
-    side j h =
-        let n = next-row in
-        let a = o .near-lower .at (start + j) (omega arith) (omega arith) in
-        let b = o .far-lower .at (start + j + k .dims .x) (omega arith) (omega arith) in
-        let c = o .near-upper .at (start + j) (omega arith) (omega arith) in
-        let d = o .far-upper .at (start + j + k .dims .x) (omega arith) (omega arith) in
-        omega (arith, ap one a, ap one b, ap one c, ap one d)
-
     no-cells : 0 ≡ surfaceRun lower upper start (k .dims .x) (rowLength (boxOf k))
-    no-cells =
-        sym (run-never (surfaceAt lower upper start (k .dims .x)) (rowLength (boxOf k))
-        (λ j h.
-        let next = side (j + 1) (omega arith) ∙ ap (λ (i : ℕ). sideNegatives (sideBetween lower upper i (k .dims .x))) (sym (add-assoc start j 1)) in
-        sym (surface-by-sides lower upper start (k .dims .x) j (side j (omega arith)) next (no-surface sign))))
+    no-cells = sym (run-never (surfaceAt lower upper start (k .dims .x)) (rowLength (boxOf k)) (no-cell o))
 
     nothing : _≡_ {A = Tally} (record { vertices = 0; indices = 0 }) (tallyOf (twoLayers lower upper k z) (boxOf k) (flagsOf k) (rowCells (boxOf k) z y))
     nothing =
-        let n = next-row in
+        let n = next-row k y in
         let own = ownedEdges (boxOf k) (flagsOf k) y z in
         let t = reach r refl in
         row-tally lower upper k (r .layers) (r .along-y) refl refl no-cells
@@ -136,32 +54,11 @@ module _ {lower upper : List Float} {k : Block} {y z : ℕ} (r : Row lower upper
         (no-changes (o .near-lower) (o .near-upper) (start + 1) (start + 1) (own .z) (omega arith) (omega arith) (omega arith) (omega arith))
 
   -- what a row counts of whose points none are negative, or all
-  pub none-counts-nothing : {n : ℕ} → n ≡ cellsNegatives lower upper k y → n ≡ 0
+  pub one-sign-counts-nothing : {n : ℕ} → n ≡ cellsNegatives lower upper k y → oneSign k n ≡ true
       → _≡_ {A = Tally} (record { vertices = 0; indices = 0 }) (tallyOf (twoLayers lower upper k z) (boxOf k) (flagsOf k) (rowCells (boxOf k) z y))
-  none-counts-nothing e none = nothing (none-negative lower upper k y (sym e ∙ none))
-
-  pub all-counts-nothing : {n : ℕ} → n ≡ cellsNegatives lower upper k y → n ≡ 4 * rowPoints k
-      → _≡_ {A = Tally} (record { vertices = 0; indices = 0 }) (tallyOf (twoLayers lower upper k z) (boxOf k) (flagsOf k) (rowCells (boxOf k) z y))
-  all-counts-nothing e all = nothing (all-negative lower upper k y (sym e ∙ all))
-
--- ---- where a row of points ends
-
-module _ {lower upper : List Float} {k : Block} {z : ℕ} (i : InLayers lower upper k z) where
-  points-few : (k .low .x ≤ k .high .x) × (rowPoints k ≤ 16777217)
-  points-few = let f = layers-fit i in let s = small (point (k .dims)) (i .dims) in (omega arith, omega arith)
-
-  -- the row lies in both lists
-  pub points-lent : {y : ℕ} → y ≤ k .high .y
-      → ((k .low .x ≤ k .high .x) × (rowPoints k ≤ 16777217)) × ((rowStart k y + rowPoints k ≤ length lower) × (rowStart k y + rowPoints k ≤ length upper))
-  points-lent {y} h =
-      let few = points-few in
-      let last = in-order (point (k .dims)) (record { x = k .high .x; y = y; z = z }) (point (k .high)) (omega arith) h in
-      let l = i .lowerHolds in
-      let u = i .upperHolds in
-      (few, (omega arith, omega arith))
-
-  -- and the negatives of two rows are counted in 64 bits
-  pub cells-few : (y : ℕ) {low high : ℕ} → low ≡ rowNegatives lower upper k y → high ≡ rowNegatives lower upper k (y + 1) → Fits w64 (low + high)
-  cells-few y e e' =
-      let few = points-few in
-      omega (arith, negatives-few lower upper k y, negatives-few lower upper k (y + 1))
+  one-sign-counts-nothing {n} e one-sign = go (eqb n 0) (eqb n (4 * rowPoints k)) refl refl one-sign
+    where
+      go : (none all : Bool) → eqb n 0 ≡ none → eqb n (4 * rowPoints k) ≡ all → (none || all) ≡ true
+          → _≡_ {A = Tally} (record { vertices = 0; indices = 0 }) (tallyOf (twoLayers lower upper k z) (boxOf k) (flagsOf k) (rowCells (boxOf k) z y))
+      go true all h h' t = nothing (none-negative lower upper k y (sym e ∙ eqb-true n 0 h))
+      go false all h h' t = nothing (all-negative lower upper k y (sym e ∙ eqb-true n (4 * rowPoints k) (h' ∙ t)))

@@ -29,9 +29,10 @@ use Rattle.grid.proofs.Bounds.{small}
 use Rattle.grid.proofs.Layers.{in-plane, in-order, value-lower, value-upper, values-between, layers-fit, plane-small}
 use Rattle.grid.proofs.Owned.{owned-cell}
 use Rattle.grid.proofs.LayerWalks.{Row}
+use Rattle.row_signs.specs.Signs.{rowLength}
 use Rattle.count.specs.declared.OwnedEdges.{OwnedEdges}
 use Rattle.count.specs.declared.Tally.{Tally}
-use Rattle.count.specs.Runs.{surfaceRun, changesAt, changesRun, rowLength, ownedEdges}
+use Rattle.count.specs.Runs.{surfaceRun, changesAt, changesRun, ownedEdges}
 use Rattle.count.specs.Tally.{tallyOf}
 use Rattle.count.proofs.Runs.{many-above, many-before, many-run, many-owned}
 

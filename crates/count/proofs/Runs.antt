@@ -1,59 +1,17 @@
--- How many numbers of a run pass a test: one number more, none or all of them, the first or the last left out, a test that does not look at the number.
--- Assumes nothing.
+-- How many numbers of a run pass a test: the first or the last left out, a test that does not look at the number. Assumes nothing.
 use Prim.Native.Nat.{ℕ, zero, suc, _+_, _-_, _≤_, _<_}
-use native.Mathlib.Numerals.{add-one}
 use native.Mathlib.Omega.{arith}
 use mathlib.Core.Bool.{Bool, true, false, not, _&&_, _||_, cond}
 use mathlib.Core.List.{[], _∷_}
 use mathlib.Core.Logic.{inl, inr}
-use mathlib.Core.Path.{_≡_, refl, ap, subst, _∙_}
+use mathlib.Core.Path.{_≡_, refl, sym, ap, _∙_}
 use lib.Dec.{ltb, eqb}
-use lib.Ieee.Bits.{is-true}
 use borrow.Author.Tests.{lt-ltb, le-ltb, eq-eqb, ne-eqb}
 use Rattle.lists.specs.Lists.{one, run, upTo, many}
-use Rattle.lists.proofs.Tests.{is-false, one-of, one-positive, one-most, less-or-not}
+use Rattle.lists.proofs.Tests.{less-or-not}
 use Rattle.lists.proofs.Lists.{all-each, many-append, many-same, many-map, many-never}
 use Rattle.lists.proofs.Runs.{upTo-none, upTo-first, upTo-last, upTo-each}
-
-pub none-counted : (f : ℕ → Bool) → 0 ≡ many f (run 0)
-unfolding run many
-none-counted f = refl
-
--- one number more, as a loop counts it
-pub one-more : (f : ℕ → Bool) (n : ℕ) {count more now' : ℕ} → count ≡ many f (run n) → more ≡ one (f n) → now' ≡ count + more → now' ≡ many f (run (n + 1))
-unfolding run many
-one-more f n e d h = rw add-one (omega (arith, many-append f (run n) (n ∷ [])))
-
--- ---- none of a run, and all of it
-
-last-apart : (f : ℕ → Bool) (n : ℕ) → many f (run (suc n)) ≡ many f (run n) + one (f n)
-unfolding run many
-last-apart f n = many-append f (run n) (n ∷ []) ∙ omega arith
-
--- what holds below n and at n
-up-to-last : {P : ℕ → Type 0} {n : ℕ} → ((j : ℕ) → j < n → P j) → P n → (j : ℕ) → j < suc n → P j
-up-to-last {P} {n} below last j h = elim (less-or-not j n) [ inl l ↦ below j l | inr l ↦ subst P (omega arith) last ]
-
-pub run-most : (f : ℕ → Bool) (n : ℕ) → many f (run n) ≤ n
-unfolding run many
-run-most f zero = omega arith
-run-most f (suc n) = omega (arith, last-apart f n, run-most f n, one-most (f n))
-
-pub run-never : (f : ℕ → Bool) (n : ℕ) → ((j : ℕ) → j < n → one (f j) ≡ 0) → many f (run n) ≡ 0
-unfolding run many
-run-never f zero h = refl
-run-never f (suc n) h = omega (arith, last-apart f n, run-never f n (λ j l. h j (omega arith)), h n (omega arith))
-
-pub run-none : (f : ℕ → Bool) (n : ℕ) → many f (run n) ≡ 0 → (j : ℕ) → j < n → f j ≡ false
-run-none f zero e j h = absurd (omega arith)
-run-none f (suc n) e j h =
-    up-to-last {P = λ (j : ℕ). f j ≡ false} (run-none f n (omega (arith, last-apart f n))) (is-false (f n) (λ t. omega (arith, last-apart f n, one-of (f n) t))) j h
-
-pub run-all : (f : ℕ → Bool) (n : ℕ) → many f (run n) ≡ n → (j : ℕ) → j < n → f j ≡ true
-run-all f zero e j h = absurd (omega arith)
-run-all f (suc n) e j h =
-    up-to-last {P = λ (j : ℕ). f j ≡ true} (run-all f n (omega (arith, last-apart f n, run-most f n, one-most (f n))))
-    (is-true (f n) (one-positive (f n) (omega (arith, last-apart f n, run-most f n)))) j h
+use Rattle.row_signs.proofs.Runs.{none-counted, one-more}
 
 -- ---- the first left out, and the last
 
@@ -123,3 +81,25 @@ pub many-owned : (own : Bool) (f f' h : ℕ → Bool) (from to first last n : �
     → ((x : ℕ) → first ≤ x → x < last → f' x ≡ h (x - first)) → many (λ (x : ℕ). own && f x) (upTo from to) ≡ many h (run (cond own n 0))
 many-owned true f f' h from to first last n e len s = e ∙ many-run f' h first last s ∙ ap (λ (i : ℕ). many h (run i)) len
 many-owned false f f' h from to first last n e len s = many-never (upTo from to) ∙ none-counted h
+
+-- ---- runs of two tests, and a run by its first or its last number
+
+last-of : (f : ℕ → Bool) (n : ℕ) → many f (run (suc n)) ≡ many f (run n) + one (f n)
+last-of f n = let e : suc n ≡ n + 1 = omega arith in ap (λ (m : ℕ). many f (run m)) e ∙ sym (one-more f n refl refl refl)
+
+first-of : (f : ℕ → Bool) (n : ℕ) → many f (run (suc n)) ≡ one (f 0) + many (λ (j : ℕ). f (suc j)) (run n)
+first-of f zero = omega (arith, last-of f 0, none-counted f, none-counted (λ (j : ℕ). f (suc j)))
+first-of f (suc n) = omega (arith, last-of f (suc n), first-of f n, last-of (λ (j : ℕ). f (suc j)) n)
+
+-- two tests that agree below n
+pub run-same : (f g : ℕ → Bool) (n : ℕ) → ((j : ℕ) → j < n → f j ≡ g j) → many f (run n) ≡ many g (run n)
+run-same f g zero h = sym (none-counted f) ∙ none-counted g
+run-same f g (suc n) h =
+    omega (arith, last-of f n, last-of g n, run-same f g n (λ j l. h j (omega arith)), ap one (h n (omega arith)))
+
+-- all but the last, and all but the first
+pub without-last : (f : ℕ → Bool) (n : ℕ) → 0 < n → many f (run n) ≡ many f (run (n - 1)) + one (f (n - 1))
+without-last f n h = let e : n ≡ suc (n - 1) = omega arith in ap (λ (m : ℕ). many f (run m)) e ∙ last-of f (n - 1)
+
+pub without-first : (f : ℕ → Bool) (n : ℕ) → 0 < n → many f (run n) ≡ one (f 0) + many (λ (j : ℕ). f (suc j)) (run (n - 1))
+without-first f n h = let e : n ≡ suc (n - 1) = omega arith in ap (λ (m : ℕ). many f (run m)) e ∙ first-of f (n - 1)

@@ -1,8 +1,8 @@
 // V and I before anything is written: the surface cells, and six for each owned edge with exactly one negative end; of the whole box in one walk with
 // condition 5. A layer of cells is counted from its two layers of distances, which are lent apart, so that the whole box and a single layer have one
-// count. A row is counted by loops over runs of distances, which neither branch nor stop early; which of a row's edges the box owns is settled before
-// them, by where a run begins and how long it is. Most rows of a bed have points of one sign alone, and nothing is to be counted there: the negatives of
-// each row of points are counted first, once, and carried from row to row.
+// count. Each row of points is read once, for the cells on both its sides. Most rows of a bed have points of one sign alone, and nothing is to be counted
+// there: the negatives of a row of points tell it. Where rows are not too long, the others are counted from the codes that were kept of their points, in
+// one loop; else by loops over runs of distances. No loop over a row branches or stops early: which of its edges the box owns is settled outside.
 ghost use mathlib.Core.Path.{_≡_};
 ghost use mathlib.Core.Bool.{cond};
 ghost use Prim.Native.Nat.{_+_, _-_, _<_, _≤_};
@@ -12,7 +12,9 @@ ghost use Rattle.rules.specs.Call.{badDistance};
 ghost use Rattle.grid.specs.Block.{boxOf, flagsOf, fieldOf};
 ghost use Rattle.grid.specs.Inside.{Inside};
 ghost use Rattle.grid.specs.Layers.{twoLayers, InLayers};
-ghost use Rattle.count.specs.Runs.{surfaceRun, changesRun, negativesRun, rowStart, rowPoints, rowNegatives, cellsNegatives, ownedEdges};
+ghost use Rattle.row_signs.specs.Signs.{rowLength, rowPoints, cellsNegatives};
+ghost use Rattle.count.specs.Runs.{surfaceRun, changesRun, ownedEdges};
+ghost use Rattle.count.specs.Kept.{SmallFrom, cellCodes, countedCodes, ownedPart, keptTally, oneSign, keptWhereMixed};
 ghost use Rattle.count.specs.Tally.{tallyOf, counts};
 ghost use Rattle.grid.specs.Values.{gridGiven, gridBefore, Wholes};
 use grid::Block;
@@ -39,6 +41,14 @@ struct OwnedEdges {
     x: usize,
     y: usize,
     z: usize,
+}
+
+// Surface cells, and x, y and z edges with exactly one negative end, of a row's cells, each cell having the three edges at its lowest corner.
+struct CodeCounts {
+    surface: u32,
+    x: u32,
+    y: u32,
+    z: u32,
 }
 
 // How many of n cells in a row are surface cells, `at` being the place of the first one's lowest corner. A cell shares its upper x side with the
@@ -115,43 +125,6 @@ fn changes(
     count
 }
 
-// How many of n distances from p on are negative.
-fn negatives(width: u32, a: &[f32], a16: &[i16], a8: &[i8], p: usize, n: usize) -> u32
-    requires { ⌜ p + n ≤ length (gridGiven width a a16 a8) ⌝ }
-    requires { ⌜ n ≤ 16777217 ⌝ }
-    ensures { λ r. ⌜ r ≡ negativesRun (gridBefore width a a16 a8) p n ⌝ }
-{
-    let mut count = 0u32;
-    for j in 0usize..n {
-        count += counted(cube::negative(grid::values::value_at(width, a, a16, a8, p + j)));
-    }
-    count
-}
-
-// How many of the box's points in the row y are negative, in both layers.
-fn row_negatives(
-    width: u32,
-    lower: &[f32],
-    upper: &[f32],
-    lower16: &[i16],
-    upper16: &[i16],
-    lower8: &[i8],
-    upper8: &[i8],
-    k: Block,
-    y: u32,
-) -> usize
-    requires { ⌜ (k .low .x ≤ k .high .x) × (rowPoints k ≤ 16777217) ⌝ }
-    requires { ⌜ rowStart k y + rowPoints k ≤ length (gridGiven width lower lower16 lower8) ⌝ }
-    requires { ⌜ rowStart k y + rowPoints k ≤ length (gridGiven width upper upper16 upper8) ⌝ }
-    ensures { λ r. ⌜ r ≡ rowNegatives (gridBefore width lower lower16 lower8) (gridBefore width upper upper16 upper8) k y ⌝ }
-{
-    let at = (k.low.x as usize) + (k.dims.x as usize) * (y as usize);
-    let points = ((k.high.x - k.low.x) as usize) + 1;
-    let below = negatives(width, lower, lower16, lower8, at, points);
-    let above = negatives(width, upper, upper16, upper8, at, points);
-    (below as usize) + (above as usize)
-}
-
 fn pick(first: bool, n: usize, m: usize) -> usize
     ensures { λ r. ⌜ r ≡ cond first n m ⌝ }
 {
@@ -188,6 +161,124 @@ fn owned_edges(k: Block, y: u32, z: u32) -> OwnedEdges
         y: pick(owns(above_z, true, k.max_plane.y, inner_y), inner, 0),
         z: pick(owns(true, above_y, k.max_plane.z, inner_z), inner, 0),
     }
+}
+
+// Of a row's n cells with `all` changes along an axis, those of the owned edges: of all, of none, or of all but the one with `left` changes.
+fn owned_part(all: u32, left: u32, n: usize, own: usize) -> usize
+    requires { ⌜ left ≤ all ⌝ }
+    ensures { λ r. ⌜ r ≡ ownedPart all left n own ⌝ }
+{
+    if own == 0 {
+        return 0;
+    }
+    if own == n {
+        return all as usize;
+    }
+    (all - left) as usize
+}
+
+// A cell between two kept rows, by the codes of its near points from p on and of its far ones from q on: whether it is a surface cell, and which of its
+// x, y and z edges has exactly one negative end.
+fn cell_codes(codes: &[u32], p: usize, q: usize) -> CodeCounts
+    requires { ⌜ SmallFrom (now codes) p 2 × SmallFrom (now codes) q 2 ⌝ }
+    ensures { λ r. ⌜ r ≡ cellCodes (now (codes .entry)) p q ⌝ }
+{
+    let a = codes[p];
+    let b = codes[p + 1];
+    let c = codes[q];
+    let d = codes[q + 1];
+    let sum = (a + b) + (c + d);
+    CodeCounts {
+        surface: counted((sum != 0) & (sum != 36)),
+        x: counted((a + b) % 2 == 1),
+        y: counted((a + c) % 2 == 1),
+        z: counted((a + a / 8) % 2 == 1),
+    }
+}
+
+// The same of n cells in a row.
+fn count_codes(codes: &[u32], here: usize, there: usize, n: usize) -> CodeCounts
+    requires { ⌜ n < 1024 ⌝ }
+    requires { ⌜ SmallFrom (now codes) here (n + 1) × SmallFrom (now codes) there (n + 1) ⌝ }
+    ensures { λ r. ⌜ r ≡ countedCodes (now (codes .entry)) here there n ⌝ }
+{
+    let mut surface = 0u32;
+    let mut x = 0u32;
+    let mut y = 0u32;
+    let mut z = 0u32;
+    for j in 0usize..n {
+        let cell = cell_codes(codes, here + j, there + j);
+        surface += cell.surface;
+        x += cell.x;
+        y += cell.y;
+        z += cell.z;
+    }
+    CodeCounts { surface, x, y, z }
+}
+
+// The row (y, z) of cells by the codes of its near points, which stand from `here` on, and of its far ones, from `there` on. The x edge that may not be
+// owned is the last cell's; the y and z edges that are not are the first's.
+fn count_kept(codes: &[u32], here: usize, there: usize, k: Block, y: u32, z: u32) -> Tally
+    requires { ⌜ (k .low .x ≤ k .high .x) × ((y < k .high .y) × (z < k .high .z)) ⌝ }
+    requires { ⌜ rowPoints k ≤ 1024 ⌝ }
+    requires { ⌜ SmallFrom (now codes) here (rowPoints k) × SmallFrom (now codes) there (rowPoints k) ⌝ }
+    ensures { λ r. ⌜ r ≡ keptTally (now (codes .entry)) here there (rowLength (boxOf k)) (ownedEdges (boxOf k) (flagsOf k) y z) ⌝ }
+{
+    let n = (k.high.x - k.low.x) as usize;
+    if n == 0 {
+        return Tally {
+            vertices: 0,
+            indices: 0,
+        };
+    }
+    let own = owned_edges(k, y, z);
+    let all = count_codes(codes, here, there, n);
+    let first = cell_codes(codes, here, there);
+    let last = cell_codes(codes, here + (n - 1), there + (n - 1));
+    let along_x = owned_part(all.x, last.x, n, own.x);
+    let along_y = owned_part(all.y, first.y, n, own.y);
+    let along_z = owned_part(all.z, first.z, n, own.z);
+    let vertices = all.surface as usize;
+    let flat = along_x + along_y;
+    let edges = flat + along_z;
+    let kept_indices = 6 * edges;
+    Tally {
+        vertices,
+        indices: kept_indices,
+    }
+}
+
+// Whether none of the points of a row's cells are negative, or all.
+fn one_sign(k: Block, negative_points: usize) -> bool
+    requires { ⌜ k .low .x ≤ k .high .x ⌝ }
+    ensures { λ r. ⌜ r ≡ oneSign k «negative_points» ⌝ }
+{
+    let all = 4 * (((k.high.x - k.low.x) as usize) + 1);
+    (negative_points == 0) | (negative_points == all)
+}
+
+// The same, given how many of the points of the row's cells are negative: where none are, or all, there is nothing to count.
+fn kept_where_mixed(
+    codes: &[u32],
+    here: usize,
+    there: usize,
+    k: Block,
+    y: u32,
+    z: u32,
+    negative_points: usize,
+) -> Tally
+    requires { ⌜ (k .low .x ≤ k .high .x) × ((y < k .high .y) × (z < k .high .z)) ⌝ }
+    requires { ⌜ rowPoints k ≤ 1024 ⌝ }
+    requires { ⌜ SmallFrom (now codes) here (rowPoints k) × SmallFrom (now codes) there (rowPoints k) ⌝ }
+    ensures { λ r. ⌜ r ≡ keptWhereMixed (now (codes .entry)) here there k y z «negative_points» ⌝ }
+{
+    if one_sign(k, negative_points) {
+        return Tally {
+            vertices: 0,
+            indices: 0,
+        };
+    }
+    count_kept(codes, here, there, k, y, z)
 }
 
 fn count_row(
@@ -269,7 +360,7 @@ fn count_row(
     Tally { vertices, indices }
 }
 
-// The same, given how many of the points of the row's cells are negative: where none are, or all, there is nothing to count.
+// The row counted from the distances, given how many of the points of its cells are negative.
 fn count_where_mixed(
     width: u32,
     lower: &[f32],
@@ -288,16 +379,11 @@ fn count_where_mixed(
     requires { ⌜ «negative_points» ≡ cellsNegatives (gridGiven width lower lower16 lower8) (gridGiven width upper upper16 upper8) k y ⌝ }
     ensures { λ r. ⌜ r ≡ tallyOf (twoLayers (gridBefore width lower lower16 lower8) (gridBefore width upper upper16 upper8) k z) (boxOf k) (flagsOf k) (rowCells (boxOf k) z y) ⌝ }
 {
-    let all = 4 * (((k.high.x - k.low.x) as usize) + 1);
-    let nothing = Tally {
-        vertices: 0,
-        indices: 0,
-    };
-    if negative_points == 0 {
-        return nothing;
-    }
-    if negative_points == all {
-        return nothing;
+    if one_sign(k, negative_points) {
+        return Tally {
+            vertices: 0,
+            indices: 0,
+        };
     }
     count_row(
         width,
@@ -313,8 +399,68 @@ fn count_where_mixed(
     )
 }
 
-// The layer z of cells, from the distances of its lower and its upper points.
-pub fn count_layer(
+// The layer z of cells where a row has at most 1,024 points. The codes of two rows of points stand in the two halves of a list: a row is read to the half
+// of the one before the last.
+fn count_short(
+    width: u32,
+    lower: &[f32],
+    upper: &[f32],
+    lower16: &[i16],
+    upper16: &[i16],
+    lower8: &[i8],
+    upper8: &[i8],
+    k: Block,
+    z: u32,
+) -> Tally
+    requires { ⌜ InLayers (gridGiven width lower lower16 lower8) (gridGiven width upper upper16 upper8) k z ⌝ }
+    requires { ⌜ rowPoints k ≤ 1024 ⌝ }
+    ensures { λ r. ⌜ r ≡ tallyOf (twoLayers (gridBefore width lower lower16 lower8) (gridBefore width upper upper16 upper8) k z) (boxOf k) (flagsOf k) (layerCells (boxOf k) z) ⌝ }
+{
+    let from = k.low.y;
+    let end = k.high.y;
+    let mut vertices = 0usize;
+    let mut indices = 0usize;
+    let mut codes = [0u32; 2048];
+    let mut here = 0usize;
+    let mut near = row_signs::read_row(
+        width,
+        lower,
+        upper,
+        lower16,
+        upper16,
+        lower8,
+        upper8,
+        k,
+        from,
+        &mut codes,
+        0,
+    );
+    for y in from..end {
+        let there = 1024 - here;
+        let far = row_signs::read_row(
+            width,
+            lower,
+            upper,
+            lower16,
+            upper16,
+            lower8,
+            upper8,
+            k,
+            y + 1,
+            &mut codes,
+            there,
+        );
+        let one = kept_where_mixed(&codes, here, there, k, y, z, near + far);
+        vertices += one.vertices;
+        indices += one.indices;
+        near = far;
+        here = there;
+    }
+    Tally { vertices, indices }
+}
+
+// The same where a row has more points, of which nothing is kept.
+fn count_long(
     width: u32,
     lower: &[f32],
     upper: &[f32],
@@ -332,7 +478,8 @@ pub fn count_layer(
     let end = k.high.y;
     let mut vertices = 0usize;
     let mut indices = 0usize;
-    let mut near = row_negatives(
+    let mut codes = [0u32; 1024];
+    let mut near_row = row_signs::read_row(
         width,
         lower,
         upper,
@@ -342,9 +489,11 @@ pub fn count_layer(
         upper8,
         k,
         from,
+        &mut codes,
+        0,
     );
     for y in from..end {
-        let far = row_negatives(
+        let far_row = row_signs::read_row(
             width,
             lower,
             upper,
@@ -354,6 +503,8 @@ pub fn count_layer(
             upper8,
             k,
             y + 1,
+            &mut codes,
+            0,
         );
         let one = count_where_mixed(
             width,
@@ -366,13 +517,35 @@ pub fn count_layer(
             k,
             y,
             z,
-            near + far,
+            near_row + far_row,
         );
         vertices += one.vertices;
         indices += one.indices;
-        near = far;
+        near_row = far_row;
     }
     Tally { vertices, indices }
+}
+
+// The layer z of cells, from the distances of its lower and its upper points.
+pub fn count_layer(
+    width: u32,
+    lower: &[f32],
+    upper: &[f32],
+    lower16: &[i16],
+    upper16: &[i16],
+    lower8: &[i8],
+    upper8: &[i8],
+    k: Block,
+    z: u32,
+) -> Tally
+    requires { ⌜ InLayers (gridGiven width lower lower16 lower8) (gridGiven width upper upper16 upper8) k z ⌝ }
+    ensures { λ r. ⌜ r ≡ tallyOf (twoLayers (gridBefore width lower lower16 lower8) (gridBefore width upper upper16 upper8) k z) (boxOf k) (flagsOf k) (layerCells (boxOf k) z) ⌝ }
+{
+    let points = ((k.high.x - k.low.x) as usize) + 1;
+    if points <= 1024 {
+        return count_short(width, lower, upper, lower16, upper16, lower8, upper8, k, z);
+    }
+    count_long(width, lower, upper, lower16, upper16, lower8, upper8, k, z)
 }
 
 // The layer z of a whole grid, whose parts are lent.

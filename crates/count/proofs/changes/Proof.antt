@@ -11,7 +11,7 @@ use Rattle.rules.specs.Cell.{negative}
 use Rattle.grid.specs.Values.{gridOf}
 use Rattle.grid.proofs.Places.{grid-counted}
 use Rattle.count.specs.Runs.{changesAt, changesRun}
-use Rattle.count.proofs.Runs.{none-counted, one-more}
+use Rattle.row_signs.proofs.Runs.{none-counted, one-more}
 use borrow.Author.Needs.{needs}
 use Rattle.count.proofs.changes.Statement.{statement}
 use Rattle.count.proofs.changes.Tie as tie

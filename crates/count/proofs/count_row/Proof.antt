@@ -11,7 +11,7 @@ use Rattle.grid.proofs.Walks.{cell-spans}
 use Rattle.grid.proofs.Layers.{somewhere}
 use Rattle.grid.proofs.LayerWalks.{Row, row-fits, first-fits}
 use Rattle.count.specs.declared.OwnedEdges.{OwnedEdges}
-use Rattle.count.specs.Runs.{rowLength}
+use Rattle.row_signs.specs.Signs.{rowLength}
 use Rattle.count.proofs.Rows.{Reach, reach, row-tally}
 use Rattle.count.proofs.count_row.Statement.{statement}
 use Rattle.count.proofs.count_row.Tie as tie

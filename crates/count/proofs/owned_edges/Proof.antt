@@ -4,7 +4,8 @@ use mathlib.Core.Bool.{Bool, _&&_, cond, and-true}
 use mathlib.Core.Path.{ap, ap₂, _∙_}
 use lib.Dec.{ltb}
 use Rattle.grid.specs.Block.{boxOf}
-use Rattle.count.specs.Runs.{rowLength, ownedEdges}
+use Rattle.row_signs.specs.Signs.{rowLength}
+use Rattle.count.specs.Runs.{ownedEdges}
 use borrow.Author.Needs.{needs}
 use Rattle.count.proofs.owned_edges.Statement.{statement}
 use Rattle.count.proofs.owned_edges.Tie as tie

@@ -10,7 +10,7 @@ use Rattle.grid.specs.Corners.{sideBetween}
 use Rattle.grid.specs.Signs.{sideNegatives, surfaceAt}
 use Rattle.grid.specs.Values.{gridOf}
 use Rattle.count.specs.Runs.{surfaceRun}
-use Rattle.count.proofs.Runs.{none-counted, one-more}
+use Rattle.row_signs.proofs.Runs.{none-counted, one-more}
 use Rattle.grid.proofs.Places.{grid-counted}
 use Rattle.grid.proofs.Sides.{surface-by-sides}
 use borrow.Author.Needs.{needs}

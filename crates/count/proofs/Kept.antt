@@ -22,10 +22,10 @@ use Rattle.grid.specs.Block.{boxOf, flagsOf}
 use Rattle.grid.specs.Layers.{twoLayers}
 use Rattle.grid.specs.Signs.{surfaceAt}
 use Rattle.grid.proofs.LayerWalks.{Row}
-use Rattle.row_signs.specs.Signs.{rowLength, rowStart, rowPoints, cellsNegatives}
+use Rattle.row_signs.specs.Signs.{rowLength, rowStart, rowPoints, cellsNegatives, oneSign}
 use Rattle.row_signs.specs.Codes.{Kept}
 use Rattle.row_signs.proofs.Runs.{none-counted, run-most}
-use Rattle.row_signs.proofs.Keeping.{mixed-cell}
+use Rattle.row_signs.proofs.Keeping.{code-of, mixed-cell}
 use Rattle.row_signs.proofs.OneSign.{next-row}
 use Rattle.count.specs.declared.OwnedEdges.{OwnedEdges}
 use Rattle.count.specs.declared.CodeCounts.{CodeCounts}
@@ -33,7 +33,6 @@ use Rattle.count.specs.declared.Tally.{Tally}
 use Rattle.count.specs.Runs.{changesAt, ownedEdges}
 use Rattle.count.specs.Tally.{tallyOf}
 use Rattle.count.specs.Kept.{
-  SmallFrom,
   oneOdd,
   surfaceCode,
   xCode,
@@ -43,7 +42,6 @@ use Rattle.count.specs.Kept.{
   countedCodes,
   ownedPart,
   keptTally,
-  oneSign,
   keptWhereMixed,
 }
 use Rattle.count.proofs.Runs.{run-same, without-last, without-first}
@@ -251,25 +249,6 @@ abbrev sign : List Float → ℕ → Bool
 sign l i = negative (getD l i nan)
 
 module _ {lower upper : List Float} {k : Block} {codes : List ℕ} (short : rowPoints k ≤ 1024) where
-  -- the code of a place
-  code-of : {y place : ℕ} → Kept lower upper k y place codes → (j m i : ℕ) → j < rowPoints k → m ≡ place + j → i ≡ rowStart k y + j
-      → getD codes m 0 ≡ one (negative (getD lower i nan)) + 8 * one (negative (getD upper i nan))
-  code-of kept j m i h em ei =
-      ap (λ (p : ℕ). getD codes p 0) em ∙ kept .at short j h
-      ∙ ap (λ (p : ℕ). one (negative (getD lower p nan)) + 8 * one (negative (getD upper p nan))) (sym ei)
-
-  pub kept-small : {y place : ℕ} → place + 1024 ≤ length codes → Kept lower upper k y place codes → SmallFrom codes place (rowPoints k)
-  kept-small {y} {place} room kept =
-      record {
-        held = omega arith;
-        small = λ i low high. omega (
-          arith,
-          code-of kept (i - place) i (rowStart k y + (i - place)) (omega arith) (omega arith) refl,
-          one-most (negative (getD lower (rowStart k y + (i - place)) nan)),
-          one-most (negative (getD upper (rowStart k y + (i - place)) nan)),
-        );
-      }
-
   module _ {y here there : ℕ} (n : Kept lower upper k y here codes) (f : Kept lower upper k (y + 1) there codes) where
     abbrev start : ℕ
     start = rowStart k y
@@ -278,21 +257,21 @@ module _ {lower upper : List Float} {k : Block} {codes : List ℕ} (short : rowP
     x-test j h =
         let p = start + j in
         let q = start + 1 + j in
-        ap₂ oneOdd (code-of n j (here + j) p (omega arith) refl refl) (code-of n (j + 1) (here + j + 1) q (omega arith) (omega arith) (omega arith))
+        ap₂ oneOdd (code-of short n j (here + j) p (omega arith) refl refl) (code-of short n (j + 1) (here + j + 1) q (omega arith) (omega arith) (omega arith))
         ∙ odd-one (sign lower p) (sign upper p) (sign lower q) (sign upper q)
 
     y-test : (j : ℕ) → j < rowLength (boxOf k) - 1 → yCode codes here there (suc j) ≡ changesAt lower (start + 1) lower (start + 1 + k .dims .x) j
     y-test j h =
         let p = start + 1 + j in
         let q = start + 1 + k .dims .x + j in
-        ap₂ oneOdd (code-of n (suc j) (here + suc j) p (omega arith) refl (omega arith))
-        (code-of f (suc j) (there + suc j) q (omega arith) refl (omega (arith, next-row k y)))
+        ap₂ oneOdd (code-of short n (suc j) (here + suc j) p (omega arith) refl (omega arith))
+        (code-of short f (suc j) (there + suc j) q (omega arith) refl (omega (arith, next-row k y)))
         ∙ odd-one (sign lower p) (sign upper p) (sign lower q) (sign upper q)
 
     z-test : (j : ℕ) → j < rowLength (boxOf k) - 1 → zCode codes here (suc j) ≡ changesAt lower (start + 1) upper (start + 1) j
     z-test j h =
         let p = start + 1 + j in
-        ap (λ (a : ℕ). oneOdd a (a / 8)) (code-of n (suc j) (here + suc j) p (omega arith) refl (omega arith)) ∙ odd-eighth (sign lower p) (sign upper p)
+        ap (λ (a : ℕ). oneOdd a (a / 8)) (code-of short n (suc j) (here + suc j) p (omega arith) refl (omega arith)) ∙ odd-eighth (sign lower p) (sign upper p)
 
     module _ {z : ℕ} (r : Row lower upper k y z) where
       -- a row is counted from the codes of its points

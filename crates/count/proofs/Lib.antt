@@ -1,8 +1,6 @@
--- Laws of the counts: runs with a first or last left out, a row by its runs, a row of one sign, a row by its codes, the codes of two rows kept in turn, and
--- how lists add up.
+-- Laws of the counts: runs with a first or last left out, a row by its runs, a row of one sign, a row by its codes, and how lists add up.
 pub mod Runs
 pub mod Rows
 pub mod OneSign
 pub mod Kept
-pub mod Turns
 pub mod Tallies

@@ -1,13 +1,11 @@
 -- A row of cells whose points are all negative, or none of them, counts nothing: no edge of it changes sign, as no cell of it is a surface cell.
 -- Assumes nothing.
-use Prim.Native.Nat.{ℕ, _+_, _*_, _≤_}
+use Prim.Native.Nat.{ℕ, _+_, _≤_}
 use native.Mathlib.Omega.{arith}
-use mathlib.Core.Bool.{Bool, true, false, _||_}
+use mathlib.Core.Bool.{Bool, true, false}
 use mathlib.Core.List.{List}
 use mathlib.Core.Path.{_≡_, refl, sym, ap₂, _∙_}
-use lib.Dec.{eqb}
 use lib.Ieee.{Float, unlike}
-use borrow.Author.Tests.{eqb-true}
 use Rattle.lists.specs.Lists.{one}
 use Rattle.rules.specs.Vertices.{rowCells}
 use Rattle.grid.specs.declared.Block.{Block}
@@ -15,13 +13,12 @@ use Rattle.grid.specs.Block.{boxOf, flagsOf}
 use Rattle.grid.specs.Signs.{surfaceAt}
 use Rattle.grid.specs.Layers.{twoLayers}
 use Rattle.grid.proofs.LayerWalks.{Row}
-use Rattle.row_signs.specs.Signs.{rowLength, rowStart, rowPoints, cellsNegatives}
+use Rattle.row_signs.specs.Signs.{rowLength, rowStart, cellsNegatives, oneSign}
 use Rattle.row_signs.proofs.Runs.{run-never}
-use Rattle.row_signs.proofs.OneSign.{Alike, OneSign, none-negative, all-negative, next-row, no-cell}
+use Rattle.row_signs.proofs.OneSign.{Alike, OneSign, told, next-row, no-cell}
 use Rattle.count.specs.declared.Tally.{Tally}
 use Rattle.count.specs.Runs.{changesAt, changesRun, surfaceRun, ownedEdges}
 use Rattle.count.specs.Tally.{tallyOf}
-use Rattle.count.specs.Kept.{oneSign}
 use Rattle.count.proofs.Rows.{reach, row-tally}
 
 same-sign : (sign : Bool) → one (unlike sign sign) ≡ 0
@@ -56,9 +53,4 @@ module _ {lower upper : List Float} {k : Block} {y z : ℕ} (r : Row lower upper
   -- what a row counts of whose points none are negative, or all
   pub one-sign-counts-nothing : {n : ℕ} → n ≡ cellsNegatives lower upper k y → oneSign k n ≡ true
       → _≡_ {A = Tally} (record { vertices = 0; indices = 0 }) (tallyOf (twoLayers lower upper k z) (boxOf k) (flagsOf k) (rowCells (boxOf k) z y))
-  one-sign-counts-nothing {n} e one-sign = go (eqb n 0) (eqb n (4 * rowPoints k)) refl refl one-sign
-    where
-      go : (none all : Bool) → eqb n 0 ≡ none → eqb n (4 * rowPoints k) ≡ all → (none || all) ≡ true
-          → _≡_ {A = Tally} (record { vertices = 0; indices = 0 }) (tallyOf (twoLayers lower upper k z) (boxOf k) (flagsOf k) (rowCells (boxOf k) z y))
-      go true all h h' t = nothing (none-negative lower upper k y (sym e ∙ eqb-true n 0 h))
-      go false all h h' t = nothing (all-negative lower upper k y (sym e ∙ eqb-true n (4 * rowPoints k) (h' ∙ t)))
+  one-sign-counts-nothing e t = nothing (told e t .1)

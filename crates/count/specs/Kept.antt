@@ -1,24 +1,19 @@
 -- What the code counts in a row from the codes of its points alone: the near points' codes stand in a list from one place on, the far ones' from another.
 -- These follow the code and stand in no contract that another crate sees. Definitions only. Assumes nothing.
-use Prim.Native.Nat.{ℕ, suc, _+_, _-_, _*_, _%_, _/_, _≤_, _<_}
-use mathlib.Core.Bool.{Bool, _||_, cond}
+use Prim.Native.Nat.{ℕ, suc, _+_, _-_, _*_, _%_, _/_}
+use mathlib.Core.Bool.{Bool, cond}
 use mathlib.Core.List.{List}
 use lib.Dec.{eqb}
-use lib.ListN.{length, getD}
+use lib.ListN.{getD}
 use Rattle.lists.specs.Lists.{one, many, run}
 use Rattle.grid.specs.declared.Block.{Block}
 use Rattle.grid.specs.Block.{boxOf, flagsOf}
-use Rattle.row_signs.specs.Signs.{rowLength, rowPoints}
+use Rattle.row_signs.specs.Signs.{rowLength, oneSign}
 use Rattle.row_signs.specs.Codes.{fourCodes, mixedCode}
 use Rattle.count.specs.declared.OwnedEdges.{OwnedEdges}
 use Rattle.count.specs.declared.CodeCounts.{CodeCounts}
 use Rattle.count.specs.declared.Tally.{Tally}
 use Rattle.count.specs.Runs.{ownedEdges}
-
--- n numbers from p on are in the list, and none of them is more than a code can be
-pub record SmallFrom (codes : List ℕ) (p n : ℕ) : Type 0 where
-  pub held : p + n ≤ length codes
-  pub small : (i : ℕ) → p ≤ i → i < p + n → getD codes i 0 ≤ 9
 
 -- whether exactly one of two codes is odd, which is that of a negative lower point
 abbrev pub oneOdd : ℕ → ℕ → Bool
@@ -70,10 +65,6 @@ keptTally codes here there n own =
           * (many (xCode codes here) (run (own .x)) + many (λ (j : ℕ). yCode codes here there (suc j)) (run (own .y))
           + many (λ (j : ℕ). zCode codes here (suc j)) (run (own .z)));
     }
-
--- whether none of the points of a row's cells are negative, or all, by how many are
-abbrev pub oneSign : Block → ℕ → Bool
-oneSign k n = eqb n 0 || eqb n (4 * rowPoints k)
 
 -- the count of the row (y, z), where it is not told to be nothing by how many of its points are negative
 unfoldable pub keptWhereMixed : List ℕ → ℕ → ℕ → Block → ℕ → ℕ → ℕ → Tally

@@ -13,8 +13,9 @@ ghost use Rattle.grid.specs.Block.{boxOf, flagsOf, fieldOf};
 ghost use Rattle.grid.specs.Inside.{Inside};
 ghost use Rattle.grid.specs.Layers.{twoLayers, InLayers};
 ghost use Rattle.row_signs.specs.Signs.{rowLength, rowPoints, cellsNegatives};
+ghost use Rattle.row_signs.specs.Codes.{SmallFrom};
 ghost use Rattle.count.specs.Runs.{surfaceRun, changesRun, ownedEdges};
-ghost use Rattle.count.specs.Kept.{SmallFrom, cellCodes, countedCodes, ownedPart, keptTally, oneSign, keptWhereMixed};
+ghost use Rattle.count.specs.Kept.{cellCodes, countedCodes, ownedPart, keptTally, keptWhereMixed};
 ghost use Rattle.count.specs.Tally.{tallyOf, counts};
 ghost use Rattle.grid.specs.Values.{gridGiven, gridBefore, Wholes};
 use grid::Block;
@@ -248,15 +249,6 @@ fn count_kept(codes: &[u32], here: usize, there: usize, k: Block, y: u32, z: u32
     }
 }
 
-// Whether none of the points of a row's cells are negative, or all.
-fn one_sign(k: Block, negative_points: usize) -> bool
-    requires { ⌜ k .low .x ≤ k .high .x ⌝ }
-    ensures { λ r. ⌜ r ≡ oneSign k «negative_points» ⌝ }
-{
-    let all = 4 * (((k.high.x - k.low.x) as usize) + 1);
-    (negative_points == 0) | (negative_points == all)
-}
-
 // The same, given how many of the points of the row's cells are negative: where none are, or all, there is nothing to count.
 fn kept_where_mixed(
     codes: &[u32],
@@ -272,7 +264,7 @@ fn kept_where_mixed(
     requires { ⌜ SmallFrom (now codes) here (rowPoints k) × SmallFrom (now codes) there (rowPoints k) ⌝ }
     ensures { λ r. ⌜ r ≡ keptWhereMixed (now (codes .entry)) here there k y z «negative_points» ⌝ }
 {
-    if one_sign(k, negative_points) {
+    if row_signs::one_sign(k, negative_points) {
         return Tally {
             vertices: 0,
             indices: 0,
@@ -379,7 +371,7 @@ fn count_where_mixed(
     requires { ⌜ «negative_points» ≡ cellsNegatives (gridGiven width lower lower16 lower8) (gridGiven width upper upper16 upper8) k y ⌝ }
     ensures { λ r. ⌜ r ≡ tallyOf (twoLayers (gridBefore width lower lower16 lower8) (gridBefore width upper upper16 upper8) k z) (boxOf k) (flagsOf k) (rowCells (boxOf k) z y) ⌝ }
 {
-    if one_sign(k, negative_points) {
+    if row_signs::one_sign(k, negative_points) {
         return Tally {
             vertices: 0,
             indices: 0,

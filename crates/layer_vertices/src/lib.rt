@@ -17,7 +17,7 @@ ghost use Rattle.grid.specs.Inside.{PointInside};
 ghost use Rattle.grid.specs.Layers.{inLayer, InLayers};
 ghost use Rattle.grid.specs.Values.{gridGiven, gridBefore, layersGiven, layersBefore};
 ghost use Rattle.row_signs.specs.Signs.{rowLength, rowStart, cellsNegatives};
-ghost use Rattle.row_signs.specs.Codes.{Kept, Small, mixedCode};
+ghost use Rattle.row_signs.specs.Codes.{Kept, SmallFrom, mixedCode};
 ghost use Rattle.layer_estimates.specs.Estimates.{RoomFor};
 ghost use Rattle.layer_vertices.specs.Marked.{marked, lastEntry, Room, InPart};
 ghost use Rattle.layer_vertices.specs.Cells.{pointsOf, hasVertex, blanked, found, Passes, RoomToFind, layerFound, classOf, classes, codeClasses, noneMarked, Numbering, Numbered};
@@ -121,8 +121,7 @@ fn code_entry(sum: u32) -> u32
 
 // n cells between two rows of points whose codes are kept, the first one's entry being at `at`.
 fn class_codes(codes: &[u32], here: usize, there: usize, at: usize, n: usize, map: &mut [u32])
-    requires { ⌜ (here + n < length (now codes)) × (there + n < length (now codes)) ⌝ }
-    requires { ⌜ (Small (now codes) here (n + 1) × Small (now codes) there (n + 1)) ⌝ }
+    requires { ⌜ SmallFrom (now codes) here (n + 1) × SmallFrom (now codes) there (n + 1) ⌝ }
     requires { ⌜ at + n ≤ length (now map) ⌝ }
     ensures { λ _. ⌜ now (map .exit) ≡ sets (now (map .entry)) at (codeClasses (now (codes .entry)) here there n) ⌝ }
 {
@@ -427,12 +426,7 @@ fn find_where_mixed(
     ensures { λ r. ⌜ Passes (point (k .dims)) (hasVertex (layersBefore width lower upper lower16 upper16 lower8 upper8 k z) (boxOf k)) next
         (findsBefore cells strides map) (rowCells (pointsOf (boxOf k)) z y) r (findsAfter cells strides map) ⌝ }
 {
-    let all = 4 * (((k.high.x - k.low.x) as usize) + 1);
-    if negative_points == 0 {
-        clear_row(k, y, map);
-        return next;
-    }
-    if negative_points == all {
+    if row_signs::one_sign(k, negative_points) {
         clear_row(k, y, map);
         return next;
     }

@@ -93,6 +93,8 @@ use Rattle.stores.proofs.put_three.Kinds as put-three-kinds
 use Rattle.stores.proofs.put_three.Reads as put-three
 use Rattle.stores.proofs.put_six.Kinds as put-six-kinds
 use Rattle.stores.proofs.put_six.Reads as put-six
+use Rattle.row_signs.proofs.one_sign.Kinds as one-sign-kinds
+use Rattle.row_signs.proofs.one_sign.Reads as one-sign
 use Rattle.row_signs.proofs.read_row.Kinds as read-row-kinds
 use Rattle.row_signs.proofs.read_row.Reads as read-row
 use Rattle.layer_estimates.proofs.estimate_layer.Kinds as estimate-layer-kinds
@@ -175,6 +177,9 @@ side-between-once κs a o o' l l' = let s = l ∙ sym l' in λ i. record { resul
 
 pub corners-once : OneOutcome 0 corners-kinds.ps corners-kinds.r corners.Learnt
 corners-once κs a o o' l l' = let s = l ∙ sym l' in λ i. record { result = s i; last = o .last }
+
+pub one-sign-once : OneOutcome 0 one-sign-kinds.ps one-sign-kinds.r one-sign.Learnt
+one-sign-once κs a o o' l l' = let s = l ∙ sym l' in λ i. record { result = s i; last = o .last }
 
 pub count-layer-once : OneOutcome 6 count-layer-kinds.ps count-layer-kinds.r count-layer.Learnt
 count-layer-once κs a o o' l l' = let s = l ∙ sym l' in λ i. record { result = s i; last = o .last }

@@ -22,7 +22,7 @@ use Rattle.grid.specs.Corners.{sideBetween, eightOf}
 use Rattle.grid.specs.Signs.{sideNegatives, surfaceAt}
 use Rattle.grid.proofs.Sides.{both-sides}
 use Rattle.row_signs.specs.Signs.{negativeAt, rowLength, rowStart, rowPoints}
-use Rattle.row_signs.specs.Codes.{codeAt, codesRun, rowKept, Kept, Half, fourCodes, mixedCode, Small}
+use Rattle.row_signs.specs.Codes.{codeAt, codesRun, rowKept, Kept, Half, fourCodes, mixedCode, SmallFrom}
 use Rattle.row_signs.proofs.Stores.{long, stored-at, stored-apart}
 use Rattle.row_signs.proofs.OneSign.{next-row}
 
@@ -71,14 +71,25 @@ module _ {lower upper : List Float} {k : Block} {y from : ℕ} {codes codes' : L
       there short j h (inl a) = inl (omega arith)
       there short j h (inr a) = inr (omega (arith, row-long))
 
-pub kept-small : {lower upper : List Float} {k : Block} {y place : ℕ} {codes : List ℕ} → rowPoints k ≤ 1024 → Kept lower upper k y place codes → Small codes place (rowPoints k)
-kept-small {lower} {upper} {k} {y} short kept j h =
-    omega (
-      arith,
-      kept .at short j h,
-      one-most (negativeAt lower (rowStart k y) j),
-      one-most (negativeAt upper (rowStart k y) j),
-    )
+-- the code of a place, by the signs of its two points
+pub code-of : {lower upper : List Float} {k : Block} {codes : List ℕ} {y place : ℕ} → rowPoints k ≤ 1024 → Kept lower upper k y place codes → (j m i : ℕ)
+    → j < rowPoints k → m ≡ place + j → i ≡ rowStart k y + j → getD codes m 0 ≡ one (negative (getD lower i nan)) + 8 * one (negative (getD upper i nan))
+code-of {lower} {upper} {codes = codes} short kept j m i h em ei =
+    ap (λ (p : ℕ). getD codes p 0) em ∙ kept .at short j h
+    ∙ ap (λ (p : ℕ). one (negative (getD lower p nan)) + 8 * one (negative (getD upper p nan))) (sym ei)
+
+pub kept-small : {lower upper : List Float} {k : Block} {codes : List ℕ} {y place : ℕ} → rowPoints k ≤ 1024 → place + 1024 ≤ length codes
+    → Kept lower upper k y place codes → SmallFrom codes place (rowPoints k)
+kept-small {lower} {upper} {k} {y = y} {place} short room kept =
+    record {
+      held = omega arith;
+      small = λ i low high. omega (
+        arith,
+        code-of short kept (i - place) i (rowStart k y + (i - place)) (omega arith) (omega arith) refl,
+        one-most (negative (getD lower (rowStart k y + (i - place)) nan)),
+        one-most (negative (getD upper (rowStart k y + (i - place)) nan)),
+      );
+    }
 
 -- ---- two halves
 
@@ -117,16 +128,6 @@ mixed-counts l u hl hu = elim (less-or-not (l + u) 1) [ inl h ↦ none h | inr h
 
 module _ {lower upper : List Float} {k : Block} {y near far : ℕ} {codes : List ℕ} (short : rowPoints k ≤ 1024) (n : Kept lower upper k y near codes)
     (f : Kept lower upper k (y + 1) far codes) where
-  sign : List Float → ℕ → ℕ
-  sign l i = one (negative (getD l i nan))
-
-  -- the code of a place, by the signs of its two points
-  code-of : {y' place : ℕ} → Kept lower upper k y' place codes → (j m i : ℕ) → j < rowPoints k → m ≡ place + j → i ≡ rowStart k y' + j
-      → getD codes m 0 ≡ one (negative (getD lower i nan)) + 8 * one (negative (getD upper i nan))
-  code-of {y'} {place} kept j m i h em ei =
-      ap (λ (p : ℕ). getD codes p 0) em ∙ kept .at short j h
-      ∙ ap (λ (p : ℕ). one (negative (getD lower p nan)) + 8 * one (negative (getD upper p nan))) (sym ei)
-
   -- whether the j-th cell of the row is a surface cell
   pub mixed-cell : (j : ℕ) → j < rowLength (boxOf k) → mixedCode (fourCodes codes near far j) ≡ surfaceAt lower upper (rowStart k y) (k .dims .x) j
   mixed-cell j h =
@@ -135,10 +136,10 @@ module _ {lower upper : List Float} {k : Block} {y near far : ℕ} {codes : List
       let e = next-row k y in
       let low = sideBetween lower upper (start + j) row in
       let high = sideBetween lower upper (start + j + 1) row in
-      let a = code-of n j (near + j) (start + j) (omega arith) refl refl in
-      let b = code-of n (j + 1) (near + j + 1) (start + j + 1) (omega arith) (omega arith) (omega arith) in
-      let c = code-of f j (far + j) (start + j + row) (omega arith) refl (omega arith) in
-      let d = code-of f (j + 1) (far + j + 1) (start + j + 1 + row) (omega arith) (omega arith) (omega arith) in
+      let a = code-of short n j (near + j) (start + j) (omega arith) refl refl in
+      let b = code-of short n (j + 1) (near + j + 1) (start + j + 1) (omega arith) (omega arith) (omega arith) in
+      let c = code-of short f j (far + j) (start + j + row) (omega arith) refl (omega arith) in
+      let d = code-of short f (j + 1) (far + j + 1) (start + j + 1 + row) (omega arith) (omega arith) (omega arith) in
       let l : ℕ = one (negative (low .a)) + one (negative (low .b)) + one (negative (high .a)) + one (negative (high .b)) in
       let u : ℕ = one (negative (low .c)) + one (negative (low .d)) + one (negative (high .c)) + one (negative (high .d)) in
       let most-l : l ≤ 4 = omega (arith, one-most (negative (low .a)), one-most (negative (low .b)), one-most (negative (high .a)), one-most (negative (high .b))) in

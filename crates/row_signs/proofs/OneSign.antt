@@ -3,14 +3,15 @@
 use Prim.Native.Nat.{ℕ, _+_, _-_, _*_, _≤_, _<_}
 use native.Mathlib.Nat.{add-assoc, mul-add, mul-one}
 use native.Mathlib.Omega.{arith}
-use mathlib.Core.Bool.{Bool, true, false, _&&_}
+use mathlib.Core.Bool.{Bool, true, false, _&&_, _||_}
 use mathlib.Core.List.{List}
 use mathlib.Core.Path.{_≡_, refl, sym, ap, _∙_}
 use mir.Syntax.{w64}
 use mir.Val.{Fits}
-use lib.Dec.{leb}
+use lib.Dec.{leb, eqb}
 use lib.ListN.{length, getD}
 use lib.Ieee.{Float, nan}
+use borrow.Author.Tests.{eqb-true}
 use Rattle.lists.specs.Lists.{one}
 use Rattle.rules.specs.Cell.{negative}
 use Rattle.grid.specs.declared.Block.{Block}
@@ -21,7 +22,7 @@ use Rattle.grid.specs.Layers.{InLayers}
 use Rattle.grid.proofs.Bounds.{small}
 use Rattle.grid.proofs.Layers.{in-order, layers-fit}
 use Rattle.grid.proofs.Sides.{surface-by-sides}
-use Rattle.row_signs.specs.Signs.{negativeAt, negativesRun, rowLength, rowStart, rowPoints, rowNegatives, cellsNegatives}
+use Rattle.row_signs.specs.Signs.{negativeAt, negativesRun, rowLength, rowStart, rowPoints, rowNegatives, cellsNegatives, oneSign}
 use Rattle.row_signs.proofs.Runs.{run-most, run-none, run-all}
 
 -- ---- a run of distances of one sign
@@ -55,7 +56,7 @@ negatives-few : (lower upper : List Float) (k : Block) (y : ℕ) → rowNegative
 unfolding rowNegatives
 negatives-few lower upper k y = omega (arith, run-most (negativeAt lower (rowStart k y)) (rowPoints k), run-most (negativeAt upper (rowStart k y)) (rowPoints k))
 
-pub none-negative : (lower upper : List Float) (k : Block) (y : ℕ) → cellsNegatives lower upper k y ≡ 0 → OneSign false lower upper k y
+none-negative : (lower upper : List Float) (k : Block) (y : ℕ) → cellsNegatives lower upper k y ≡ 0 → OneSign false lower upper k y
 unfolding rowNegatives
 none-negative lower upper k y e =
     record {
@@ -65,7 +66,7 @@ none-negative lower upper k y e =
       far-upper = none-alike upper (rowStart k (y + 1)) (rowPoints k) (omega arith);
     }
 
-pub all-negative : (lower upper : List Float) (k : Block) (y : ℕ) → cellsNegatives lower upper k y ≡ 4 * rowPoints k → OneSign true lower upper k y
+all-negative : (lower upper : List Float) (k : Block) (y : ℕ) → cellsNegatives lower upper k y ≡ 4 * rowPoints k → OneSign true lower upper k y
 unfolding rowNegatives
 all-negative lower upper k y e =
     let most : (l : List Float) (y' : ℕ) → negativesRun l (rowStart k y') (rowPoints k) ≤ rowPoints k = λ l y'. run-most (negativeAt l (rowStart k y')) (rowPoints k) in
@@ -79,6 +80,14 @@ all-negative lower upper k y e =
       far-lower = all-alike lower (rowStart k (y + 1)) (rowPoints k) (omega arith);
       far-upper = all-alike upper (rowStart k (y + 1)) (rowPoints k) (omega arith);
     }
+
+-- told by how many are negative
+pub told : {lower upper : List Float} {k : Block} {y n : ℕ} → n ≡ cellsNegatives lower upper k y → oneSign k n ≡ true → (sign : Bool) × OneSign sign lower upper k y
+told {lower} {upper} {k} {y} {n} e t = go (eqb n 0) (eqb n (4 * rowPoints k)) refl refl t
+  where
+    go : (none all : Bool) → eqb n 0 ≡ none → eqb n (4 * rowPoints k) ≡ all → (none || all) ≡ true → (sign : Bool) × OneSign sign lower upper k y
+    go true all h h' t' = (false, none-negative lower upper k y (sym e ∙ eqb-true n 0 h))
+    go false all h h' t' = (true, all-negative lower upper k y (sym e ∙ eqb-true n (4 * rowPoints k) (h' ∙ t')))
 
 -- eight corners of one sign
 no-surface : (sign : Bool) → 0 ≡ one (leb 1 (4 * one sign + 4 * one sign) && leb (4 * one sign + 4 * one sign) 7)

@@ -41,6 +41,7 @@ fourCodes codes near far j = (getD codes (near + j) 0 + getD codes (near + j + 1
 abbrev pub mixedCode : ℕ → Bool
 mixedCode sum = not (eqb sum 0) && not (eqb sum 36)
 
--- no code of n places is above 9, so that four of them are added up in 32 bits
-abbrev pub Small : List ℕ → ℕ → ℕ → Type 0
-Small codes place n = (j : ℕ) → j < n → getD codes (place + j) 0 ≤ 9
+-- n numbers from p on are in the list, and none of them is more than a code can be: four of them are added up in 32 bits
+pub record SmallFrom (codes : List ℕ) (p n : ℕ) : Type 0 where
+  pub held : p + n ≤ length codes
+  pub small : (i : ℕ) → p ≤ i → i < p + n → getD codes i 0 ≤ 9

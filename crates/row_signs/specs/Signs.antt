@@ -1,8 +1,9 @@
 -- The negatives of a run of distances, and of a row of points in two layers. These follow the code and stand in no contract that a user sees.
 -- Definitions only. Assumes nothing.
 use Prim.Native.Nat.{ℕ, _+_, _-_, _*_}
-use mathlib.Core.Bool.{Bool}
+use mathlib.Core.Bool.{Bool, _||_}
 use mathlib.Core.List.{List}
+use lib.Dec.{eqb}
 use lib.ListN.{getD}
 use lib.Ieee.{Float, nan}
 use Rattle.lists.specs.Lists.{many, run}
@@ -35,3 +36,7 @@ rowNegatives lower upper k y = negativesRun lower (rowStart k y) (rowPoints k) +
 
 abbrev pub cellsNegatives : List Float → List Float → Block → ℕ → ℕ
 cellsNegatives lower upper k y = rowNegatives lower upper k y + rowNegatives lower upper k (y + 1)
+
+-- whether none of the points of a row's cells are negative, or all, by how many are
+abbrev pub oneSign : Block → ℕ → Bool
+oneSign k n = eqb n 0 || eqb n (4 * rowPoints k)

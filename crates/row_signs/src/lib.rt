@@ -6,7 +6,7 @@ ghost use Prim.Native.Nat.{_+_, _≤_};
 ghost use lib.ListN.{length};
 ghost use lib.Seq.{sets};
 ghost use Rattle.grid.specs.Values.{gridGiven, gridBefore};
-ghost use Rattle.row_signs.specs.Signs.{negativesRun, rowStart, rowPoints, rowNegatives};
+ghost use Rattle.row_signs.specs.Signs.{negativesRun, rowStart, rowPoints, rowNegatives, oneSign};
 ghost use Rattle.row_signs.specs.Codes.{codesRun, rowKept};
 use grid::Block;
 use grid::signs::counted;
@@ -109,4 +109,13 @@ pub fn read_row(
     let below = negatives(width, lower, lower16, lower8, at, points);
     let above = negatives(width, upper, upper16, upper8, at, points);
     (below as usize) + (above as usize)
+}
+
+// Whether none of the points of a row's cells are negative, or all, given how many are.
+pub fn one_sign(k: Block, negative_points: usize) -> bool
+    requires { ⌜ k .low .x ≤ k .high .x ⌝ }
+    ensures { λ r. ⌜ r ≡ oneSign k «negative_points» ⌝ }
+{
+    let all = 4 * (((k.high.x - k.low.x) as usize) + 1);
+    (negative_points == 0) | (negative_points == all)
 }

@@ -7,7 +7,8 @@ use Rattle.lists.specs.Lists.{one, many, run}
 use Rattle.lists.proofs.Tests.{one-most}
 use Rattle.row_signs.proofs.Runs.{none-counted, one-more}
 use Rattle.count.specs.declared.CodeCounts.{CodeCounts}
-use Rattle.count.specs.Kept.{SmallFrom, surfaceCode, xCode, yCode, zCode, cellCodes, countedCodes}
+use Rattle.row_signs.specs.Codes.{SmallFrom}
+use Rattle.count.specs.Kept.{surfaceCode, xCode, yCode, zCode, cellCodes, countedCodes}
 use borrow.Author.Needs.{needs}
 use Rattle.count.proofs.count_codes.Statement.{statement}
 use Rattle.count.proofs.count_codes.Tie as tie

@@ -7,7 +7,8 @@ use borrow.Author.Needs.{needs}
 use Rattle.grid.specs.Block.{boxOf, flagsOf}
 use Rattle.row_signs.specs.Signs.{rowLength}
 use Rattle.count.specs.declared.OwnedEdges.{OwnedEdges}
-use Rattle.count.specs.Kept.{SmallFrom, ownedPart}
+use Rattle.row_signs.specs.Codes.{SmallFrom}
+use Rattle.count.specs.Kept.{ownedPart}
 use Rattle.count.proofs.Kept.{owned-of, Counted, kept-some, kept-none, Few, few-of, part-most}
 use Rattle.count.proofs.count_kept.Statement.{statement}
 use Rattle.count.proofs.count_kept.Tie as tie

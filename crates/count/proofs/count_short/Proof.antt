@@ -15,9 +15,9 @@ use Rattle.grid.proofs.Layers.{somewhere}
 use Rattle.grid.proofs.LayerWalks.{Row, row-of, layer-begun}
 use Rattle.row_signs.specs.Signs.{rowNegatives, cellsNegatives}
 use Rattle.row_signs.proofs.OneSign.{points-lent, cells-few}
-use Rattle.row_signs.proofs.Keeping.{half-fits}
-use Rattle.count.proofs.Kept.{kept-small, kept-where-mixed}
-use Rattle.count.proofs.Turns.{Holds, Turn, begun, is-free, turned}
+use Rattle.row_signs.proofs.Keeping.{half-fits, kept-small}
+use Rattle.row_signs.proofs.Turns.{Holds, Turn, begun, is-free, turned}
+use Rattle.count.proofs.Kept.{kept-where-mixed}
 use Rattle.count.proofs.Tallies.{Counts, counts-none, counts-all, Step, step}
 use borrow.Author.Needs.{needs}
 use Rattle.count.proofs.count_short.Statement.{statement}

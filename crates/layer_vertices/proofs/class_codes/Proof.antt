@@ -1,11 +1,10 @@
 -- The invariant: the row's part of the map is what the first j cells leave. No code is above 9, so that the sum of four fits. Assumes nothing.
-use Prim.Native.Nat.{ℕ, _+_, _≤_, _<_, _-_}
-use mathlib.Core.List.{List}
-use mathlib.Core.Path.{_≡_, ap, subst, _∙_}
+use Prim.Native.Nat.{ℕ, _+_, _≤_, _-_}
+use mathlib.Core.Path.{_≡_, ap, _∙_}
 use native.Mathlib.Omega.{arith}
 use lib.ListN.{length, getD}
 use lib.Seq.{sets, length-sets}
-use Rattle.row_signs.specs.Codes.{Small, fourCodes, mixedCode}
+use Rattle.row_signs.specs.Codes.{fourCodes, mixedCode}
 use Rattle.row_signs.proofs.Stores.{stores-none}
 use Rattle.layer_vertices.specs.Cells.{classOf, codeClasses}
 use Rattle.layer_vertices.proofs.Rows.{coded-more}
@@ -27,19 +26,23 @@ entry-of c = c .before .before .before
 abbrev turn-of : tie.After-code-entry Inv-loop μ-loop → tie.In-loop Inv-loop μ-loop
 turn-of c = c .before .before .before .before .before
 
--- the codes of two neighbour places
-two-small : (codes : List ℕ) (place n j : ℕ) → Small codes place (n + 1) → j < n → (getD codes (place + j) 0 ≤ 9) × (getD codes (place + j + 1) 0 ≤ 9)
-two-small codes place n j small h =
-    let next : place + (j + 1) ≡ place + j + 1 = omega arith in
-    (small j (omega arith), subst (λ (i : ℕ). getD codes i 0 ≤ 9) next (small (j + 1) (omega arith)))
-
 near-small : (t : tie.In-loop Inv-loop μ-loop) → let a = entry-of (t .before) .args in let j = t .before .loop .j in
     (getD (a .codes .now) (a .here + j) 0 ≤ 9) × (getD (a .codes .now) (a .here + j + 1) 0 ≤ 9)
-near-small t = let s = entry-of (t .before) in let a = s .args in two-small (a .codes .now) (a .here) (a .n) (t .before .loop .j) (s .pre .1 .0 .0) (t .loop-test .taken)
+near-small t =
+    let s = entry-of (t .before) in
+    let i = s .args .here + t .before .loop .j in
+    let small = s .pre .0 .0 .small in
+    let h = t .loop-test .taken in
+    (small i (omega arith) (omega arith), small (i + 1) (omega arith) (omega arith))
 
 far-small : (t : tie.In-loop Inv-loop μ-loop) → let a = entry-of (t .before) .args in let j = t .before .loop .j in
     (getD (a .codes .now) (a .there + j) 0 ≤ 9) × (getD (a .codes .now) (a .there + j + 1) 0 ≤ 9)
-far-small t = let s = entry-of (t .before) in let a = s .args in two-small (a .codes .now) (a .there) (a .n) (t .before .loop .j) (s .pre .1 .0 .1) (t .loop-test .taken)
+far-small t =
+    let s = entry-of (t .before) in
+    let i = s .args .there + t .before .loop .j in
+    let small = s .pre .0 .1 .small in
+    let h = t .loop-test .taken in
+    (small i (omega arith) (omega arith), small (i + 1) (omega arith) (omega arith))
 
 long : (c : tie.At-loop Inv-loop μ-loop) → length (c .loop .map) ≡ length (entry-of c .args .map .now)
 long c =

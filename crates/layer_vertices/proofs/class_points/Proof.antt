@@ -54,7 +54,7 @@ class-codes-requires c κs =
     let far = s .pre .1 .1 .1 .1 in
     let rooms = s .pre .1 .1 .0 in
     let n = i .if1 .taken in
-    ((omega arith, omega arith), ((kept-small (omega arith) near, kept-small (omega arith) far), s .pre .0 .1))
+    ((kept-small (omega arith) (rooms .0) near, kept-small (omega arith) (rooms .1) far), s .pre .0 .1)
 
 same-length : tie.Need-same-length
 same-length c = search needs

@@ -1,13 +1,12 @@
 -- The invariant: the lists are what the rows before y leave, and the row y of points is kept, with the number of its negatives; after the last row of
 -- cells and the one behind it, the lists are what the rules say of the layer. Assumes nothing.
-use Prim.Native.Nat.{ℕ, _+_, _-_, _*_, _≤_}
+use Prim.Native.Nat.{ℕ, _+_, _-_, _*_}
 use native.Mathlib.Nat.{le-refl}
 use mathlib.Core.List.{List, _++_}
-use mathlib.Core.Logic.{inl}
 use mathlib.Core.Path.{_≡_, refl, sym, ap, ap₂, _∙_}
 use native.Mathlib.Omega.{arith}
 use lib.Ieee.{Float}
-use lib.ListN.{length, replicate, length-replicate}
+use lib.ListN.{length, replicate}
 use lib.Seq.{length-sets}
 use Rattle.rules.specs.Grid.{Field}
 use Rattle.rules.specs.Vertices.{rowCells}
@@ -20,9 +19,9 @@ use Rattle.grid.proofs.Walks.{Counting, AtRow, ended}
 use Rattle.grid.proofs.Layers.{layers-fit}
 use Rattle.grid.proofs.LayerWalks.{row-of, layer-begun}
 use Rattle.row_signs.specs.Signs.{rowNegatives}
-use Rattle.row_signs.specs.Codes.{Kept, Half}
 use Rattle.row_signs.proofs.OneSign.{points-lent, cells-few}
-use Rattle.row_signs.proofs.Keeping.{Reads, kept-length, just-read, still-kept, half-fits, other-half, halves-apart}
+use Rattle.row_signs.proofs.Keeping.{half-fits}
+use Rattle.row_signs.proofs.Turns.{Holds, Turn, begun, is-free, turned}
 use Rattle.layer_vertices.specs.declared.Next.{Next}
 use Rattle.layer_vertices.specs.Cells.{finds, pointsOf, hasVertex, Passes}
 use Rattle.layer_vertices.proofs.Points.{layer-closes, side-y}
@@ -38,10 +37,8 @@ Inv-loop width lower upper lower16 upper16 lower8 upper8 k z cells₀ strides₀
     let u = gridOf width upper upper16 upper8 in
     Counting from end y
     × Passes (point (k .dims)) (hasVertex (twoLayers l u k z) (boxOf k)) state₀ (finds cells₀ strides₀ map₀) (layerTo (pointsOf (boxOf k)) z y) state (finds cells strides map)
-    × Half here
     × (near ≡ rowNegatives l u k y)
-    × (length codes ≡ 2048)
-    × Kept l u k y here codes
+    × Holds l u k y here codes
 
 abbrev μ-loop : tie.MeasureT-loop
 μ-loop width lower upper lower16 upper16 lower8 upper8 k z cells₀ strides₀ map₀ from end first codes₀ here₀ near₀ state₀ y₀ cells strides map codes here near state y = end - y
@@ -78,34 +75,12 @@ here c = row-of (entry-of (c .before) .pre .0) (c .before .loop .inv .0) (c .loo
 abbrev begin-of : tie.After-read-row Inv-loop μ-loop → tie.Start Inv-loop μ-loop
 begin-of c = c .before .before .before .before .before .before .before
 
-abbrev first-codes : tie.After-read-row Inv-loop μ-loop → List ℕ
-first-codes c = c .read-row .last .1 .1 .1 .1 .1 .1 .1 .1 .1 .0
+abbrev codes-of : tie.After-read-row2 Inv-loop μ-loop → List ℕ
+codes-of c = c .read-row2 .last .1 .1 .1 .1 .1 .1 .1 .1 .1 .0
 
-first-read : (c : tie.After-read-row Inv-loop μ-loop) → let s = begin-of c in let a = s .args in
-    Reads (lower-of s) (upper-of s) (a .k) (a .k .low .y) 0 (replicate 2048 0) (first-codes c)
-first-read c = record { same = c .read-row .ensures .1 }
-
-abbrev next-codes : tie.After-read-row2 Inv-loop μ-loop → List ℕ
-next-codes c = c .read-row2 .last .1 .1 .1 .1 .1 .1 .1 .1 .1 .0
-
-next-read : (c : tie.After-read-row2 Inv-loop μ-loop) → let l = turn-of c .before in let s = entry-of l in let a = s .args in
-    Reads (lower-of s) (upper-of s) (a .k) (l .loop .y + 1) (1024 - l .loop .here) (l .loop .codes) (next-codes c)
-next-read c = record { same = c .read-row2 .ensures .1 }
-
-next-room : (c : tie.In-loop Inv-loop μ-loop) → 1024 - c .before .loop .here + 1024 ≤ length (c .before .loop .codes)
-next-room c = let w = c .before .loop in omega (arith, half-fits (other-half (w .inv .2)), w .inv .4)
-
-next-long : (c : tie.After-read-row2 Inv-loop μ-loop) → length (next-codes c) ≡ 2048
-next-long c = kept-length (next-read c) ∙ turn-of c .before .loop .inv .4
-
--- the row y is kept still, and the row y + 1 now
-near-kept : (c : tie.After-read-row2 Inv-loop μ-loop) → let l = turn-of c .before in let s = entry-of l in
-    Kept (lower-of s) (upper-of s) (s .args .k) (l .loop .y) (l .loop .here) (next-codes c)
-near-kept c = let w = turn-of c .before .loop in still-kept (next-read c) (w .inv .5) (halves-apart (w .inv .2))
-
-far-kept : (c : tie.After-read-row2 Inv-loop μ-loop) → let l = turn-of c .before in let s = entry-of l in
-    Kept (lower-of s) (upper-of s) (s .args .k) (l .loop .y + 1) (1024 - l .loop .here) (next-codes c)
-far-kept c = just-read (next-read c) (next-room (turn-of c))
+both : (c : tie.After-read-row2 Inv-loop μ-loop) → let l = turn-of c .before in let s = entry-of l in
+    Turn (lower-of s) (upper-of s) (s .args .k) (l .loop .y) (l .loop .here) (codes-of c)
+both c = turned (turn-of c .before .loop .inv .3) (c .read-row2 .ensures .1)
 
 -- ---- the needs
 
@@ -124,14 +99,12 @@ loop-holds c =
     let s = begin-of r in (
       layer-begun (s .pre .0),
       passes-none (layer-begins (pointsOf (boxOf (s .args .k))) (s .args .z)),
-      inl refl,
       r .read-row .ensures .0,
-      kept-length (first-read r) ∙ length-replicate {A = ℕ} 2048 0,
-      just-read (first-read r) (omega (arith, length-replicate {A = ℕ} 2048 0)),
+      begun (record { same = r .read-row .ensures .1 }) (omega arith),
     )
 
 sub-there : tie.Need-sub-there Inv-loop μ-loop
-sub-there c = omega (arith, half-fits (c .before .loop .inv .2))
+sub-there c = omega (arith, half-fits (c .before .loop .inv .3 .half))
 
 add-read-row : tie.Need-add-read-row Inv-loop μ-loop
 add-read-row c = here c .turn .fits
@@ -143,13 +116,13 @@ read-row-requires-2 : tie.Need-read-row-requires-2 Inv-loop μ-loop
 read-row-requires-2 c κs =
     let t = c .before in
     let p = points-lent (entry-of (t .before) .pre .0) (here t .turn .next .high) in
-    (p .0, (p .1 .0, (p .1 .1, next-room t)))
+    (p .0, (p .1 .0, (p .1 .1, is-free (t .before .loop .inv .3))))
 
 add-find-where-mixed : tie.Need-add-find-where-mixed Inv-loop μ-loop
 add-find-where-mixed c =
     let r = c .before in
     let l = turn-of r .before in
-    cells-few (entry-of l .pre .0) (l .loop .y) (l .loop .inv .3) (r .read-row2 .ensures .0)
+    cells-few (entry-of l .pre .0) (l .loop .y) (l .loop .inv .2) (r .read-row2 .ensures .0)
 
 slice-aggregate-find-where-mixed : tie.Need-slice-aggregate-find-where-mixed Inv-loop μ-loop
 slice-aggregate-find-where-mixed c = search needs
@@ -163,19 +136,20 @@ find-where-mixed-requires c κs =
     let w = t .before .loop in
     let long = passes-lengths (w .inv .1) .map in
     let map = s .pre .1 .0 in
+    let turn = both r in
     let g = layers-of s in
     let within = layer-finds g (boxOf (a .k)) (a .z) (w .y) (layers-fit (s .pre .0)) (s .pre .0 .here) (w .inv .0 .low) (here t .turn .next .high) in (
       s .pre .0,
       (
         here t .turn .here,
         (
-          ap₂ _+_ (w .inv .3) (r .read-row2 .ensures .0),
+          ap₂ _+_ (w .inv .2) (r .read-row2 .ensures .0),
           (
-            (omega (arith, half-fits (w .inv .2), next-long r), omega (arith, half-fits (other-half (w .inv .2)), next-long r)),
+            (turn .near-fits, turn .far-fits),
             (
-              near-kept r,
+              turn .near,
               (
-                far-kept r,
+                turn .next .kept,
                 (
                   omega (arith, long, map),
                   passes-room (w .inv .1) (rowCells (pointsOf (boxOf (a .k))) (a .z) (w .y)) (s .pre .1 .1) within,
@@ -203,10 +177,8 @@ loop-again c =
     let b = pointsOf (boxOf (a .k)) in (
       here t .turn .next,
       passes-more (w .inv .1) (rowCells b (a .z) (w .y)) (m .find-where-mixed .ensures) (layer-grows b (a .z) (w .y) (w .inv .0 .low)),
-      other-half (w .inv .2),
       r .read-row2 .ensures .0,
-      next-long r,
-      far-kept r,
+      both r .next,
     )
 
 -- ---- after the rows of cells, the last row

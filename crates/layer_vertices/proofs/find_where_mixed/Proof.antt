@@ -7,15 +7,15 @@ use borrow.Author.Needs.{needs}
 use Rattle.grid.specs.Values.{gridOf}
 use Rattle.grid.proofs.Layers.{layers-fit}
 use Rattle.grid.proofs.LayerWalks.{Row}
-use Rattle.row_signs.proofs.OneSign.{none-negative, all-negative}
+use Rattle.row_signs.proofs.OneSign.{told}
 use Rattle.layer_vertices.proofs.Finding.{one-sign-passes}
 use Rattle.layer_vertices.proofs.find_where_mixed.Statement.{statement}
 use Rattle.layer_vertices.proofs.find_where_mixed.Tie as tie
 
 -- ---- the places that a later one leads back to
 
-abbrev begin-of : tie.After-struct-known → tie.Start
-begin-of c = c .before .before .before .before .before .before .before
+abbrev begin-of : tie.After-slice-known3 → tie.Start
+begin-of c = c .before .before .before .before .before .before
 
 abbrev lower-of : tie.Start → List Float
 lower-of s = let a = s .args in gridOf (a .width) (a .lower .now) (a .lower16 .now) (a .lower8 .now)
@@ -28,17 +28,8 @@ row s = record { layers = s .pre .0; along-y = s .pre .1 .0 }
 
 -- ---- the needs
 
-sub-all : tie.Need-sub-all
-sub-all c = layers-fit (begin-of c .pre .0) .x .0
-
-cast-all : tie.Need-cast-all
-cast-all c = search needs
-
-add-all : tie.Need-add-all
-add-all c = search needs
-
-mul-all : tie.Need-mul-all
-mul-all c = search needs
+one-sign-requires : tie.Need-one-sign-requires
+one-sign-requires c κs = layers-fit (begin-of c .pre .0) .x .0
 
 clear-row-requires : tie.Need-clear-row-requires
 clear-row-requires c κs = search needs
@@ -50,28 +41,16 @@ returns : tie.Need-returns
 returns c =
     let m = c .before .before in
     let i = m .before .before in
-    let s = begin-of (i .before) in
-    let a = s .args in
-    one-sign-passes (row s) (none-negative (lower-of s) (upper-of s) (a .k) (a .y) (sym (s .pre .1 .1 .0) ∙ i .if1 .taken)) (m .clear-row .ensures)
-
-clear-row-requires-2 : tie.Need-clear-row-requires-2
-clear-row-requires-2 c κs = search needs
-
-same-length-2 : tie.Need-same-length-2
-same-length-2 c = search needs
-
-returns-2 : tie.Need-returns-2
-returns-2 c =
-    let m = c .before .before in
-    let i = m .before .before in
     let s = begin-of (i .before .before) in
-    let a = s .args in
-    one-sign-passes (row s) (all-negative (lower-of s) (upper-of s) (a .k) (a .y) (sym (s .pre .1 .1 .0) ∙ i .if2 .taken)) (m .clear-row2 .ensures)
+    one-sign-passes (row s) (told (s .pre .1 .1 .0) (sym (i .before .one-sign .ensures) ∙ i .if1 .taken) .1) (m .clear-row .ensures)
 
 find-row-requires : tie.Need-find-row-requires
 find-row-requires c κs =
     let s = begin-of (c .before .before .before .before .before) in
     (s .pre .0, (s .pre .1 .0, s .pre .1 .1 .1))
+
+same-length-2 : tie.Need-same-length-2
+same-length-2 c = search needs
 
 same-length-3 : tie.Need-same-length-3
 same-length-3 c = search needs
@@ -79,28 +58,19 @@ same-length-3 c = search needs
 same-length-4 : tie.Need-same-length-4
 same-length-4 c = search needs
 
-same-length-5 : tie.Need-same-length-5
-same-length-5 c = search needs
-
-returns-3 : tie.Need-returns-3
-returns-3 c = search needs
+returns-2 : tie.Need-returns-2
+returns-2 c = search needs
 
 pub find-where-mixed-spec : {M : Type 1} → statement M
 find-where-mixed-spec =
     tie.close
     (tie.spec
-    sub-all
-    cast-all
-    add-all
-    mul-all
+    one-sign-requires
     clear-row-requires
     same-length
     returns
-    clear-row-requires-2
-    same-length-2
-    returns-2
     find-row-requires
+    same-length-2
     same-length-3
     same-length-4
-    same-length-5
-    returns-3)
+    returns-2)

@@ -1,7 +1,7 @@
 -- The row's points are counted in 64 bits. Assumes nothing.
 use borrow.Author.Needs.{needs}
-use Rattle.count.proofs.one_sign.Statement.{statement}
-use Rattle.count.proofs.one_sign.Tie as tie
+use Rattle.row_signs.proofs.one_sign.Statement.{statement}
+use Rattle.row_signs.proofs.one_sign.Tie as tie
 
 sub-all : tie.Need-sub-all
 sub-all c = search needs

@@ -21,6 +21,7 @@ use Rattle.grid.specs.Layers.{inLayer, twoLayers, InLayers}
 use Rattle.layer_faces.specs.declared.Firsts.{Firsts}
 use Rattle.layer_faces.specs.Below.{faceOver, Standing}
 use Rattle.layer_faces.specs.Quads.{cellAt, axisOf, edgeAt, listed, quadAt, quadBy, Ready, someEdges}
+use Rattle.layer_faces.specs.Filing.{Filed, AllReady}
 use Rattle.layer_faces.proofs.Lookups.{keptOf, own-number}
 use Rattle.layer_faces.proofs.Cells.{face-is}
 use Rattle.layer_faces.proofs.Signs.{cell-at, sign-here, reached}
@@ -86,20 +87,50 @@ module _ {lower upper : List Float} {k : Block} {z : ℕ} (i : InLayers lower up
   abbrev Listed : ℕ → Type 0
   Listed e = (e < 3 * n) × T (gives field (boxOf k) (flagsOf k) (edgeAt cs z from e))
 
-  all : All Listed (listed field (boxOf k) (flagsOf k) cs z from (3 * n))
+  abbrev codes : List ℕ
+  codes = listed field (boxOf k) (flagsOf k) cs z from (3 * n)
+
+  all : All Listed codes
   all = listed-all field (boxOf k) (flagsOf k) z from n cs within (vertex-is field (boxOf k) z cs (h .cells))
 
   vertex-within : (e : ℕ) → Listed e → from + e / 3 < length (layerVertices field (boxOf k) z)
   vertex-within e p = let low = p .0 in omega arith
 
-  -- the q-th entry
-  pub batch-ready : ((j : ℕ) → getD mp j 0 < 4294967296) → (k .low .z < z → inLayer (point (k .dims)) (point (k .high)) < length under)
-      → (q : ℕ) {e : ℕ} → q < length (listed (twoLayers lower upper k z) (boxOf k) (flagsOf k) cs z from (3 * n))
-      → e ≡ getD (listed (twoLayers lower upper k z) (boxOf k) (flagsOf k) cs z from (3 * n)) q 0
-      → Ready lower (k .dims .x) (first .here) cs mp ps under (from + e / 3) (axisOf (e % 3))
-  batch-ready fits deep q {e} low is =
-      let p : Listed e = subst Listed (sym is) (all-at all q low 0) in
-      edge-ready i first cs mp ps under kept h (from + e / 3) (vertex-within e p) (axisOf (e % 3)) (p .1) fits deep
+  module _ (fits : (j : ℕ) → getD mp j 0 < 4294967296) (deep : k .low .z < z → inLayer (point (k .dims)) (point (k .high)) < length under) where
+    abbrev Fit : ℕ → Axis → Type 0
+    Fit v a = Ready lower (k .dims .x) (first .here) cs mp ps under v a
+
+    -- the r-th edge of the list
+    ready : (r : ℕ) → r < length codes → Fit (from + getD codes r 0 / 3) (axisOf (getD codes r 0 % 3))
+    ready r low =
+        let e = getD codes r 0 in
+        let p : Listed e = all-at all r low 0 in
+        edge-ready i first cs mp ps under kept h (from + e / 3) (vertex-within e p) (axisOf (e % 3)) (p .1) fits deep
+
+    -- the entries of one axis
+    module _ {who rank : List ℕ} {axis count : ℕ} (three : axis < 3)
+        (f : Filed (listed (twoLayers lower upper k z) (boxOf k) (flagsOf k) cs z from (3 * n)) who rank axis count) where
+      entry : (q : ℕ) → q < count → Fit (from + getD who (32 * axis + q) 0) (axisOf axis)
+      entry q low =
+          let p = f .each q low in
+          let e = getD codes (getD rank (32 * axis + q) 0) 0 in
+          let vertex : from + e / 3 ≡ from + getD who (32 * axis + q) 0 = omega (arith, p .is) in
+          let along : e % 3 ≡ axis = omega (arith, p .is) in
+          subst (λ (a : ℕ). Fit (from + getD who (32 * axis + q) 0) (axisOf a)) along
+          (subst (λ (v : ℕ). Fit v (axisOf (e % 3))) vertex (ready (getD rank (32 * axis + q) 0) (p .within)))
+
+      pub batch-along : (at indices : ℕ) → length who ≡ 96 → length rank ≡ 96
+          → at + 6 * length (listed (twoLayers lower upper k z) (boxOf k) (flagsOf k) cs z from (3 * n)) ≤ indices
+          → AllReady lower (k .dims .x) (first .here) cs mp ps under who rank from axis count at indices
+      batch-along at indices ew er room =
+          record {
+            axes = three;
+            narrow = omega (arith, small (point (k .dims)) (i .dims) .x);
+            vertices = omega (arith, f .few);
+            places = omega (arith, f .few);
+            each = entry;
+            room = λ q low. omega (arith, f .each q low .within);
+          }
 
   pub batch-faces : joined (quadBy first mp ps under kept lower (k .dims .x) cs from)
       (listed (twoLayers lower upper k z) (boxOf k) (flagsOf k) cs z from (3 * n))

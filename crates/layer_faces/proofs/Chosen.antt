@@ -22,9 +22,13 @@ chosen-first x y e = rw e
 pub chosen-second : {A : Type 0} {first : Bool} (x y : A) → first ≡ false → cond first x y ≡ y
 chosen-second x y e = rw e
 
-pub length-chosen : {A : Type 0} (first : Bool) (x y : List A) → length (cond first x y) ≡ cond first (length x) (length y)
-length-chosen true x y = refl
-length-chosen false x y = refl
+pub of-chosen : {A B : Type 0} (f : A → B) (first : Bool) (x y : A) → f (cond first x y) ≡ cond first (f x) (f y)
+of-chosen f true x y = refl
+of-chosen f false x y = refl
+
+pub chosen-below : (first : Bool) {x y n : ℕ} (most : ℕ) → n ≡ cond first x y → x < most → y < most → n < most
+chosen-below true most e h k = omega arith
+chosen-below false most e h k = omega arith
 
 -- ---- one quad
 

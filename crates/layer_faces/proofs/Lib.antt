@@ -6,5 +6,7 @@ pub mod Alike
 pub mod Chosen
 pub mod Signs
 pub mod Listing
+pub mod Filing
+pub mod Putting
 pub mod Vertices
 pub mod Batches

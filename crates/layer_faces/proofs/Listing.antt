@@ -1,16 +1,15 @@
--- A list of edges by their numbers: one is stored behind those that count, and counts on if it gives a face, so that the first m entries are the
--- numbers of the edges that give a face; and the edges that they number are the batch's. Assumes nothing.
+-- A list of edges by their numbers: each number is listed behind those before it if its edge gives a face, and the edges that the list's numbers say are
+-- the batch's. Assumes nothing.
 use Prim.Native.Nat.{ℕ, zero, suc, _+_, _*_, _/_, _%_, _≤_, _<_}
-use native.Mathlib.Nat.{add-zero}
 use native.Mathlib.Numerals.{add-one}
 use native.Mathlib.Omega.{arith}
-use mathlib.Core.Bool.{Bool, true, false, cond}
-use mathlib.Core.List.{List, [], _∷_, _++_, map, map-append, append-nil, append-assoc}
+use mathlib.Core.Bool.{Bool, cond}
+use mathlib.Core.List.{List, [], _∷_, _++_, map, map-append, append-assoc}
 use mathlib.Core.Path.{_≡_, refl, sym, ap, ap₂, _∙_}
 use lib.Dec.{T}
-use lib.ListN.{length, getD, take, drop, set, length-append, length-drop, length-map}
-use lib.Seq.{take-suc, take-suc-set, take-set-le, getD-drop}
-use Rattle.lists.specs.Lists.{one, run, keep, joined}
+use lib.ListN.{length, getD, take, drop, length-append, length-drop, length-map}
+use lib.Seq.{take-suc, getD-drop}
+use Rattle.lists.specs.Lists.{run, keep, joined}
 use Rattle.rules.specs.Grid.{GridPoint, Box, Field}
 use Rattle.rules.specs.Vertices.{layerVertices}
 use Rattle.rules.specs.Faces.{Flags, Edge, edge, edgesAt, gives, cellEdges}
@@ -32,50 +31,15 @@ run-all (suc n) = all-append (grown (run-all n)) (more (omega arith) none)
     grown : {l : List ℕ} → All (λ k. k < n) l → All (λ k. k < suc n) l
     grown p = all-then (λ k h. omega arith) p
 
--- ---- the numbers that a test keeps, stored one after the other
+-- ---- the numbers that a test keeps
 
 module _ (t : ℕ → Bool) where
-  -- of the numbers below e
-  pub record Stored (e : ℕ) (l : List ℕ) (m : ℕ) : Type 0 where
-    pub are : take m l ≡ keep t (run e)
-    pub count : m ≡ length (keep t (run e))
-
-  pub stored-none : (l : List ℕ) → Stored 0 l 0
-  unfolding run keep
-  stored-none l = record { are = refl; count = refl }
-
   pub kept-few : (e : ℕ) → length (keep t (run e)) ≤ e
   kept-few e = omega (arith, length-keep t (run e), many-most t (run e), length-run e)
 
-  kept-more : (e : ℕ) → keep t (run (e + 1)) ≡ keep t (run e) ++ cond (t e) (e ∷ []) []
+  pub kept-more : (e : ℕ) → keep t (run (e + 1)) ≡ keep t (run e) ++ cond (t e) (e ∷ []) []
   unfolding run keep
   kept-more e = ap (λ (n : ℕ). keep t (run n)) (add-one e) ∙ keep-append t (run e) (e ∷ [])
-
--- stored, and counted on
-counted-on : (l : List ℕ) (m e : ℕ) (counts : Bool) → m < length l → take (m + one counts) (set l m e) ≡ take m l ++ cond counts (e ∷ []) []
-counted-on l m e true h = ap (λ (n : ℕ). take n (set l m e)) (add-one m) ∙ take-suc-set l m e h
-counted-on l m e false h = ap (λ (n : ℕ). take n (set l m e)) (add-zero m) ∙ take-set-le m l m e (omega arith) ∙ sym (append-nil (take m l))
-
-length-counted : (e : ℕ) (counts : Bool) → length (cond counts (e ∷ []) []) ≡ one counts
-length-counted e true = refl
-length-counted e false = refl
-
-module _ (t : ℕ → Bool) where
-  pub stored-few : {e m : ℕ} {l : List ℕ} → Stored t e l m → m ≤ e
-  stored-few {e} p = omega (arith, p .count, kept-few t e)
-
-  pub stored-more : {e e' m m' : ℕ} {l l' : List ℕ} {counts : Bool} → Stored t e l m → m < length l → counts ≡ t e → l' ≡ set l m e → m' ≡ m + one counts → e' ≡ e + 1
-      → Stored t e' l' m'
-  stored-more {e} {e'} {m} {m'} {l} {l'} {counts} p h f el em next =
-      record {
-        are =
-            (λ i. take (em i) (el i)) ∙ counted-on l m e counts h
-            ∙ ap₂ {A = List ℕ} _++_ (p .are) (ap (λ (y : Bool). cond y (e ∷ []) []) f) ∙ sym more-kept;
-        count = omega (arith, p .count, ap length more-kept ∙ length-append (keep t (run e)) (cond (t e) (e ∷ []) []), length-counted e (t e), ap one f);
-      }
-    where
-      more-kept : keep t (run e') ≡ keep t (run e) ++ cond (t e) (e ∷ []) []
-      more-kept = ap (λ (n : ℕ). keep t (run n)) next ∙ kept-more t e
 
 -- ---- the edges that the numbers say
 

@@ -43,10 +43,13 @@ unfolding positionAt
 position-there l first v h k = rw (le-ltb v first h, le-ltb (length l) (3 * (v - first) + 3) k)
 
 -- three numbers that were read there
-pub position-read : (l : List Float) (first v : ℕ) {start : ℕ} {x y z : Float} → start ≡ first → start ≤ v → 3 * (v - start) + 3 ≤ length l → x ≡ getD l (3 * (v - start)) nan
-    → y ≡ getD l (3 * (v - start) + 1) nan → z ≡ getD l (3 * (v - start) + 2) nan → _≡_ {A = Vector} (record { x = x; y = y; z = z }) (positionAt l first v)
-position-read l first v {start} e h k ex ey ez =
-    (λ i. record { x = ex i; y = ey i; z = ez i }) ∙ position-there l start v h k ∙ ap (λ (f : ℕ). positionAt l f v) e
+pub position-read : (l : List Float) (first v place : ℕ) {start : ℕ} {x y z : Float} → start ≡ first → place + start ≡ v → 3 * place + 3 ≤ length l → x ≡ getD l (3 * place) nan
+    → y ≡ getD l (3 * place + 1) nan → z ≡ getD l (3 * place + 2) nan → _≡_ {A = Vector} (record { x = x; y = y; z = z }) (positionAt l first v)
+position-read l first v place e h k ex ey ez =
+    let back : place ≡ v - first = omega arith in
+    (λ i. record { x = ex i; y = ey i; z = ez i })
+    ∙ ap (λ (m : ℕ). record { x = getD l (3 * m) nan; y = getD l (3 * m + 1) nan; z = getD l (3 * m + 2) nan }) back
+    ∙ position-there l first v (omega arith) (omega arith)
 
 pub position-in : (l : List Float) (first n : ℕ) (v : Vector) → 3 * n + 3 ≤ length l
     → ThreeAt (λ (q : Vector). q .x) (λ (q : Vector). q .y) (λ (q : Vector). q .z) l n nan v → positionAt l first (first + n) ≡ v

@@ -1,21 +1,20 @@
 -- The layer's vertices, batch after batch: the cell that the code reads is the vertex's, the faces of a batch are put behind those before it, and after
 -- the last one the layer's indices are whole. Assumes nothing.
 use Prim.Native.Nat.{ℕ, _+_, _*_, _/_, _≤_, _<_}
-use native.Mathlib.Numerals.{add-one}
 use native.Mathlib.Omega.{arith}
 use mathlib.Core.Bool.{Bool, true, false}
 use mathlib.Core.List.{List, _++_}
 use mathlib.Core.Path.{_≡_, refl, sym, ap, subst, _∙_}
 use lib.Dec.{T}
 use lib.ListN.{length, getD, take, drop, length-append, take-append-drop}
-use lib.Seq.{sets, length-sets, length-take-le, take-suc, take-add, take-all}
+use lib.Seq.{sets, length-sets, take-add, take-all}
 use Rattle.lists.specs.Lists.{joined}
 use Rattle.rules.specs.Grid.{GridPoint, Box, Field, isCell, value}
 use Rattle.rules.specs.Cell.{negative}
 use Rattle.rules.specs.Vertices.{surfaceCell, layerVertices}
 use Rattle.rules.specs.Faces.{Flags, Edge, cellEdges, layerEdges, cell1, cell2, cell3, cell4, six}
 use Rattle.rules.specs.Call.{flatPoints}
-use Rattle.lists.proofs.Lists.{all-at, all-then, all-keep, joined-append, joined-snoc, joined-length}
+use Rattle.lists.proofs.Lists.{all-at, all-then, all-keep, joined-append, joined-length}
 use Rattle.rules.proofs.Indexes.{same-point}
 use Rattle.rules.proofs.Counting.{layer-z, layerCells-all}
 use Rattle.rules.proofs.Inside.{layer-cells}
@@ -68,17 +67,6 @@ module _ (g : Field) (b : Box) (z : ℕ) (cs : List ℕ) (e : cs ≡ flatPoints 
         each = λ v k. subst (λ (p : GridPoint). T (isCell b p)) (sym (vertex-is v (omega arith)))
             (all-at (all-keep (surfaceCell g) (all-then (λ p t s. t) (layer-cells b z (zs .0) (zs .1)))) v (omega arith) (cellAt cs z v));
       }
-
--- ---- the faces of some edges, one after the other
-
-module _ {A : Type 0} (face : A → List ℕ) (long : (a : A) → length (face a) ≡ 6) (es : List A) where
-  pub faces-more : (l : List ℕ) (at q : ℕ) (d : A) {l' l'' : List ℕ} → l' ≡ sets l at (joined face (take q es)) → q < length es → l'' ≡ sets l' (at + 6 * q) (face (getD es q d))
-      → l'' ≡ sets l at (joined face (take (q + 1) es))
-  faces-more l at q d e h f =
-      f ∙ ap (λ (s : List ℕ). sets s (at + 6 * q) (face (getD es q d))) e
-      ∙ sets-on l at (at + 6 * q) (joined face (take q es)) (face (getD es q d))
-      (omega (arith, joined-length face 6 long (take q es), length-take-le q es (omega arith)))
-      ∙ ap (sets l at) (sym (ap (joined face) (ap (λ (n : ℕ). take n es) (add-one q) ∙ take-suc es q d h) ∙ joined-snoc face (take q es) (getD es q d)))
 
 -- ---- the faces of the vertices before the i-th
 

@@ -11,12 +11,12 @@
 //     v4  |  v3
 ghost use mathlib.Core.Path.{_≡_};
 ghost use mathlib.Core.Bool.{cond};
-ghost use Prim.Native.Nat.{_+_, _*_, _/_, _%_, _≤_, _<_};
+ghost use Prim.Native.Nat.{_+_, _*_, _≤_, _<_};
 ghost use lib.Dec.{T};
 ghost use lib.Ieee.{nan};
-ghost use lib.ListN.{length, getD, take, set};
+ghost use lib.ListN.{length, getD, set};
 ghost use lib.Seq.{sets};
-ghost use Rattle.lists.specs.Lists.{one, joined};
+ghost use Rattle.lists.specs.Lists.{joined};
 ghost use Rattle.rules.specs.Grid.{axisX, axisY, axisZ, isCell};
 ghost use Rattle.rules.specs.Faces.{edge, gives, layerEdges};
 ghost use Rattle.cube.specs.AsRules.{vector};
@@ -24,7 +24,8 @@ ghost use Rattle.grid.specs.Block.{point, boxOf, flagsOf};
 ghost use Rattle.grid.specs.Layers.{inLayer, InLayers};
 ghost use Rattle.grid.specs.Values.{gridGiven, gridBefore, layersGiven, layersBefore};
 ghost use Rattle.layer_faces.specs.Below.{nowhere, positionAt, faceOver, indicesOver, Standing};
-ghost use Rattle.layer_faces.specs.Quads.{seen, quadOf, Reaches, looked, Cells, listed, placeAt, own, axisOf, way2, way3, way4, Ready, quadBy, someEdges, Lesser, Batch};
+ghost use Rattle.layer_faces.specs.Quads.{seen, quadOf, Reaches, looked, Cells, listed, placeAt, own, axisOf, way2, way3, way4, quadAt, someEdges, Lesser, Batch};
+ghost use Rattle.layer_faces.specs.Filing.{AllFiled, AllReady, facesPut};
 use cube::Point;
 use grid::Block;
 use grid::EachAxis;
@@ -101,19 +102,18 @@ fn float_in(here: bool, positions: &[f32], below: &[f32], at: usize) -> f32
     below[at]
 }
 
-// The position of the vertex v, in the list of one of the layers; of none where the list has no such vertex.
+// The position of the vertex v, in the list of one of the layers; of none where the list has no such vertex: a lesser number than the first one's
+// wraps to a difference that is more than any list has.
 fn vertex_in(here: bool, first: Firsts, positions: &[f32], below: &[f32], v: u32) -> Point
     ensures { λ r. ⌜ vector r ≡ positionAt (cond here (now (positions .entry)) (now (below .entry))) (cond here (first .here) (first .below)) v ⌝ }
 {
     let start = pick(here, first.here, first.below);
-    let length = choose(here, positions.len(), below.len());
-    if v < start {
+    let count = choose(here, positions.len() / 3, below.len() / 3);
+    let place = std::num::wrapping_sub_usize(v as usize, start as usize);
+    if count <= place {
         return no_position();
     }
-    let at = 3 * ((v - start) as usize);
-    if length < at + 3 {
-        return no_position();
-    }
+    let at = 3 * place;
     Point {
         x: float_in(here, positions, below, at),
         y: float_in(here, positions, below, at + 1),
@@ -175,7 +175,8 @@ fn make_quad(
     );
 }
 
-// ---- The edges of a batch of vertices that give a face, listed first, so that no branch hangs on a sign.
+// ---- The edges of a batch of vertices that give a face, listed first, so that no branch hangs on a sign: those along each axis in a list of their
+// own, each with its place among all of them, so that the faces along one axis are made in one loop, which asks for the axis once.
 
 // Which of the three edges from the lowest corner of the cell c give a face.
 fn giving(
@@ -209,18 +210,25 @@ fn giving(
     }
 }
 
-// One edge: the entry m becomes its number either way, and counts if the edge gives a face.
-fn list_edge(edges: &mut [u32], m: usize, e: u32, counts: bool) -> usize
-    requires { ⌜ m < length (now edges) ⌝ }
-    ensures { λ r. ⌜ now (edges .exit) ≡ set (now (edges .entry)) m e ⌝ }
-    ensures { λ r. ⌜ r ≡ m + one counts ⌝ }
-{
-    edges[m] = e;
-    m + (counted(counts) as usize)
+// How many edges along each axis are listed, and how many in all.
+struct Listed {
+    x: usize,
+    y: usize,
+    z: usize,
+    all: u32,
 }
 
-// Of the vertices `from` to `from + n` of the layer, at most 32: the edges that give a face, in their order, an edge along axis a (0, 1, 2) of the j-th
-// vertex as 3 j + a; and how many they are.
+// One edge: the entry becomes its vertex and its place among all either way; who calls counts it if the edge gives a face.
+fn list_edge(who: &mut [u32], rank: &mut [u32], entry: usize, j: u32, place: u32)
+    requires { ⌜ (entry < length (now who)) × (entry < length (now rank)) ⌝ }
+    ensures { λ _. ⌜ now (who .exit) ≡ set (now (who .entry)) entry j ⌝ }
+    ensures { λ _. ⌜ now (rank .exit) ≡ set (now (rank .entry)) entry place ⌝ }
+{
+    who[entry] = j;
+    rank[entry] = place;
+}
+
+// Of the vertices `from` to `from + n` of the layer, at most 32: the edges that give a face, those along the axis a (0, 1, 2) from the entry 32 a on.
 fn list_edges(
     width: u32,
     lower: &[f32],
@@ -234,17 +242,20 @@ fn list_edges(
     cells: &[u32],
     from: usize,
     n: usize,
-    edges: &mut [u32],
-) -> usize
+    who: &mut [u32],
+    rank: &mut [u32],
+) -> Listed
     requires { ⌜ InLayers (gridGiven width lower lower16 lower8) (gridGiven width upper upper16 upper8) k z ⌝ }
     requires { ⌜ Cells (boxOf k) z (now cells) (from + n) ⌝ }
     requires { ⌜ n ≤ 32 ⌝ }
-    requires { ⌜ 3 * n ≤ length (now edges) ⌝ }
-    ensures { λ r. ⌜ take r (now (edges .exit)) ≡
-        listed (layersBefore width lower upper lower16 upper16 lower8 upper8 k z) (boxOf k) (flagsOf k) (now (cells .entry)) z from (3 * n) ⌝ }
-    ensures { λ r. ⌜ r ≡ length (listed (layersBefore width lower upper lower16 upper16 lower8 upper8 k z) (boxOf k) (flagsOf k) (now (cells .entry)) z from (3 * n)) ⌝ }
+    requires { ⌜ (length (now who) ≡ 96) × (length (now rank) ≡ 96) ⌝ }
+    ensures { λ r. ⌜ AllFiled (listed (layersBefore width lower upper lower16 upper16 lower8 upper8 k z) (boxOf k) (flagsOf k) (now (cells .entry)) z from (3 * n))
+        (now (who .exit)) (now (rank .exit)) (r .x) (r .y) (r .z) (r .all) ⌝ }
 {
-    let mut m = 0usize;
+    let mut x = 0usize;
+    let mut y = 0usize;
+    let mut along_z = 0usize;
+    let mut all = 0u32;
     for j in 0usize..n {
         let i = 3 * (from + j);
         let c = Extent {
@@ -253,12 +264,25 @@ fn list_edges(
             z,
         };
         let t = giving(width, lower, upper, lower16, upper16, lower8, upper8, k, c);
-        let e = 3 * (j as u32);
-        m = list_edge(edges, m, e, t.x);
-        m = list_edge(edges, m, e + 1, t.y);
-        m = list_edge(edges, m, e + 2, t.z);
+        let one_x = counted(t.x);
+        let one_y = counted(t.y);
+        let one_z = counted(t.z);
+        list_edge(who, rank, x, j as u32, all);
+        x += one_x as usize;
+        all += one_x;
+        list_edge(who, rank, 32 + y, j as u32, all);
+        y += one_y as usize;
+        all += one_y;
+        list_edge(who, rank, 64 + along_z, j as u32, all);
+        along_z += one_z as usize;
+        all += one_z;
     }
-    m
+    Listed {
+        x,
+        y,
+        z: along_z,
+        all,
+    }
 }
 
 // ---- The face of one of them.
@@ -320,8 +344,8 @@ fn fourth_way(row: usize, axis: u32) -> Way
     }
 }
 
-// The first vertex is the edge's own; the other three are so many entries before it in the one map or the other.
-fn put_face(
+// The first vertex is the edge's own; the other three are so many entries before it in the one map or the other, as the axis says.
+fn put_faces(
     width: u32,
     lower: &[f32],
     lower16: &[i16],
@@ -334,56 +358,64 @@ fn put_face(
     map_below: &[u32],
     positions_below: &[f32],
     from: usize,
-    e: u32,
+    axis: u32,
+    who: &[u32],
+    rank: &[u32],
+    count: usize,
     indices: &mut [u32],
     at: usize,
 )
-    requires { ⌜ Ready (gridGiven width lower lower16 lower8) row (first .here) (now cells) (now map) (now positions) (now «map_below») (from + e / 3) (axisOf (e % 3)) ⌝ }
-    requires { ⌜ at + 6 ≤ length (now indices) ⌝ }
-    ensures { λ r. ⌜ now (indices .exit) ≡ sets (now (indices .entry)) at
-        (quadBy first (now (map .entry)) (now (positions .entry)) (now («map_below» .entry)) (now («positions_below» .entry))
-        (gridBefore width lower lower16 lower8) row (now (cells .entry)) from e) ⌝ }
+    requires { ⌜ AllReady (gridGiven width lower lower16 lower8) row (first .here) (now cells) (now map) (now positions) (now «map_below») (now who) (now rank)
+        from axis count at (length (now indices)) ⌝ }
+    ensures { λ _. ⌜ now (indices .exit) ≡ facesPut (λ v. quadAt first (now (map .entry)) (now (positions .entry)) (now («map_below» .entry)) (now («positions_below» .entry))
+        (gridBefore width lower lower16 lower8) row (now (cells .entry)) v (axisOf axis)) (now (who .entry)) (now (rank .entry)) (32 * axis) from at count
+        (now (indices .entry)) ⌝ }
 {
-    let v = from + ((e / 3) as usize);
-    let axis = e % 3;
-    let cell = place_of(cells, row, v);
-    let v1 = own_vertex(first.here, positions, v);
-    let v2 = look(
-        second_way(row, axis),
-        first,
-        map,
-        positions,
-        map_below,
-        positions_below,
-        cell,
-    );
-    let v3 = look(
-        third_way(row, axis),
-        first,
-        map,
-        positions,
-        map_below,
-        positions_below,
-        cell,
-    );
-    let v4 = look(
-        fourth_way(row, axis),
-        first,
-        map,
-        positions,
-        map_below,
-        positions_below,
-        cell,
-    );
-    make_quad(
-        v1,
-        v2,
-        v3,
-        v4,
-        cube::negative(grid::values::value_at(width, lower, lower16, lower8, cell)),
-        indices,
-        at,
-    );
+    let second = second_way(row, axis);
+    let third = third_way(row, axis);
+    let fourth = fourth_way(row, axis);
+    let start = 32 * (axis as usize);
+    for q in 0usize..count {
+        let v = from + (who[start + q] as usize);
+        let cell = place_of(cells, row, v);
+        let v1 = own_vertex(first.here, positions, v);
+        let v2 = look(
+            second,
+            first,
+            map,
+            positions,
+            map_below,
+            positions_below,
+            cell,
+        );
+        let v3 = look(
+            third,
+            first,
+            map,
+            positions,
+            map_below,
+            positions_below,
+            cell,
+        );
+        let v4 = look(
+            fourth,
+            first,
+            map,
+            positions,
+            map_below,
+            positions_below,
+            cell,
+        );
+        make_quad(
+            v1,
+            v2,
+            v3,
+            v4,
+            cube::negative(grid::values::value_at(width, lower, lower16, lower8, cell)),
+            indices,
+            at + 6 * (rank[start + q] as usize),
+        );
+    }
 }
 
 // The faces of n vertices, at most 32, and where the next one goes.
@@ -419,7 +451,8 @@ fn face_some(
     ensures { λ r. ⌜ r ≡ at + 6 * length (someEdges (layersBefore width lower upper lower16 upper16 lower8 upper8 k z) (boxOf k) (flagsOf k) z from n) ⌝ }
 {
     let row = k.dims.x as usize;
-    let mut edges = [0u32; 96];
+    let mut who = [0u32; 96];
+    let mut rank = [0u32; 96];
     let m = list_edges(
         width,
         lower,
@@ -433,28 +466,70 @@ fn face_some(
         cells,
         from,
         n,
-        &mut edges,
+        &mut who,
+        &mut rank,
     );
-    for q in 0usize..m {
-        put_face(
-            width,
-            lower,
-            lower16,
-            lower8,
-            row,
-            first,
-            cells,
-            map,
-            positions,
-            map_below,
-            positions_below,
-            from,
-            edges[q],
-            indices,
-            at + 6 * q,
-        );
-    }
-    at + 6 * m
+    put_faces(
+        width,
+        lower,
+        lower16,
+        lower8,
+        row,
+        first,
+        cells,
+        map,
+        positions,
+        map_below,
+        positions_below,
+        from,
+        0,
+        &who,
+        &rank,
+        m.x,
+        indices,
+        at,
+    );
+    put_faces(
+        width,
+        lower,
+        lower16,
+        lower8,
+        row,
+        first,
+        cells,
+        map,
+        positions,
+        map_below,
+        positions_below,
+        from,
+        1,
+        &who,
+        &rank,
+        m.y,
+        indices,
+        at,
+    );
+    put_faces(
+        width,
+        lower,
+        lower16,
+        lower8,
+        row,
+        first,
+        cells,
+        map,
+        positions,
+        map_below,
+        positions_below,
+        from,
+        2,
+        &who,
+        &rank,
+        m.z,
+        indices,
+        at,
+    );
+    at + 6 * (m.all as usize)
 }
 
 fn lesser(a: usize, b: usize) -> usize

@@ -62,6 +62,34 @@ fn some_dimension(random: &mut Random, longest: u32) -> u32 {
 /// The same with given dimensions.
 pub fn in_dimensions(random: &mut Random, field: &Field, dims: [u32; 3]) -> OwnCall {
     let (min, max) = some_box(random, dims);
+    in_box(random, field, dims, min, max)
+}
+
+/// Points in a row about the longest that the library keeps, 1,024, about twice that, and beyond.
+pub const LONG_ROWS: [u32; 9] = [1022, 1023, 1024, 1025, 1026, 2047, 2048, 2049, 4097];
+
+/// The same with a box of so many points in a row, and few rows.
+pub fn with_row(random: &mut Random, field: &Field, points: u32) -> OwnCall {
+    let before = random.coordinate(0, 3);
+    let behind = random.coordinate(0, 3);
+    let dims = [
+        before + points + behind,
+        random.coordinate(2, 5),
+        random.coordinate(2, 5),
+    ];
+    let (mut min, mut max) = some_box(random, dims);
+    min[0] = before;
+    max[0] = before + points - 1;
+    in_box(random, field, dims, min, max)
+}
+
+fn in_box(
+    random: &mut Random,
+    field: &Field,
+    dims: [u32; 3],
+    min: [u32; 3],
+    max: [u32; 3],
+) -> OwnCall {
     let mut call = OwnCall {
         grid: Vec::new(),
         dims,

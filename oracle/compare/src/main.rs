@@ -31,8 +31,10 @@ use tally::Tally;
 /// The largest magnitude that is let in.
 const CAP: f32 = oracle::model::DISTANCE_LIMIT;
 const SEED: u64 = 0xBED0_5EED;
+const SEED_OF_LONG_ROWS: u64 = 0x0102_4BED;
 const SMALL_CALLS_A_FIELD: u32 = 25_000;
 const LARGE_CALLS_A_FIELD: u32 = 30;
+const LONG_CALLS_A_FIELD: u32 = 3;
 const CALLS_A_SPOIL: u32 = 5_000;
 const CALLS_A_PAIR: u32 = 800;
 const CALLS_WITH_THREE: u32 = 40_000;
@@ -85,6 +87,7 @@ fn compare_at_scale() -> bool {
     run.small_grids();
     run.large_grids();
     run.single_cells();
+    run.long_rows();
     run.bad_calls();
     if run.all.differing == 0 {
         run.without_marks();
@@ -143,6 +146,22 @@ impl Run {
                 }
             }
         });
+    }
+
+    /// With random numbers of their own, so that the calls of the other parts stay what they are.
+    fn long_rows(&mut self) {
+        let random = std::mem::replace(&mut self.random, Random::new(SEED_OF_LONG_ROWS));
+        self.part("all fields, rows of 1,022 to 4,097 points", |run, tally| {
+            for field in FIELDS {
+                for points in calls::LONG_ROWS {
+                    for _ in 0..LONG_CALLS_A_FIELD {
+                        let call = calls::with_row(&mut run.random, &field, points);
+                        run.accepted(tally, &call);
+                    }
+                }
+            }
+        });
+        self.random = random;
     }
 
     fn bad_calls(&mut self) {

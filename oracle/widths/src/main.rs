@@ -39,11 +39,13 @@ use width::Whole;
 /// The largest magnitude that the float call lets in.
 const CAP: f32 = oracle::model::DISTANCE_LIMIT;
 const SEED: u64 = 0xBED0_0005;
+const SEED_OF_LONG_ROWS: u64 = 0x0102_4005;
 
 const SMALL: u32 = 8;
 const LARGE: u32 = 66;
 const SMALL_CALLS_A_KIND: u32 = 10_000;
 const LARGE_CALLS_A_KIND: u32 = 10;
+const LONG_CALLS_A_KIND: u32 = 3;
 const GRIDS_WITH_EVERY_BOX_A_KIND: u32 = 3;
 const CELLS_WITH_EACH_NUMBER: i32 = 65_536;
 const CLOSED_A_KIND: u32 = 3_000;
@@ -88,6 +90,7 @@ fn compare<D: Whole>() -> bool {
     run.closed_grids();
     run.bad_calls();
     run.large_grids();
+    run.long_rows();
     let wrapped = wrapper::run::<D>(&mut run.random);
     let own = own::run::<D>(&mut run.random);
     run.verdict() && wrapped + own == 0
@@ -287,6 +290,22 @@ impl<D: Whole> Run<D> {
                 }
             },
         );
+    }
+
+    /// In the memory of the large grids, with random numbers of their own, so that what follows stays what it is.
+    fn long_rows(&mut self) {
+        let random = std::mem::replace(&mut self.random, Random::new(SEED_OF_LONG_ROWS));
+        self.part("all kinds, rows of 1,022 to 4,097 points", |run, tally| {
+            for kind in numbers::<D>() {
+                for points in calls::LONG_ROWS {
+                    for _ in 0..LONG_CALLS_A_KIND {
+                        let call = calls::with_row(&mut run.random, &kind, points);
+                        run.check(tally, call, some_room);
+                    }
+                }
+            }
+        });
+        self.random = random;
     }
 
     fn verdict(&self) -> bool {

@@ -15,7 +15,7 @@ use lib.Ieee.{Float, nan, inf, fin, binary32, add, sub, mul, div, lt, ofInt, rou
 use lib.Ieee.Fits.{and-l, and-r}
 use Rattle.lists.specs.Lists.{run, upTo, keep, many, some, joined, place, placed}
 use Rattle.rules.specs.Grid.{GridPoint, axisX, axisY, Field, index}
-use Rattle.rules.specs.Cell.{Vector, zero32, one32, squaredDistance, fraction, pointBetween, crossingPoint, crossingPoints, summed, crossings, centroid, position, normal}
+use Rattle.rules.specs.Cell.{Vector, float, zero32, one32, squaredDistance, fraction, pointBetween, crossingPoint, crossingPoints, summed, crossings, centroid, position, normal}
 use Rattle.rules.specs.Vertices.{rowCells, layerCells, cells, layerVertices, vertices, firstVertex, vertexPosition, vertexNormal, vertexCrossings, cellEntry, mapEntry}
 use Rattle.rules.specs.Faces.{
   Edge,
@@ -145,6 +145,20 @@ flagged x y z =
       flags = record { x = x; y = y; z = z };
     }
 
+-- whole numbers, for a cell given by its eight corners, corner 0 first
+abbrev pub below : ℕ → Float
+below n = neg (float n)
+
+abbrev pub corners : Float → Float → Float → Float → Float → Float → Float → Float → ℕ → Float
+corners d0 d1 d2 d3 d4 d5 d6 d7 j = getD (d0 ∷ d1 ∷ d2 ∷ d3 ∷ d4 ∷ d5 ∷ d6 ∷ d7 ∷ []) j nan
+
+-- one cell
+abbrev pub oneCell : (ℕ → Float) → Call
+oneCell dist = calls (point 2 2 2) 8 dist lowest (point 1 1 1) false
+
+abbrev pairedNormal : ℕ → Float
+pairedNormal = corners (below 1) (float 0) (float 0) (below 1) (float 0) (float 0) (float 0) (below 1)
+
 -- ---- the lent lists
 
 -- the bits of -5.0
@@ -224,28 +238,50 @@ ballIndices = 2 ∷ 1 ∷ 0 ∷ 2 ∷ 3 ∷ 1 ∷ 1 ∷ 4 ∷ 0 ∷ 1 ∷ 5 ∷ 
 
 -- ---- the table
 
+-- The test of the table ends at its first false entry. So in front stand those that tell the likeliest slips, and a wrong definition is refused at once.
 abbrev pub cases : List Case
 cases =
-    -- Ball
-    answers (whole ball) roomy 0 8 18
-    ∷ case (whole ball) roomy theStrides (0 ∷ 1 ∷ 3 ∷ 4 ∷ 9 ∷ 10 ∷ 12 ∷ 13 ∷ [])
+    -- "min (2,0,0), max (1,2,2)"
+    answers (threes ball (point 2 0 0) (point 1 2 2)) roomy 2 0 0
+    -- document 02, request 9: a grid as long as two of the dimensions say
+    ∷ answers (calls (point 3 3 3) 9 ball lowest lowest false) roomy 3 0 0
+    -- document 02, request 6: the next float below -2^124, in the middle
+    ∷ answers (whole (with 13 (fin true 0x800001 (pos 101)) ones)) roomy 5 0 0
+    -- "Ball with -0.0 at the middle"
+    ∷ answers (whole (with 13 (fin true 0 (pos 0)) ones)) roomy 0 0 0
+    -- "Answers 1 to 7 change nothing."
+    ∷ case (whole ball) (marked 24 24 24 8 8 26 18) theBuffers (contents (marked 24 24 24 8 8 26 18))
+    -- document 02, request 7: the box from (1,1,1) to (2,2,2) in a map with numbers outside it
+    ∷ case (calls (point 4 4 4) 64 (with 21 minusOne ones) (point 1 1 1) (point 2 2 2) false) (marked 3 3 3 1 1 65 0) theMap innerMap
+    -- document 02, request 13: room for the crossings one short
+    ∷ answers (whole ball) (marked 24 24 24 8 7 27 18) 6 8 18
+    -- document 02, request 4: Ball with the max plane on x alone
+    ∷ answers (flagged true false false) roomy 0 8 24
+    -- Ball: "indices, whole"
     ∷ case (whole ball) roomy theIndices (2 ∷ 1 ∷ 0 ∷ 2 ∷ 3 ∷ 1 ∷ 1 ∷ 4 ∷ 0 ∷ 1 ∷ 5 ∷ 4 ∷ 4 ∷ 2 ∷ 0 ∷ 4 ∷ 6 ∷ 2 ∷ [])
+    -- a grid that takes each of the four branches of a face
+    ∷ case (wholePlane (bitGrid 0x2015)) roomy theIndices
+    (5 ∷ 0 ∷ 1 ∷ 5 ∷ 4 ∷ 0 ∷ 4 ∷ 2 ∷ 0 ∷ 4 ∷ 6 ∷ 2 ∷ 5 ∷ 1 ∷ 3 ∷ 5 ∷ 3 ∷ 7 ∷ 7 ∷ 3 ∷ 2 ∷ 7 ∷ 2 ∷ 6 ∷ 6 ∷ 4 ∷ 5 ∷ 6 ∷ 5 ∷ 7 ∷ [])
+    -- a cell where another order of the normal's terms gives other bits, by the published Rust, as the numbers of Vectors
+    ∷ case (oneCell pairedNormal) roomy (positionOf 0) (0x3EDB6DB7 ∷ 0x3EDB6DB7 ∷ 0x3EDB6DB7 ∷ [])
+    ∷ case (oneCell pairedNormal) roomy (normalOf 0) (0xBDD0FACA ∷ 0xBDD0FACA ∷ 0x3EA72F04 ∷ [])
+    -- Ball
+    ∷ answers (whole ball) roomy 0 8 18
+    ∷ case (whole ball) roomy theStrides (0 ∷ 1 ∷ 3 ∷ 4 ∷ 9 ∷ 10 ∷ 12 ∷ 13 ∷ [])
     ∷ case (whole ball) roomy (positionOf 0) (0x3F555555 ∷ 0x3F555555 ∷ 0x3F555555 ∷ [])
     ∷ case (whole ball) roomy (positionOf 1) (0x3F955555 ∷ 0x3F555555 ∷ 0x3F555555 ∷ [])
     -- "Ball with max plane"
     ∷ answers (wholePlane ball) roomy 0 8 36
     -- document 02, request 4: a face more for each axis with its flag
     ∷ answers (flagged false false false) roomy 0 8 18
-    ∷ answers (flagged true false false) roomy 0 8 24
     ∷ answers (flagged false true false) roomy 0 8 24
     ∷ answers (flagged false false true) roomy 0 8 24
     ∷ answers (flagged true true false) roomy 0 8 30
     ∷ answers (flagged true false true) roomy 0 8 30
     ∷ answers (flagged false true true) roomy 0 8 30
     ∷ answers (flagged true true true) roomy 0 8 36
-    -- "All 1.0, and Ball with -0.0 at the middle"
+    -- "All 1.0"
     ∷ answers (whole ones) roomy 0 0 0
-    ∷ answers (whole (with 13 (fin true 0 (pos 0)) ones)) roomy 0 0 0
     -- "Flat box to (0,2,2)"
     ∷ answers (threes ball lowest (point 0 2 2)) roomy 0 0 0
     -- "Dimension 0", on each axis; 16,777,217 passes and the next does not
@@ -262,8 +298,7 @@ cases =
     -- products of 2^32 and 2^64 are not taken for the empty grid's length
     ∷ answers (calls (point 65536 65536 1) 0 ones lowest lowest false) (marked 0 0 0 0 0 1 0) 1 0 0
     ∷ answers (calls (point 16777216 16777216 65536) 0 ones lowest lowest false) (marked 0 0 0 0 0 1 0) 1 0 0
-    -- "min (2,0,0), max (1,2,2)"; "max (3,2,2)"
-    ∷ answers (threes ball (point 2 0 0) (point 1 2 2)) roomy 2 0 0
+    -- "max (3,2,2)"
     ∷ answers (threes ball lowest (point 3 2 2)) roomy 2 0 0
     -- "Grid of 26, box to (2,2,2)"; document 02, request 9: "Document 01's grid of 26 with the box to (1,1,1) becomes refused, and a longer grid too"
     ∷ answers (calls (point 3 3 3) 26 ball lowest (point 2 2 2) false) roomy 3 0 0
@@ -272,10 +307,9 @@ cases =
     ∷ answers (calls (point 3 3 3) 28 ball lowest (point 2 2 2) false) (marked 24 24 24 8 8 28 18) 3 0 0
     ∷ answers (calls (point 3 3 3) 28 ball lowest (point 1 1 1) false) (marked 3 3 3 1 1 28 0) 3 0 0
     ∷ answers (threes ball lowest (point 1 1 1)) (marked 3 3 3 1 1 27 0) 0 1 0
-    -- the empty grid, and grids as long as two of the dimensions say
+    -- the empty grid
     ∷ answers (calls (point 1 1 1) 0 ones lowest lowest false) (marked 0 0 0 0 0 1 0) 3 0 0
     ∷ answers (calls (point 1 1 1) 1 ones lowest lowest false) (marked 0 0 0 0 0 1 0) 0 0 0
-    ∷ answers (calls (point 3 3 3) 9 ball lowest lowest false) roomy 3 0 0
     -- "Map one short of the grid"
     ∷ answers (whole ball) (marked 24 24 24 8 8 26 18) 4 0 0
     -- "Ball with not-a-number at (2,2,2)"; "With the box to (1,1,1)"
@@ -290,7 +324,6 @@ cases =
     ∷ answers (whole (with 26 (fin false 0x800001 (pos 101)) ball)) roomy 5 0 0
     ∷ answers (whole (with 26 (fin true 0x800001 (pos 101)) ball)) roomy 5 0 0
     ∷ answers (whole (with 13 (fin true 1 (pos 124)) ones)) roomy 0 8 18
-    ∷ answers (whole (with 13 (fin true 0x800001 (pos 101)) ones)) roomy 5 0 0
     -- "Document 01's case at 2^100 moves": it passes, and so does the next float up
     ∷ answers (whole (with 26 (fin false 1 (pos 100)) ball)) roomy 0 8 18
     ∷ answers (whole (with 26 (fin true 1 (pos 100)) ball)) roomy 0 8 18
@@ -308,7 +341,6 @@ cases =
     ∷ answers (whole ball) (marked 24 23 24 8 8 27 18) 6 8 18
     ∷ answers (whole ball) (marked 24 24 23 8 8 27 18) 6 8 18
     ∷ answers (whole ball) (marked 24 24 24 7 8 27 18) 6 8 18
-    ∷ answers (whole ball) (marked 24 24 24 8 7 27 18) 6 8 18
     ∷ answers (whole ball) (marked 24 24 24 8 7 27 17) 6 8 18
     -- "Conditions are tried in this order": 3 with 4, 4 with 5, 5 with 6 and 7; 1 with 2 and 2 with 3 are above
     ∷ answers (calls (point 3 3 3) 26 ball lowest (point 2 2 2) false) (marked 24 24 24 8 8 25 18) 3 0 0
@@ -316,8 +348,6 @@ cases =
     ∷ answers (whole (with 26 nan ball)) (marked 0 0 0 0 0 27 0) 5 0 0
     -- a grid that takes each of the four branches of a face
     ∷ answers (wholePlane (bitGrid 0x2015)) roomy 0 8 30
-    ∷ case (wholePlane (bitGrid 0x2015)) roomy theIndices
-    (5 ∷ 0 ∷ 1 ∷ 5 ∷ 4 ∷ 0 ∷ 4 ∷ 2 ∷ 0 ∷ 4 ∷ 6 ∷ 2 ∷ 5 ∷ 1 ∷ 3 ∷ 5 ∷ 3 ∷ 7 ∷ 7 ∷ 3 ∷ 2 ∷ 7 ∷ 2 ∷ 6 ∷ 6 ∷ 4 ∷ 5 ∷ 6 ∷ 5 ∷ 7 ∷ [])
     -- request 13: a grid whose eight cells have each number of crossings that a surface cell can have
     ∷ case (whole (bitGrid 0x5594834)) roomy theCrossings (3 ∷ 5 ∷ 6 ∷ 8 ∷ 4 ∷ 7 ∷ 9 ∷ 12 ∷ [])
     -- where "every number written is finite" would end: -2^127 and 2^127 on each x edge have no finite difference, and the normal is infinite
@@ -330,13 +360,11 @@ cases =
     ∷ case (threes ones lowest (point 1 1 1)) (marked 0 0 0 0 0 28 0) theBuffers
     (blank ∷ blank ∷ 77 ∷ blank ∷ blank ∷ 77 ∷ 77 ∷ 77 ∷ 77 ∷ blank ∷ blank ∷ 77 ∷ blank ∷ blank ∷ replicate 14 77)
     -- document 02, request 7: "the entry of every point of the box that is no cell becomes 4,294,967,295, also for a flat box"
-    ∷ case (calls (point 4 4 4) 64 (with 21 minusOne ones) (point 1 1 1) (point 2 2 2) false) (marked 3 3 3 1 1 65 0) theMap innerMap
     ∷ case (threes ball lowest (point 0 2 2)) (marked 0 0 0 0 0 28 0) theBuffers flatMap
     -- "Answers 1 to 7 change nothing."
     ∷ case (calls (point 0 3 3) 27 ball lowest (point 2 2 2) false) roomy theBuffers (contents roomy)
     ∷ case (threes ball lowest (point 3 2 2)) roomy theBuffers (contents roomy)
     ∷ case (calls (point 3 3 3) 26 ball lowest (point 2 2 2) false) roomy theBuffers (contents roomy)
-    ∷ case (whole ball) (marked 24 24 24 8 8 26 18) theBuffers (contents (marked 24 24 24 8 8 26 18))
     ∷ case (whole (with 26 nan ball)) roomy theBuffers (contents roomy)
     ∷ case (whole ball) (marked 23 24 24 8 8 27 18) theBuffers (contents (marked 23 24 24 8 8 27 18))
     ∷ case (whole ball) (marked 24 24 24 8 7 27 18) theBuffers (contents (marked 24 24 24 8 7 27 18))

@@ -4,13 +4,11 @@
 -- the published Rust and takes the squared distances of the positions that it gives; none comes from these definitions or from the code.
 -- Assumes nothing.
 use Prim.Native.Nat.{ℕ, _<_}
-use mathlib.Core.Bool.{false}
 use mathlib.Core.List.{List, [], _∷_}
 use lib.Dec.{T}
 use lib.ListN.{length, getD, replicate}
-use lib.Ieee.{Float, nan, neg}
+use lib.Ieee.{Float}
 use Rattle.rules.specs.Cell.{float}
-use Rattle.rules.specs.Call.{Call}
 use Rattle.rules.proofs.Cases.{
   Case,
   Holds,
@@ -18,13 +16,13 @@ use Rattle.rules.proofs.Cases.{
   theDiagonals,
   positionOf,
   normalOf,
-  lowest,
-  point,
-  calls,
   ball,
   bitGrid,
   whole,
   wholePlane,
+  below,
+  corners,
+  oneCell,
   roomy,
   case,
   opened,
@@ -35,20 +33,6 @@ use Rattle.rules.proofs.Cases.{
 }
 
 -- ---- the cells
-
--- whole numbers, for a cell given by its eight corners, corner 0 first
-abbrev below : ℕ → Float
-below n = neg (float n)
-
-abbrev corners : Float → Float → Float → Float → Float → Float → Float → Float → ℕ → Float
-corners d0 d1 d2 d3 d4 d5 d6 d7 j = getD (d0 ∷ d1 ∷ d2 ∷ d3 ∷ d4 ∷ d5 ∷ d6 ∷ d7 ∷ []) j nan
-
--- one cell
-abbrev oneCell : (ℕ → Float) → Call
-oneCell dist = calls (point 2 2 2) 8 dist lowest (point 1 1 1) false
-
-abbrev pairedNormal : ℕ → Float
-pairedNormal = corners (below 1) (float 0) (float 0) (below 1) (float 0) (float 0) (float 0) (below 1)
 
 abbrev fusedNormal : ℕ → Float
 fusedNormal = corners (float 0) (below 1) (float 0) (float 0) (below 2) (float 1) (float 0) (float 0)
@@ -84,9 +68,6 @@ vectors =
     -- one that is shorter by the last bit, and would tie if the last square were added by a fused step
     ∷ case (wholePlane (bitGrid 0x0166401)) roomy theDiagonals (0x401626DE ∷ 0x3F681B4E ∷ 0x3F9AFE41 ∷ 0x3F9AFE42 ∷ 0x3F45F92C ∷ 0x3F45F92C ∷ 0x401626DE ∷ 0x3FAEAAAB ∷ [])
     ∷ case (wholePlane (bitGrid 0x0166401)) roomy theIndices (2 ∷ 1 ∷ 0 ∷ 2 ∷ 3 ∷ 1 ∷ 6 ∷ 0 ∷ 4 ∷ 6 ∷ 2 ∷ 0 ∷ 3 ∷ 2 ∷ 6 ∷ 3 ∷ 6 ∷ 7 ∷ 6 ∷ 4 ∷ 5 ∷ 6 ∷ 5 ∷ 7 ∷ [])
-    -- a cell where another order of the normal's terms gives other bits
-    ∷ case (oneCell pairedNormal) roomy (positionOf 0) (0x3EDB6DB7 ∷ 0x3EDB6DB7 ∷ 0x3EDB6DB7 ∷ [])
-    ∷ case (oneCell pairedNormal) roomy (normalOf 0) (0xBDD0FACA ∷ 0xBDD0FACA ∷ 0x3EA72F04 ∷ [])
     -- where a fused step of the normal does
     ∷ case (oneCell fusedNormal) roomy (positionOf 0) (0x3EE38E39 ∷ 0x3EAAAAAB ∷ 0x3ED55555 ∷ [])
     ∷ case (oneCell fusedNormal) roomy (normalOf 0) (0x3EE38E36 ∷ 0x3F097B43 ∷ 0xBE17B428 ∷ [])

@@ -291,10 +291,10 @@ cases =
     ∷ answers (calls (point 16777217 1 1) 1 ones lowest lowest false) (marked 0 0 0 0 0 1 0) 3 0 0
     ∷ answers (calls (point 16777217 1 1) 16777217 ones lowest lowest false) (marked 0 0 0 0 0 1 0) 4 0 0
     ∷ answers (calls (point 16777218 1 1) 1 ones lowest lowest false) (marked 0 0 0 0 0 1 0) 1 0 0
-    -- the product: 2^30 passes, the next that three dimensions make does not
+    -- the product: 2^30 passes, and 2^30 + 1, which is 1025 · 793 · 1321, does not
     ∷ answers (calls (point 1024 1024 1024) 1 ones lowest lowest false) (marked 0 0 0 0 0 1 0) 3 0 0
     ∷ answers (calls (point 1024 1024 1024) 1073741824 ones lowest lowest false) (marked 0 0 0 0 0 1 0) 4 0 0
-    ∷ answers (calls (point 1024 1024 1025) 1 ones lowest lowest false) (marked 0 0 0 0 0 1 0) 1 0 0
+    ∷ answers (calls (point 1025 793 1321) 1 ones lowest lowest false) (marked 0 0 0 0 0 1 0) 1 0 0
     -- products of 2^32 and 2^64 are not taken for the empty grid's length
     ∷ answers (calls (point 65536 65536 1) 0 ones lowest lowest false) (marked 0 0 0 0 0 1 0) 1 0 0
     ∷ answers (calls (point 16777216 16777216 65536) 0 ones lowest lowest false) (marked 0 0 0 0 0 1 0) 1 0 0

@@ -3,19 +3,25 @@
 -- index list and, face by face, the bits of the two squared distances. Each number is one that oracle/oracle/examples/table_vectors.rs prints, which runs
 -- the published Rust and takes the squared distances of the positions that it gives; none comes from these definitions or from the code.
 -- Assumes nothing.
-use Prim.Native.Nat.{ℕ, _<_}
+use Prim.Native.Nat.{ℕ, _+_, _/_, _%_, _<_}
+use mathlib.Core.Bool.{false, cond}
 use mathlib.Core.List.{List, [], _∷_}
-use lib.Dec.{T}
+use lib.Dec.{T, eqb}
 use lib.ListN.{length, getD, replicate}
 use lib.Ieee.{Float}
 use Rattle.rules.specs.Cell.{float}
+use Rattle.rules.specs.Call.{Call}
 use Rattle.rules.proofs.Cases.{
   Case,
   Holds,
   theIndices,
+  theStrides,
   theDiagonals,
   positionOf,
   normalOf,
+  lowest,
+  point,
+  calls,
   ball,
   bitGrid,
   whole,
@@ -43,6 +49,17 @@ reciprocal = corners (float 0) (float 0) (float 1) (float 0) (float 0) (float 0)
 abbrev smallOrder : ℕ → Float
 smallOrder = corners (float 0) (float 0) (float 0) (float 2) (below 1) (float 0) (float 0) (below 1)
 
+-- on each axis the two middle terms of the normal, exchanged, give other bits: as they would be with the weights by the other order of the two axes
+abbrev middleTerms : ℕ → Float
+middleTerms = corners (below 2) (below 1) (float 3) (float 1) (float 3) (float 0) (below 3) (float 2)
+
+-- the same cell at (6,2,4) of dimensions 9, 5, 7, the box being that cell alone: no two coordinates are alike
+abbrev farCorner : ℕ → ℕ
+farCorner j = cond (eqb (j % 9) 7) 1 0 + (cond (eqb (j / 9 % 5) 3) 2 0 + cond (eqb (j / 45) 5) 4 0)
+
+abbrev farCell : Call
+farCell = calls (point 9 5 7) 315 (λ (j : ℕ). middleTerms (farCorner j)) (point 6 2 4) (point 7 3 5) false
+
 -- of the 66 exchanges of two edges 55 change some cell's sum, as far as 400,000 cells show; each of those changes that of one of these three cells
 abbrev firstOrder : ℕ → Float
 firstOrder = corners (float 1) (below 2) (below 2) (float 3) (below 1) (float 2) (float 2) (below 1)
@@ -68,6 +85,12 @@ vectors =
     -- one that is shorter by the last bit, and would tie if the last square were added by a fused step
     ∷ case (wholePlane (bitGrid 0x0166401)) roomy theDiagonals (0x401626DE ∷ 0x3F681B4E ∷ 0x3F9AFE41 ∷ 0x3F9AFE42 ∷ 0x3F45F92C ∷ 0x3F45F92C ∷ 0x401626DE ∷ 0x3FAEAAAB ∷ [])
     ∷ case (wholePlane (bitGrid 0x0166401)) roomy theIndices (2 ∷ 1 ∷ 0 ∷ 2 ∷ 3 ∷ 1 ∷ 6 ∷ 0 ∷ 4 ∷ 6 ∷ 2 ∷ 0 ∷ 3 ∷ 2 ∷ 6 ∷ 3 ∷ 6 ∷ 7 ∷ 6 ∷ 4 ∷ 5 ∷ 6 ∷ 5 ∷ 7 ∷ [])
+    -- where another order of its axes does
+    ∷ case (oneCell middleTerms) roomy (positionOf 0) (0x3EBE2BE2 ∷ 0x3EF8AF8B ∷ 0x3F0EA0EA ∷ [])
+    ∷ case (oneCell middleTerms) roomy (normalOf 0) (0x3E9500A0 ∷ 0x3D091768 ∷ 0x3E1FA903 ∷ [])
+    ∷ case farCell roomy (positionOf 0) (0x40CBE2BE ∷ 0x401F15F1 ∷ 0x4091D41D ∷ [])
+    ∷ case farCell roomy (normalOf 0) (0x3E9500A0 ∷ 0x3D091768 ∷ 0x3E1FA903 ∷ [])
+    ∷ case farCell roomy theStrides (204 ∷ [])
     -- where a fused step of the normal does
     ∷ case (oneCell fusedNormal) roomy (positionOf 0) (0x3EE38E39 ∷ 0x3EAAAAAB ∷ 0x3ED55555 ∷ [])
     ∷ case (oneCell fusedNormal) roomy (normalOf 0) (0x3EE38E36 ∷ 0x3F097B43 ∷ 0xBE17B428 ∷ [])

@@ -117,6 +117,33 @@ fn cell(corners: [f32; 8]) {
     println!("cell {corners:?}: position {position}, normal {normal}");
 }
 
+/// One cell of dimensions 9, 5, 7, the box being that cell alone: its vertex, where no two coordinates are alike.
+fn far_cell(lowest: [u32; 3], corners: [f32; 8]) {
+    let dims = [9, 5, 7];
+    let index = |p: [u32; 3]| (p[0] + dims[0] * p[1] + dims[0] * dims[1] * p[2]) as usize;
+    let mut grid = vec![1.0; index([0, 0, dims[2]])];
+    for (i, &distance) in (0..8).zip(&corners) {
+        grid[index([lowest[0] + i % 2, lowest[1] + i / 2 % 2, lowest[2] + i / 4])] = distance;
+    }
+    let mut mesh = Mesh {
+        stride_to_index: vec![77; grid.len()],
+        ..Mesh::default()
+    };
+    mesh.run(&Call {
+        grid: &grid,
+        dims,
+        min: lowest,
+        max: lowest.map(|n| n + 1),
+        max_plane: MaxPlane::NONE,
+    });
+    println!(
+        "cell {corners:?} at {lowest:?} of {dims:?}: position {}, normal {}, stride {}",
+        bits(&mesh.positions[0]),
+        bits(&mesh.normals[0]),
+        mesh.surface_strides[0]
+    );
+}
+
 fn squared_distance(a: [f32; 3], b: [f32; 3]) -> f32 {
     let [dx, dy, dz] = [a[0] - b[0], a[1] - b[1], a[2] - b[2]];
     (dx * dx + dy * dy) + dz * dz
@@ -202,6 +229,9 @@ fn main() {
     cell([0.0, -1.0, 0.0, 0.0, -2.0, 1.0, 0.0, 0.0]);
     cell([0.0, 0.0, 1.0, 0.0, 0.0, 0.0, -1.0, 0.0]);
     cell([0.0, 0.0, 0.0, 2.0, -1.0, 0.0, 0.0, -1.0]);
+    // on each axis another order of the two middle terms gives other bits
+    cell([-2.0, -1.0, 3.0, 1.0, 3.0, 0.0, -3.0, 2.0]);
+    far_cell([6, 2, 4], [-2.0, -1.0, 3.0, 1.0, 3.0, 0.0, -3.0, 2.0]);
     cells_of_edge_order(&[
         [1.0, -2.0, -2.0, 3.0, -1.0, 2.0, 2.0, -1.0],
         [1.0, -1.0, -3.0, 2.0, -2.0, 2.0, 2.0, -3.0],

@@ -3,6 +3,7 @@
 // says so on the error stream and stops: a program has no exit status of its own to say it with.
 ghost use mathlib.Core.Path.{_≡_};
 ghost use Prim.Native.Nat.{_≤_};
+ghost use lib.Dec.{eqb};
 ghost use lib.ListN.{length};
 ghost use Rattle.io.specs.Counts.{Counts};
 ghost use Rattle.mesh_file.specs.Reading.{checked, readOf};
@@ -12,6 +13,13 @@ use libc::STDOUT_FILENO;
 struct Got {
     bytes: usize,
     failed: bool,
+}
+
+// A read of no byte is the end, and no other: a pipe may bring one byte at a time.
+fn is_end(more: usize) -> bool
+    ensures { λ r. ⌜ r ≡ eqb more 0 ⌝ }
+{
+    more == 0
 }
 
 // All that there is to read, up to the buffer's length.
@@ -28,7 +36,7 @@ fn read_all(fd: i32, buf: &mut [u8]) -> Got
             };
         }
         let more = io::count(got, &buf[n..]);
-        if more == 0 {
+        if is_end(more) {
             return Got {
                 bytes: n,
                 failed: false,

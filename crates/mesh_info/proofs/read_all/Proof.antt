@@ -1,7 +1,11 @@
 -- `mesh_info::read_all` meets its contract. The invariant: what was read is within the buffer, whose length stays. Each turn leaves less to read.
 -- Assumes nothing.
 use lib.Seq.{length-take-le}
-use mathlib.Core.Path.{_≡_, sym}
+use mathlib.Core.Path.{_≡_, sym, _∙_}
+use mathlib.Core.Bool.{false}
+use native.Mathlib.Omega.{arith}
+use lib.Dec.{eqb}
+use borrow.Author.Tests.{eqb-false}
 use borrow.Author.Needs.{needs}
 use Prim.Native.Nat.{_-_, _≤_}
 use lib.ListN.{length}
@@ -47,6 +51,9 @@ part-count-end c = search needs
 count-requires : tie.Need-count-requires Inv-loop μ-loop
 count-requires c κs = search needs
 
+is-end-requires : tie.Need-is-end-requires Inv-loop μ-loop
+is-end-requires c κs = search needs
+
 same-length-2 : tie.Need-same-length-2 Inv-loop μ-loop
 same-length-2 c = search needs
 
@@ -57,7 +64,9 @@ add-n : tie.Need-add-n Inv-loop μ-loop
 add-n c = search needs
 
 loop-less : tie.Need-loop-less Inv-loop μ-loop
-loop-less c = search needs
+loop-less c =
+    let more : eqb (c .before .before .count .result) 0 ≡ false = sym (c .before .is-end .ensures) ∙ c .if2 .left in
+    omega (arith, eqb-false (c .before .before .count .result) 0 more)
 
 loop-again : tie.Need-loop-again Inv-loop μ-loop
 loop-again c = search needs
@@ -85,6 +94,7 @@ read-all-spec =
     part-count-start
     part-count-end
     count-requires
+    is-end-requires
     same-length-2
     returns-2
     add-n

@@ -151,6 +151,10 @@ cases =
     ∷ refused (group 4 1 ++ origins) [] 54
     ∷ refused (group 4 3 ++ times 3 origins) [] 54
     ∷ refused ((2 ∷ 1 ∷ 1 ∷ 0 ∷ 0 ∷ 0 ∷ 0 ∷ 0 ∷ []) ++ origins) [] 54
+    ∷ refused ((3 ∷ 1 ∷ 0 ∷ 1 ∷ 0 ∷ 0 ∷ 0 ∷ 0 ∷ []) ++ origins) [] 54
+    ∷ refused ((2 ∷ 1 ∷ 0 ∷ 0 ∷ 1 ∷ 0 ∷ 0 ∷ 0 ∷ []) ++ origins) [] 54
+    ∷ refused ((4 ∷ 2 ∷ 0 ∷ 0 ∷ 0 ∷ 1 ∷ 0 ∷ 0 ∷ []) ++ origins ++ origins) [] 54
+    ∷ refused ((3 ∷ 1 ∷ 0 ∷ 0 ∷ 0 ∷ 0 ∷ 1 ∷ 0 ∷ []) ++ origins) [] 54
     ∷ refused ((3 ∷ 1 ∷ 0 ∷ 0 ∷ 0 ∷ 0 ∷ 0 ∷ 1 ∷ []) ++ origins) [] 54
     -- 55: infinite, not a number, and the next float above 2^24 on either side, in the first and in the last of the six
     ∷ refused (box 0x7F800000 0 0 0 0 0) [] 55

@@ -13,3 +13,4 @@ pub mod RoundTrip
 pub mod Settled
 pub mod Rewritten
 pub mod Records
+pub mod Cases

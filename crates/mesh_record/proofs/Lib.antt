@@ -4,3 +4,4 @@ pub mod Laying
 pub mod Recording
 pub mod OneStep
 pub mod Told
+pub mod Cases

@@ -2,7 +2,7 @@
 -- vertices, and what comes back: the lists have room, and with the part of the map put back they are what the rules say of the layer in the whole grid.
 -- Assumes nothing.
 use Prim.Native.Nat.{ℕ, _+_, _-_, _*_, _≤_, _<_}
-use native.Mathlib.Nat.{mul-one, mul-le-mul-left}
+use native.Mathlib.Nat.{le-trans, le-add-right, mul-one, mul-le-mul-left}
 use native.Mathlib.Omega.{arith}
 use mathlib.Core.List.{List, _++_, map}
 use mathlib.Core.Path.{_≡_, refl, sym, ap, _∙_}
@@ -50,6 +50,16 @@ module _ (sdf : List Float) (k : Block) (i : Inside sdf k) (z : ℕ) (zs : (k .l
 
   pub lent-agree : (p : GridPoint) → T (inBox (slab (boxOf k) z) p) → value (twoLayers lower upper k z) p ≡ value (fieldOf sdf k) p
   lent-agree = rw (t .lowerIs, t .upperIs) (layers-agree sdf k i z zs)
+
+-- its part of a map as long as the grid
+pub layer-range : (sdf : List Float) (k : Block) → Inside sdf k → (z : ℕ) → (k .low .z ≤ z) × (z < k .high .z) → (mp : List ℕ) → length sdf ≤ length mp
+    → Range (k .dims .x * k .dims .y * z) (k .dims .x * k .dims .y * z + k .dims .x * k .dims .y) (length mp)
+layer-range sdf k i z zs mp h =
+    record {
+      ordered = le-add-right (k .dims .x * k .dims .y * z) (k .dims .x * k .dims .y);
+      within = le-trans (layer-end sdf k i z zs) h;
+      few = layer-few sdf k i z zs;
+    }
 
 -- where the layer begins and ends in each of the three lists: the parts that are lent of them
 module _ (width : ℕ) (f : List Float) (s b : List ℤ) (k : Block) (i : Inside (gridOf width f s b) k) (z : ℕ) (zs : (k .low .z ≤ z) × (z < k .high .z)) {fs fe ss se bs be : ℕ}

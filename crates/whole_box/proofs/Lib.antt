@@ -6,3 +6,4 @@ pub mod Looks
 pub mod Lent
 pub mod Last
 pub mod Layer
+pub mod Ranges

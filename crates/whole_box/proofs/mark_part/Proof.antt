@@ -2,13 +2,16 @@
 use Prim.Native.Nat.{ℕ, _+_, _*_, _≤_}
 use mathlib.Core.List.{List}
 use mathlib.Core.Path.{ap, _∙_}
-use native.Mathlib.Omega.{arith}
+use native.Mathlib.Nat.{le-refl}
+use mir.Syntax.{w64}
+use mir.Val.{Fits}
 use lib.Ieee.{Float}
 use lib.ListN.{length}
 use Rattle.grid.specs.Values.{gridOf}
-use Rattle.grid.proofs.Parts.{layer-end, layer-few, corner-lent}
+use Rattle.grid.proofs.Parts.{corner-lent}
 use Rattle.grid.proofs.Places.{Place, Range}
-use Rattle.whole_box.proofs.Lent.{lent-layers, lent-ranges, lent-parts, layer-same, room-lent, marked-back}
+use Rattle.whole_box.proofs.Lent.{layer-range, lent-layers, lent-ranges, lent-parts, layer-same, room-lent, marked-back}
+use Rattle.whole_box.proofs.Ranges.{from-fits, to-fits, from-twos, to-twos, from-fours, to-fours, length-fits, number-fits}
 use borrow.Author.Needs.{needs}
 use Rattle.whole_box.proofs.mark_part.Statement.{statement}
 use Rattle.whole_box.proofs.mark_part.Tie as tie
@@ -38,8 +41,14 @@ first-of s = let k = s .args .k in k .dims .x * k .dims .y * s .args .z
 abbrev last-of : tie.Start → ℕ
 last-of s = let k = s .args .k in first-of s + k .dims .x * k .dims .y
 
-ends : (s : tie.Start) → (last-of s ≤ length (grid-of s)) × (last-of s ≤ 1073741824)
-ends s = let a = s .args in (layer-end (grid-of s) (a .k) (s .pre .0) (a .z) (s .pre .1 .0), layer-few (grid-of s) (a .k) (s .pre .0) (a .z) (s .pre .1 .0))
+-- the layer's part of the map
+lent : (s : tie.Start) → Range (first-of s) (last-of s) (length (s .args .map .now))
+lent s =
+    let a = s .args in
+    layer-range (grid-of s) (a .k) (s .pre .0) (a .z) (s .pre .1 .0) (a .map .now) (s .pre .1 .1 .0)
+
+plane-fits : (s : tie.Start) → let k = s .args .k in Fits w64 (k .dims .x * k .dims .y)
+plane-fits s = let k = s .args .k in length-fits (first-of s) (k .dims .x * k .dims .y) (length (s .args .map .now)) (lent s)
 
 firsts : (c : tie.After-eight-place2) → let s = entry-of c in
     Place (s .args .width) (first-of s) (c .before .before .before .before .before .float-place .result) (c .before .before .before .sixteen-place .result)
@@ -78,13 +87,13 @@ cast-plane-2 : tie.Need-cast-plane-2
 cast-plane-2 c = search needs
 
 mul-plane : tie.Need-mul-plane
-mul-plane c = let e = ends (start-of c) in omega arith
+mul-plane c = plane-fits (start-of c)
 
 mul-start : tie.Need-mul-start
-mul-start c = let e = ends (start-of c) in omega arith
+mul-start c = from-fits (lent (start-of c))
 
 add-end : tie.Need-add-end
-add-end c = let e = ends (start-of c) in omega arith
+add-end c = to-fits (lent (start-of c))
 
 float-place-requires : tie.Need-float-place-requires
 float-place-requires c κs = search needs
@@ -105,85 +114,85 @@ eight-place-requires-2 : tie.Need-eight-place-requires-2
 eight-place-requires-2 c κs = search needs
 
 cast-t26 : tie.Need-cast-t26
-cast-t26 c = let r = entry-of c .pre .1 .1 .1 in omega arith
+cast-t26 c = number-fits (entry-of c .pre .1 .1 .1)
 
 mul-mark-layer : tie.Need-mul-mark-layer
-mul-mark-layer c = let r = ranges c .0 in omega arith
+mul-mark-layer c = from-fours (ranges c .0)
 
 sub-mark-layer : tie.Need-sub-mark-layer
-sub-mark-layer c = let r = ranges c .0 in omega arith
+sub-mark-layer c = ranges c .0 .ordered
 
 part-mark-layer-start : tie.Need-part-mark-layer-start
-part-mark-layer-start c = let r = ranges c .0 in omega arith
+part-mark-layer-start c = ranges c .0 .ordered
 
 part-mark-layer-end : tie.Need-part-mark-layer-end
-part-mark-layer-end c = let r = ranges c .0 in omega arith
+part-mark-layer-end c = ranges c .0 .within
 
 mul-mark-layer-2 : tie.Need-mul-mark-layer-2
-mul-mark-layer-2 c = let r = ranges (c .before) .0 in omega arith
+mul-mark-layer-2 c = to-fours (ranges (c .before) .0)
 
 sub-mark-layer-2 : tie.Need-sub-mark-layer-2
-sub-mark-layer-2 c = let r = ranges (c .before) .0 in omega arith
+sub-mark-layer-2 c = ranges (c .before) .0 .within
 
 part-mark-layer-start-2 : tie.Need-part-mark-layer-start-2
-part-mark-layer-start-2 c = let r = ranges (c .before) .0 in omega arith
+part-mark-layer-start-2 c = ranges (c .before) .0 .within
 
 part-mark-layer-end-2 : tie.Need-part-mark-layer-end-2
-part-mark-layer-end-2 c = let r = ranges (c .before) .0 in omega arith
+part-mark-layer-end-2 c = le-refl _
 
 mul-mark-layer-3 : tie.Need-mul-mark-layer-3
-mul-mark-layer-3 c = let r = ranges (c .before .before) .1 in omega arith
+mul-mark-layer-3 c = from-twos (ranges (c .before .before) .1)
 
 sub-mark-layer-3 : tie.Need-sub-mark-layer-3
-sub-mark-layer-3 c = let r = ranges (c .before .before) .1 in omega arith
+sub-mark-layer-3 c = ranges (c .before .before) .1 .ordered
 
 part-mark-layer-start-3 : tie.Need-part-mark-layer-start-3
-part-mark-layer-start-3 c = let r = ranges (c .before .before) .1 in omega arith
+part-mark-layer-start-3 c = ranges (c .before .before) .1 .ordered
 
 part-mark-layer-end-3 : tie.Need-part-mark-layer-end-3
-part-mark-layer-end-3 c = let r = ranges (c .before .before) .1 in omega arith
+part-mark-layer-end-3 c = ranges (c .before .before) .1 .within
 
 mul-mark-layer-4 : tie.Need-mul-mark-layer-4
-mul-mark-layer-4 c = let r = ranges (c .before .before .before) .1 in omega arith
+mul-mark-layer-4 c = to-twos (ranges (c .before .before .before) .1)
 
 sub-mark-layer-4 : tie.Need-sub-mark-layer-4
-sub-mark-layer-4 c = let r = ranges (c .before .before .before) .1 in omega arith
+sub-mark-layer-4 c = ranges (c .before .before .before) .1 .within
 
 part-mark-layer-start-4 : tie.Need-part-mark-layer-start-4
-part-mark-layer-start-4 c = let r = ranges (c .before .before .before) .1 in omega arith
+part-mark-layer-start-4 c = ranges (c .before .before .before) .1 .within
 
 part-mark-layer-end-4 : tie.Need-part-mark-layer-end-4
-part-mark-layer-end-4 c = let r = ranges (c .before .before .before) .1 in omega arith
+part-mark-layer-end-4 c = le-refl _
 
 sub-mark-layer-5 : tie.Need-sub-mark-layer-5
-sub-mark-layer-5 c = let r = ranges (c .before .before .before .before) .2 in omega arith
+sub-mark-layer-5 c = ranges (c .before .before .before .before) .2 .ordered
 
 part-mark-layer-start-5 : tie.Need-part-mark-layer-start-5
-part-mark-layer-start-5 c = let r = ranges (c .before .before .before .before) .2 in omega arith
+part-mark-layer-start-5 c = ranges (c .before .before .before .before) .2 .ordered
 
 part-mark-layer-end-5 : tie.Need-part-mark-layer-end-5
-part-mark-layer-end-5 c = let r = ranges (c .before .before .before .before) .2 in omega arith
+part-mark-layer-end-5 c = ranges (c .before .before .before .before) .2 .within
 
 sub-mark-layer-6 : tie.Need-sub-mark-layer-6
-sub-mark-layer-6 c = let r = ranges (c .before .before .before .before .before) .2 in omega arith
+sub-mark-layer-6 c = ranges (c .before .before .before .before .before) .2 .within
 
 part-mark-layer-start-6 : tie.Need-part-mark-layer-start-6
-part-mark-layer-start-6 c = let r = ranges (c .before .before .before .before .before) .2 in omega arith
+part-mark-layer-start-6 c = ranges (c .before .before .before .before .before) .2 .within
 
 part-mark-layer-end-6 : tie.Need-part-mark-layer-end-6
-part-mark-layer-end-6 c = let r = ranges (c .before .before .before .before .before) .2 in omega arith
+part-mark-layer-end-6 c = le-refl _
 
 mul-mark-layer-5 : tie.Need-mul-mark-layer-5
-mul-mark-layer-5 c = let s = entry-of (places-of c) in let e = ends s in let m = s .pre .1 .1 .0 in omega arith
+mul-mark-layer-5 c = from-fours (lent (entry-of (places-of c)))
 
 sub-mark-layer-7 : tie.Need-sub-mark-layer-7
-sub-mark-layer-7 c = let s = entry-of (places-of c) in let e = ends s in let m = s .pre .1 .1 .0 in omega arith
+sub-mark-layer-7 c = lent (entry-of (places-of c)) .ordered
 
 part-mark-layer-start-7 : tie.Need-part-mark-layer-start-7
-part-mark-layer-start-7 c = let s = entry-of (places-of c) in let e = ends s in let m = s .pre .1 .1 .0 in omega arith
+part-mark-layer-start-7 c = lent (entry-of (places-of c)) .ordered
 
 part-mark-layer-end-7 : tie.Need-part-mark-layer-end-7
-part-mark-layer-end-7 c = let s = entry-of (places-of c) in let e = ends s in let m = s .pre .1 .1 .0 in omega arith
+part-mark-layer-end-7 c = lent (entry-of (places-of c)) .within
 
 mark-layer-requires : tie.Need-mark-layer-requires
 mark-layer-requires c κs =
@@ -198,19 +207,19 @@ mark-layer-requires c κs =
     )
 
 same-length : tie.Need-same-length
-same-length c = search needs
+same-length c = call-of c .mark-layer .kept .1 .1 .1 .1 .1 .1 .1 .1 .1 .1 .0
 
 same-length-2 : tie.Need-same-length-2
-same-length-2 c = search needs
+same-length-2 c = call-of c .mark-layer .kept .1 .1 .1 .1 .1 .1 .1 .1 .1 .1 .1 .0
 
 same-length-3 : tie.Need-same-length-3
-same-length-3 c = search needs
+same-length-3 c = call-of c .mark-layer .kept .1 .1 .1 .1 .1 .1 .1 .1 .1 .1 .1 .1 .0
 
 same-length-4 : tie.Need-same-length-4
-same-length-4 c = search needs
+same-length-4 c = call-of c .mark-layer .kept .1 .1 .1 .1 .1 .1 .1 .1 .1 .1 .1 .1 .1 .0
 
 same-length-5 : tie.Need-same-length-5
-same-length-5 c = search needs
+same-length-5 c = call-of c .mark-layer .kept .1 .1 .1 .1 .1 .1 .1 .1 .1 .1 .1 .1 .1 .1 .0
 
 same-length-6 : tie.Need-same-length-6
 same-length-6 c = search needs

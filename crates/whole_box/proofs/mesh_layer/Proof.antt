@@ -35,6 +35,9 @@ start-of c = c .before .before .before .before .before .before .before .before .
 abbrev grid-of : tie.Start → List Float
 grid-of s = let a = s .args in gridOf (a .width) (a .sdf .now) (a .sdf16 .now) (a .sdf8 .now)
 
+abbrev marked-of : tie.After-struct-known2 → tie.After-mark-part
+marked-of c = mark-part-from-struct-known (c .before)
+
 -- the lists that the layers before leave
 so-far : (s : tie.Start) → let a = s .args in Written (callOf (grid-of s) (a .k)) (a .z) (s .pre .1 .1 .start) (a .made)
     (buffersGiven (a .positions) (a .normals) (a .cells) (a .strides) (a .crossings) (a .map) (a .indices))
@@ -96,25 +99,25 @@ add-t39 c =
     omega (arith, f .face-part .ensures .1, indices-room (grid-of s) (a .k) (s .pre .0) (a .z) (s .pre .1 .0) (so-far s), s .good .1 .1 .1 .1 .1 .1 .1 .1 .1 .1 .1 .1 .0)
 
 same-length : tie.Need-same-length
-same-length c = search needs
+same-length c = marked-of c .mark-part .kept .1 .1 .1 .1 .1 .1 .1 .0
 
 same-length-2 : tie.Need-same-length-2
-same-length-2 c = search needs
+same-length-2 c = marked-of c .mark-part .kept .1 .1 .1 .1 .1 .1 .1 .1 .0
 
 same-length-3 : tie.Need-same-length-3
-same-length-3 c = search needs
+same-length-3 c = marked-of c .mark-part .kept .1 .1 .1 .1 .1 .1 .1 .1 .1 .0
 
 same-length-4 : tie.Need-same-length-4
-same-length-4 c = search needs
+same-length-4 c = marked-of c .mark-part .kept .1 .1 .1 .1 .1 .1 .1 .1 .1 .1 .0
 
 same-length-5 : tie.Need-same-length-5
-same-length-5 c = search needs
+same-length-5 c = marked-of c .mark-part .kept .1 .1 .1 .1 .1 .1 .1 .1 .1 .1 .1 .0
 
 same-length-6 : tie.Need-same-length-6
-same-length-6 c = search needs
+same-length-6 c = marked-of c .mark-part .kept .1 .1 .1 .1 .1 .1 .1 .1 .1 .1 .1 .1 .0
 
 same-length-7 : tie.Need-same-length-7
-same-length-7 c = search needs
+same-length-7 c = face-part-from-struct-known2 c .face-part .kept .1 .1 .1 .1 .1 .1 .1 .1 .1 .1 .1 .0
 
 returns : tie.Need-returns
 returns c =

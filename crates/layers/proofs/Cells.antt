@@ -8,7 +8,7 @@ use mathlib.Core.List.{List, []}
 use mathlib.Core.Logic.{_⊎_, inl, inr}
 use mathlib.Core.Path.{_≡_, refl, sym, ap, ap₂, subst, _∙_}
 use borrow.Author.Tests.{eq-eqb, ne-eqb, lt-ltb, le-ltb}
-use mir.Syntax.{w64}
+use mir.Syntax.{w32, w64}
 use mir.Val.{Fits}
 use lib.Dec.{T, eqb}
 use lib.ListN.{length, take, drop}
@@ -19,7 +19,7 @@ use Rattle.rules.specs.Vertices.{layerCells, surfaceCell, layerVertices, nullVe
 use Rattle.rules.specs.Faces.{Flags, layerEdges}
 use Rattle.lists.proofs.Tests.{less-or-not}
 use Rattle.lists.proofs.Lists.{length-keep, many-most, joined-length}
-use Rattle.rules.proofs.Indexes.{BoxFits, box-fits}
+use Rattle.rules.proofs.Indexes.{BoxFits, box-fits, small}
 use Rattle.grid.specs.declared.Block.{Block}
 use Rattle.grid.specs.Block.{point, boxOf, flagsOf}
 use Rattle.grid.specs.Layers.{inLayer, twoLayers, InLayers}
@@ -187,6 +187,7 @@ half-end k t en ea = let e = half-is k t en ea in omega (arith, half-ends k t)
 
 -- such a half ends within two layers, which are few
 pub record Within (k : Block) (at n : ℕ) : Type 0 where
+  pub ordered : at ≤ at + n
   pub inside : at + n ≤ 2 * plane k
   pub end-fits : Fits w64 (at + n)
   pub bytes-fit : Fits w64 (at * 4)
@@ -195,7 +196,14 @@ pub within-half : {s : State} {layer distances : List Float} → Ready s layer d
 within-half {s} r t ea =
     let e = half-end (s .block) t (r .offered .long) ea in
     let p = plane-small r in
-    record { inside = e; end-fits = record { fits = omega arith }; bytes-fit = record { fits = omega arith } }
+    record { ordered = omega arith; inside = e; end-fits = record { fits = omega arith }; bytes-fit = record { fits = omega arith } }
+
+-- the layer of cells below the layer offered has a number that fits a word
+pub cells-word : {s : State} {layer distances : List Float} → Ready s layer distances → Fits w32 (s .block .low .z + (s .taken - 1))
+cells-word {s} r =
+    let f = box-fits (point (s .block .dims)) (boxOf (s .block)) (r .offered .box) in
+    let d = small (point (s .block .dims)) (r .offered .dims) in
+    record { fits = omega (arith, r .more) }
 
 -- room for what is brought out, as the vertices ask for it
 pub new-room : {s : State} {layer : List Float} {m : Memory} {o : Output} → Roomy s layer m o → {number : ℕ} → number ≡ newFirst s layer (m .distances)

@@ -30,6 +30,9 @@ numbered-of c = (c .before .before .before .before .before .before .before .befo
 abbrev brought-of : tie.After-keep-layer → tie.After-bring-out
 brought-of c = (c .before .before .before .before .before .before .before .before .before .before .before .before .before .before .before .before .before .before .before)
 
+abbrev kept-of : tie.After-struct-known → tie.After-keep-layer
+kept-of c = c .before .before .before .before .before .before
+
 -- ---- what the answer says
 
 abbrev number-of : tie.Start → ℕ
@@ -65,13 +68,13 @@ layer-answer-requires : tie.Need-layer-answer-requires
 layer-answer-requires c κs = search needs
 
 same-length : tie.Need-same-length
-same-length c = search needs
+same-length c = refl
 
 same-length-2 : tie.Need-same-length-2
-same-length-2 c = search needs
+same-length-2 c = refl
 
 same-length-3 : tie.Need-same-length-3
-same-length-3 c = search needs
+same-length-3 c = refl
 
 returns : tie.Need-returns
 returns c =
@@ -106,31 +109,31 @@ add-t57 c =
     record { fits = omega (arith, f .first-number .ensures) }
 
 same-length-4 : tie.Need-same-length-4
-same-length-4 c = search needs
+same-length-4 c = kept-of c .keep-layer .kept .1 .1 .0
 
 same-length-5 : tie.Need-same-length-5
-same-length-5 c = search needs
+same-length-5 c = kept-of c .keep-layer .kept .1 .1 .1 .0 ∙ brought-of (kept-of c) .bring-out .kept .1 .1 .1 .1 .0
 
 same-length-6 : tie.Need-same-length-6
-same-length-6 c = search needs
+same-length-6 c = brought-of (kept-of c) .bring-out .kept .1 .1 .1 .1 .1 .0
 
 same-length-7 : tie.Need-same-length-7
-same-length-7 c = search needs
+same-length-7 c = brought-of (kept-of c) .bring-out .kept .1 .1 .1 .1 .1 .1 .0
 
 same-length-8 : tie.Need-same-length-8
-same-length-8 c = search needs
+same-length-8 c = brought-of (kept-of c) .bring-out .kept .1 .1 .1 .1 .1 .1 .1 .0
 
 same-length-9 : tie.Need-same-length-9
-same-length-9 c = search needs
+same-length-9 c = brought-of (kept-of c) .bring-out .kept .1 .1 .1 .1 .1 .1 .1 .1 .0
 
 same-length-10 : tie.Need-same-length-10
-same-length-10 c = search needs
+same-length-10 c = brought-of (kept-of c) .bring-out .kept .1 .1 .1 .1 .1 .1 .1 .1 .1 .0
 
 same-length-11 : tie.Need-same-length-11
-same-length-11 c = search needs
+same-length-11 c = brought-of (kept-of c) .bring-out .kept .1 .1 .1 .1 .1 .1 .1 .1 .1 .1 .0
 
 same-length-12 : tie.Need-same-length-12
-same-length-12 c = search needs
+same-length-12 c = brought-of (kept-of c) .bring-out .kept .1 .1 .1 .1 .1 .1 .1 .1 .1 .1 .1 .0
 
 returns-2 : tie.Need-returns-2
 returns-2 c =

@@ -25,6 +25,9 @@ branch-of c = (c .before .before .before .before .before .before .before)
 abbrev marked-of : tie.After-face-kept → tie.After-mark-kept
 marked-of c = (c .before .before .before .before .before .before .before .before .before .before .before .before .before .before .before .before .before .before)
 
+abbrev faced-of : tie.After-slice-known16 → tie.After-face-kept
+faced-of c = c .before .before .before .before .before .before .before
+
 -- ---- what the vertices left
 
 later : (c : tie.Else1) → 0 < entry-of c .args .s .taken
@@ -78,28 +81,28 @@ copy-requires c κs =
     omega (arith, entry-of (branch-of m) .pre .0 .keeps, positions-part (new m) (m .mark-kept .ensures .0) (m .mark-kept .ensures .1))
 
 same-length : tie.Need-same-length
-same-length c = search needs
+same-length c = marked-of (faced-of c) .mark-kept .kept .1 .1 .1 .1 .0
 
 same-length-2 : tie.Need-same-length-2
-same-length-2 c = search needs
+same-length-2 c = c .before .before .copy .kept .1 .0
 
 same-length-3 : tie.Need-same-length-3
-same-length-3 c = search needs
+same-length-3 c = marked-of (faced-of c) .mark-kept .kept .1 .1 .1 .1 .1 .0
 
 same-length-4 : tie.Need-same-length-4
-same-length-4 c = search needs
+same-length-4 c = marked-of (faced-of c) .mark-kept .kept .1 .1 .1 .1 .1 .1 .0
 
 same-length-5 : tie.Need-same-length-5
-same-length-5 c = search needs
+same-length-5 c = marked-of (faced-of c) .mark-kept .kept .1 .1 .1 .1 .1 .1 .1 .0
 
 same-length-6 : tie.Need-same-length-6
-same-length-6 c = search needs
+same-length-6 c = marked-of (faced-of c) .mark-kept .kept .1 .1 .1 .1 .1 .1 .1 .1 .0
 
 same-length-7 : tie.Need-same-length-7
-same-length-7 c = search needs
+same-length-7 c = marked-of (faced-of c) .mark-kept .kept .1 .1 .1 .1 .1 .1 .1 .1 .1 .0
 
 same-length-8 : tie.Need-same-length-8
-same-length-8 c = search needs
+same-length-8 c = faced-of c .face-kept .kept .1 .1 .1 .1 .1 .1 .1 .1 .1 .0
 
 returns-2 : tie.Need-returns-2
 returns-2 c =

@@ -1,12 +1,12 @@
 -- The halves are lent, and the vertices of the layer. Assumes nothing.
 use Prim.Native.Nat.{_*_}
-use mathlib.Core.Path.{sym}
-use native.Mathlib.Omega.{arith}
+use native.Mathlib.Nat.{le-trans}
+use mathlib.Core.Path.{refl, sym}
 use lib.ListN.{length}
 use lib.Seq.{length-take-le}
 use Rattle.grid.specs.Values.{gridOf}
 use Rattle.layers.specs.Offer.{before}
-use Rattle.layers.proofs.Cells.{Within, within-half}
+use Rattle.layers.proofs.Cells.{Within, within-half, cells-word}
 use Rattle.layers.proofs.Brought.{lower-layers, standing-lent, edges-fit, under-corner, faces-put}
 use borrow.Author.Needs.{needs}
 use Rattle.layers.proofs.bringing.face_kept.Statement.{statement}
@@ -33,16 +33,16 @@ under-ends c = let s = entry-of (c .before) in within-half (s .pre .0) (s .args 
 -- ---- the needs
 
 sub-t : tie.Need-sub-t
-sub-t c = search needs
+sub-t c = (c .before .before .before .before .before .before .before .before) .pre .1 .0
 
 half-requires : tie.Need-half-requires
-half-requires c κs = search needs
+half-requires c κs = tt
 
 add-end : tie.Need-add-end
 add-end c = ends c .end-fits
 
 half-requires-2 : tie.Need-half-requires-2
-half-requires-2 c κs = search needs
+half-requires-2 c κs = tt
 
 add-under-end : tie.Need-add-under-end
 add-under-end c = under-ends c .end-fits
@@ -54,28 +54,28 @@ mul-face-layer : tie.Need-mul-face-layer
 mul-face-layer c = ends (c .before) .bytes-fit
 
 sub-face-layer : tie.Need-sub-face-layer
-sub-face-layer c = search needs
+sub-face-layer c = ends (c .before) .ordered
 
 part-face-layer-start : tie.Need-part-face-layer-start
-part-face-layer-start c = search needs
+part-face-layer-start c = ends (c .before) .ordered
 
 part-face-layer-end : tie.Need-part-face-layer-end
-part-face-layer-end c = omega (arith, entry-of (c .before) .pre .0 .kept, ends (c .before) .inside)
+part-face-layer-end c = le-trans (ends (c .before) .inside) (entry-of (c .before) .pre .0 .kept)
 
 slice-aggregate-face-layer : tie.Need-slice-aggregate-face-layer
-slice-aggregate-face-layer c = search needs
+slice-aggregate-face-layer c = refl
 
 slice-aggregate-face-layer-2 : tie.Need-slice-aggregate-face-layer-2
-slice-aggregate-face-layer-2 c = search needs
+slice-aggregate-face-layer-2 c = refl
 
 slice-aggregate-face-layer-3 : tie.Need-slice-aggregate-face-layer-3
-slice-aggregate-face-layer-3 c = search needs
+slice-aggregate-face-layer-3 c = refl
 
 slice-aggregate-face-layer-4 : tie.Need-slice-aggregate-face-layer-4
-slice-aggregate-face-layer-4 c = search needs
+slice-aggregate-face-layer-4 c = refl
 
 add-face-layer : tie.Need-add-face-layer
-add-face-layer c = search needs
+add-face-layer c = cells-word (entry-of (c .before .before .before .before .before .before .before) .pre .0)
 
 slice-aggregate-face-layer-5 : tie.Need-slice-aggregate-face-layer-5
 slice-aggregate-face-layer-5 c = let s = entry-of (lent-of c .before) in sym (length-take-le (3 * s .args .count) (s .args .cells .now) (s .pre .1 .1 .1 .0 .0))
@@ -84,13 +84,13 @@ mul-face-layer-2 : tie.Need-mul-face-layer-2
 mul-face-layer-2 c = ends (lent-of c .before) .bytes-fit
 
 sub-face-layer-2 : tie.Need-sub-face-layer-2
-sub-face-layer-2 c = search needs
+sub-face-layer-2 c = ends (lent-of c .before) .ordered
 
 part-face-layer-start-2 : tie.Need-part-face-layer-start-2
-part-face-layer-start-2 c = search needs
+part-face-layer-start-2 c = ends (lent-of c .before) .ordered
 
 part-face-layer-end-2 : tie.Need-part-face-layer-end-2
-part-face-layer-end-2 c = let h = lent-of c .before in omega (arith, entry-of h .pre .1 .1 .0, ends h .inside)
+part-face-layer-end-2 c = let h = lent-of c .before in le-trans (ends h .inside) (entry-of h .pre .1 .1 .0)
 
 slice-aggregate-face-layer-6 : tie.Need-slice-aggregate-face-layer-6
 slice-aggregate-face-layer-6 c = let s = entry-of (under-of c .before) in sym (length-take-le (3 * s .args .count) (s .args .positions .now) (s .pre .1 .1 .1 .0 .1))
@@ -99,13 +99,13 @@ mul-face-layer-3 : tie.Need-mul-face-layer-3
 mul-face-layer-3 c = under-ends (under-of c) .bytes-fit
 
 sub-face-layer-3 : tie.Need-sub-face-layer-3
-sub-face-layer-3 c = search needs
+sub-face-layer-3 c = under-ends (under-of c) .ordered
 
 part-face-layer-start-3 : tie.Need-part-face-layer-start-3
-part-face-layer-start-3 c = search needs
+part-face-layer-start-3 c = under-ends (under-of c) .ordered
 
 part-face-layer-end-3 : tie.Need-part-face-layer-end-3
-part-face-layer-end-3 c = let u = under-of c in omega (arith, entry-of (u .before) .pre .1 .1 .0, under-ends u .inside)
+part-face-layer-end-3 c = let u = under-of c in le-trans (under-ends u .inside) (entry-of (u .before) .pre .1 .1 .0)
 
 face-layer-requires : tie.Need-face-layer-requires
 unfolding gridOf
@@ -123,7 +123,7 @@ face-layer-requires c κs =
     )
 
 same-length : tie.Need-same-length
-same-length c = search needs
+same-length c = c .before .before .face-layer .kept .1 .1 .1 .1 .1 .1 .1 .1 .1 .1 .1 .1 .1 .1 .1 .0
 
 returns : tie.Need-returns
 unfolding gridOf

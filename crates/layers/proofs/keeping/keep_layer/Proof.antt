@@ -1,7 +1,7 @@
 -- The half holds the layer, and its half of the map no vertex. Assumes nothing.
 use Prim.Native.Nat.{ℕ}
+use native.Mathlib.Nat.{le-trans}
 use mathlib.Core.Path.{ap, _∙_}
-use native.Mathlib.Omega.{arith}
 use lib.ListN.{length}
 use lib.Seq.{sets}
 use Rattle.layers.proofs.Cells.{Within, within-half, half-is}
@@ -21,25 +21,25 @@ ends c = let s = entry-of c in within-half (s .pre .0) (s .args .s .taken) (c .h
 -- ---- the needs
 
 half-requires : tie.Need-half-requires
-half-requires c κs = search needs
+half-requires c κs = tt
 
 add-end : tie.Need-add-end
 add-end c = ends c .end-fits
 
 copy-requires : tie.Need-copy-requires
-copy-requires c κs = let h = c .before in omega (arith, entry-of h .pre .0 .kept, ends h .inside)
+copy-requires c κs = let h = c .before in le-trans (ends h .inside) (entry-of h .pre .0 .kept)
 
 mul-clear-layer : tie.Need-mul-clear-layer
 mul-clear-layer c = ends (c .before .before .before .before) .bytes-fit
 
 sub-clear-layer : tie.Need-sub-clear-layer
-sub-clear-layer c = search needs
+sub-clear-layer c = ends (c .before .before .before .before) .ordered
 
 part-clear-layer-start : tie.Need-part-clear-layer-start
-part-clear-layer-start c = search needs
+part-clear-layer-start c = ends (c .before .before .before .before) .ordered
 
 part-clear-layer-end : tie.Need-part-clear-layer-end
-part-clear-layer-end c = let h = c .before .before .before .before in omega (arith, entry-of h .pre .1, ends h .inside)
+part-clear-layer-end c = let h = c .before .before .before .before in le-trans (ends h .inside) (entry-of h .pre .1)
 
 clear-layer-requires : tie.Need-clear-layer-requires
 clear-layer-requires c κs = let h = c .before .before .before .before .before in let s = entry-of h in part-lent (s .pre .0) (s .args .map .now) (s .pre .1) (h .half .ensures)

@@ -1,11 +1,13 @@
 -- One layer of the whole box, put together from what its two halves say of the lists; what they ask of them; and the numbers that the code works out.
 -- Assumes nothing.
-use Prim.Native.Nat.{ℕ, suc, _+_, _-_, _*_, _≤_, _<_}
+use Prim.Native.Nat.{ℕ, suc, _+_, _-_, _*_, _≤_, _<_, _^_}
 use native.Mathlib.Nat.{mul-one, mul-le-mul-left}
 use native.Mathlib.Omega.{arith}
 use mathlib.Core.List.{List, []}
 use mathlib.Core.Logic.{_⊎_, inl, inr}
 use mathlib.Core.Path.{_≡_, refl, sym, ap, ap₂, subst, _∙_}
+use mir.Syntax.{w64}
+use mir.Val.{Fits}
 use lib.Ieee.{Float}
 use lib.ListN.{length, length-append}
 use lib.Seq.{sets}
@@ -66,7 +68,7 @@ module _ (sdf : List Float) (k : Block) (i : Inside sdf k) (z : ℕ) (zs : (k .l
   -- ---- the layer
 
   module _ {t s : Buffers} {made : Made} (w : Written (callOf sdf k) z t made s) where
-    pub grown : Written (callOf sdf k) (z + 1) t (layerMade (callOf sdf k) z made) (layerWritten (callOf sdf k) z made s)
+    grown : Written (callOf sdf k) (z + 1) t (layerMade (callOf sdf k) z made) (layerWritten (callOf sdf k) z made s)
     grown =
         let f = fits sdf k i in
         written-more call z (zs .0) (zs .1) (omega arith) (omega arith) (plane-up sdf k i) w
@@ -97,11 +99,16 @@ module _ (sdf : List Float) (k : Block) (i : Inside sdf k) (z : ℕ) (zs : (k .l
           written-lengths call z (zs .0) (omega arith) w .indices,
         )
 
-    pub vertices-room : made .vertices + length (layerVertices (fieldOf sdf k) (boxOf k) z) ≤ 1073741824
-    vertices-room = omega (arith, ap (λ (n : Made). n .vertices) (w .on), first-few)
+    -- so that the code's two sums fit
+    pub vertices-fit : {count : ℕ} → count ≡ length (layerVertices (fieldOf sdf k) (boxOf k) z) → Fits w64 (made .vertices + count)
+    vertices-fit h = omega (arith, ap (λ (n : Made). n .vertices) (w .on), first-few)
+
+    pub indices-fit : {used : ℕ} → used ≡ length (layerIndices (fieldOf sdf k) (boxOf k) (flagsOf k) (made .vertices) z) → length (t .indices) < 2 ^ 64
+        → Fits w64 (made .indices + used)
+    indices-fit h n = omega (arith, indices-room, written-lengths call z (zs .0) (omega arith) w .indices)
 
     -- its two halves together
-    pub layer-whole : {l : Lists} {ix : List ℕ} {count used : ℕ} → l ≡ layerMarked (fieldOf sdf k) (boxOf k) z (made .vertices) (listsOf s)
+    layer-whole : {l : Lists} {ix : List ℕ} {count used : ℕ} → l ≡ layerMarked (fieldOf sdf k) (boxOf k) z (made .vertices) (listsOf s)
         → ix ≡ sets (s .indices) (made .indices) (layerIndices (fieldOf sdf k) (boxOf k) (flagsOf k) (made .vertices) z)
         → count ≡ length (layerVertices (fieldOf sdf k) (boxOf k) z) → used ≡ length (layerIndices (fieldOf sdf k) (boxOf k) (flagsOf k) (made .vertices) z)
         → (withIndices ix l ≡ layerWritten (callOf sdf k) z made s)
@@ -111,3 +118,10 @@ module _ (sdf : List Float) (k : Block) (i : Inside sdf k) (z : ℕ) (zs : (k .l
       ap₂ (λ (n : Lists) (x : List ℕ). withIndices x n) e f,
       λ j. record { vertices = made .vertices + h j; indices = made .indices + u j; below = made .vertices },
     )
+
+    -- and so the lists are what the layers up to the next one leave
+    pub layer-next : {l : Lists} {ix : List ℕ} {count used : ℕ} → l ≡ layerMarked (fieldOf sdf k) (boxOf k) z (made .vertices) (listsOf s)
+        → ix ≡ sets (s .indices) (made .indices) (layerIndices (fieldOf sdf k) (boxOf k) (flagsOf k) (made .vertices) z)
+        → count ≡ length (layerVertices (fieldOf sdf k) (boxOf k) z) → used ≡ length (layerIndices (fieldOf sdf k) (boxOf k) (flagsOf k) (made .vertices) z)
+        → Written (callOf sdf k) (z + 1) t (record { vertices = made .vertices + count; indices = made .indices + used; below = made .vertices }) (withIndices ix l)
+    layer-next e f h u = let p = layer-whole e f h u in record { roomy = w .roomy; same = p .0 ∙ grown .same; on = p .1 ∙ grown .on }

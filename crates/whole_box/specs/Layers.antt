@@ -74,10 +74,6 @@ pub record Written (c : Call) (z : ℕ) (t : Buffers) (made : Made) (s : Buffers
   pub same : s ≡ writtenTo c z t
   pub on : made ≡ madeTo c z
 
-pub record Reached (c : Call) (z : ℕ) (made : Made) (s : Buffers) : Type 0 where
-  pub start : Buffers
-  pub written : Written c z start made s
-
 -- one layer more
 unfoldable pub layerWritten : Call → ℕ → Made → Buffers → Buffers
 layerWritten c z made s =

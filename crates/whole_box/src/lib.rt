@@ -13,7 +13,7 @@ ghost use Rattle.grid.specs.Inside.{Inside};
 ghost use Rattle.layer_vertices.specs.Marked.{Room};
 ghost use Rattle.layer_vertices.specs.Lent.{listsGiven, listsBefore, listsAfter};
 ghost use Rattle.whole_box.specs.LentLists.{buffersGiven, buffersBefore, buffersAfter, Roomy};
-ghost use Rattle.whole_box.specs.Layers.{layerMarked, layerWritten, layerMade, lastAt, InMap, Reached, Stands};
+ghost use Rattle.whole_box.specs.Layers.{layerMarked, lastAt, InMap, Stands};
 ghost use Rattle.grid.specs.Values.{gridGiven, gridBefore};
 use grid::Block;
 use layer_faces::Firsts;
@@ -159,67 +159,6 @@ fn face_part(
     )
 }
 
-// The layer z of cells: all its vertices and faces, and nothing else.
-fn mesh_layer(
-    width: u32,
-    sdf: &[f32],
-    sdf16: &[i16],
-    sdf8: &[i8],
-    k: Block,
-    z: u32,
-    positions: &mut [f32],
-    normals: &mut [f32],
-    cells: &mut [u32],
-    strides: &mut [u32],
-    crossings: &mut [u8],
-    map: &mut [u32],
-    indices: &mut [u32],
-    made: Made,
-) -> Made
-    requires { ⌜ Inside (gridGiven width sdf sdf16 sdf8) k ⌝ }
-    requires { ⌜ (k .low .z ≤ z) × (z < k .high .z) ⌝ }
-    requires { ⌜ Reached (callOf (gridGiven width sdf sdf16 sdf8) k) z made (buffersGiven positions normals cells strides crossings map indices) ⌝ }
-    ensures { λ r. ⌜ buffersAfter positions normals cells strides crossings map indices
-        ≡ layerWritten (callOf (gridBefore width sdf sdf16 sdf8) k) z made (buffersBefore positions normals cells strides crossings map indices) ⌝ }
-    ensures { λ r. ⌜ r ≡ layerMade (callOf (gridBefore width sdf sdf16 sdf8) k) z made ⌝ }
-{
-    let first = made.vertices;
-    let count = mark_part(
-        width,
-        sdf,
-        sdf16,
-        sdf8,
-        k,
-        z,
-        first,
-        positions,
-        normals,
-        cells,
-        strides,
-        crossings,
-        map,
-    );
-    let used = face_part(
-        width,
-        sdf,
-        sdf16,
-        sdf8,
-        k,
-        z,
-        made,
-        count,
-        cells,
-        map,
-        positions,
-        indices,
-    );
-    Made {
-        vertices: made.vertices + count,
-        indices: made.indices + used,
-        below: made.vertices,
-    }
-}
-
 // The box's last layer, which has no cells: its points' entries.
 fn clear_part(k: Block, map: &mut [u32])
     requires { ⌜ InMap (now map) k ⌝ }
@@ -261,22 +200,41 @@ pub fn mesh_box(
         below: 0,
     };
     for z in from..end {
-        state = mesh_layer(
+        let made = state;
+        let count = mark_part(
             width,
             sdf,
             sdf16,
             sdf8,
             k,
             z,
+            made.vertices,
             positions,
             normals,
             cells,
             strides,
             crossings,
             map,
-            indices,
-            state,
         );
+        let used = face_part(
+            width,
+            sdf,
+            sdf16,
+            sdf8,
+            k,
+            z,
+            made,
+            count,
+            cells,
+            map,
+            positions,
+            indices,
+        );
+        state = Made {
+            vertices: made.vertices + count,
+            indices: made.indices + used,
+            below: made.vertices,
+        };
     }
     clear_part(k, map);
 }

@@ -15,9 +15,9 @@ use Rattle.grid.proofs.Walks.{Counting, begun, ended, cell-spans, AtLayer, at-l
 use Rattle.whole_box.specs.LentLists.{buffers, buffersGiven}
 use Rattle.whole_box.specs.Layers.{lastAt, Written, writtenTo}
 use Rattle.whole_box.proofs.Steps.{SameLengths, written-none, written-all, written-lengths}
-use Rattle.whole_box.proofs.Lent.{plane-up}
+use Rattle.whole_box.proofs.Lent.{plane-up, written-room, map-long}
 use Rattle.whole_box.proofs.Last.{in-map}
-use Rattle.whole_box.proofs.Layer.{grown}
+use Rattle.whole_box.proofs.Layer.{stands-marked, map-still, indices-room, vertices-fit, indices-fit, layer-next}
 use borrow.Author.Needs.{needs}
 use Rattle.whole_box.proofs.mesh_box.Statement.{statement}
 use Rattle.whole_box.proofs.mesh_box.Tie as tie
@@ -43,11 +43,14 @@ grid-of s = let a = s .args in gridOf (a .width) (a .sdf .now) (a .sdf16 .now) (
 abbrev lent-of : tie.Start Inv-loop μ-loop → Buffers
 lent-of s = let a = s .args in buffersGiven (a .positions) (a .normals) (a .cells) (a .strides) (a .crossings) (a .map) (a .indices)
 
-abbrev turn-of : tie.After-mesh-layer-arg7 Inv-loop μ-loop → tie.In-loop Inv-loop μ-loop
-turn-of c = c .before .before .before .before .before .before .before
+abbrev turn-of : tie.After-mark-part-arg6 Inv-loop μ-loop → tie.In-loop Inv-loop μ-loop
+turn-of c = c .before .before .before .before .before .before
 
-abbrev call-of : tie.After-slice-known14 Inv-loop μ-loop → tie.After-mesh-layer Inv-loop μ-loop
-call-of c = c .before .before .before .before .before .before .before .before .before .before .before .before .before .before
+abbrev marked-of : tie.After-face-part-arg4 Inv-loop μ-loop → tie.After-mark-part Inv-loop μ-loop
+marked-of c = c .before .before .before .before .before .before .before .before .before .before .before .before .before .before .before .before
+
+abbrev faced-of : tie.After-struct-known2 Inv-loop μ-loop → tie.After-face-part Inv-loop μ-loop
+faced-of c = c .before .before .before .before
 
 -- ---- the layer of a turn
 
@@ -66,28 +69,67 @@ loop-holds c =
     let a = s .args in
     (begun (cell-spans (s .pre .0) .z), written-none (callOf (grid-of s) (a .k)) (lent-of s) (s .pre .1))
 
-mesh-layer-requires : tie.Need-mesh-layer-requires Inv-loop μ-loop
-mesh-layer-requires c κs =
+mark-part-requires : tie.Need-mark-part-requires Inv-loop μ-loop
+mark-part-requires c κs =
     let t = turn-of c in
     let s = entry-of (t .before) in
-    let a = s .args in
-    (s .pre .0, (here t .turn .here, record { start = lent-of s; written = t .before .loop .inv .1 }))
+    let k = s .args .k in
+    let w = t .before .loop in
+    let zs = here t .turn .here in
+    (s .pre .0, (zs, (map-long (grid-of s) k (s .pre .0) (w .z) zs (w .inv .1), written-room (grid-of s) k (s .pre .0) (w .z) zs (w .inv .1))))
+
+face-part-requires : tie.Need-face-part-requires Inv-loop μ-loop
+face-part-requires c κs =
+    let m = marked-of c in
+    let t = turn-of (m .before) in
+    let s = entry-of (t .before) in
+    let k = s .args .k in
+    let w = t .before .loop in
+    let zs = here t .turn .here in
+    let e = m .mark-part .ensures in (
+      s .pre .0,
+      (
+        zs,
+        (
+          map-still (grid-of s) k (s .pre .0) (w .z) zs (w .inv .1) (e .0),
+          (e .1, (stands-marked (grid-of s) k (s .pre .0) (w .z) zs (w .inv .1) (e .0), indices-room (grid-of s) k (s .pre .0) (w .z) zs (w .inv .1))),
+        ),
+      ),
+    )
+
+add-t41 : tie.Need-add-t41 Inv-loop μ-loop
+add-t41 c =
+    let m = marked-of (c .before .before .before .before) in
+    let t = turn-of (m .before) in
+    let s = entry-of (t .before) in
+    let w = t .before .loop in
+    vertices-fit (grid-of s) (s .args .k) (s .pre .0) (w .z) (here t .turn .here) (w .inv .1) (m .mark-part .ensures .1)
+
+add-t42 : tie.Need-add-t42 Inv-loop μ-loop
+add-t42 c =
+    let f = faced-of c in
+    let t = turn-of (marked-of (f .before) .before) in
+    let s = entry-of (t .before) in
+    let w = t .before .loop in
+    indices-fit (grid-of s) (s .args .k) (s .pre .0) (w .z) (here t .turn .here) (w .inv .1) (f .face-part .ensures .1) (s .good .1 .1 .1 .1 .1 .1 .1 .1 .1 .1 .1 .0 .0)
 
 add-z : tie.Need-add-z Inv-loop μ-loop
-add-z c = here (turn-of (call-of c .before)) .turn .fits
+add-z c = here (turn-of (marked-of (faced-of c .before) .before)) .turn .fits
 
 loop-less : tie.Need-loop-less Inv-loop μ-loop
-loop-less c = here (turn-of (call-of c .before)) .turn .less
+loop-less c = here (turn-of (marked-of (faced-of c .before) .before)) .turn .less
 
 loop-again : tie.Need-loop-again Inv-loop μ-loop
 loop-again c =
-    let m = call-of c in
+    let f = faced-of c in
+    let m = marked-of (f .before) in
     let t = turn-of (m .before) in
     let s = entry-of (t .before) in
-    let a = s .args in
-    let w = t .before .loop in
-    let more = grown (grid-of s) (a .k) (s .pre .0) (w .z) (here t .turn .here) (w .inv .1) in
-    (here t .turn .next, record { roomy = w .inv .1 .roomy; same = m .mesh-layer .ensures .0 ∙ more .same; on = m .mesh-layer .ensures .1 ∙ more .on })
+    let w = t .before .loop in (
+      here t .turn .next,
+      layer-next (grid-of s) (s .args .k) (s .pre .0) (w .z) (here t .turn .here) (w .inv .1) (m .mark-part .ensures .0) (f .face-part .ensures .0) (m .mark-part .ensures .1)
+          (f .face-part .ensures .1),
+    )
 
 -- ---- after the layers of cells, the last layer
 
@@ -147,7 +189,10 @@ mesh-box-spec =
     Inv-loop
     μ-loop
     loop-holds
-    mesh-layer-requires
+    mark-part-requires
+    face-part-requires
+    add-t41
+    add-t42
     add-z
     loop-less
     loop-again

@@ -3,7 +3,7 @@
 use Prim.Native.Nat.{ℕ, _+_, _*_, _<_, _≤_}
 use mathlib.Core.List.{List, [], _∷_, map}
 use mathlib.Core.Path.{_≡_}
-use lib.ListN.{length, getD}
+use lib.ListN.{length, getD, set}
 use lib.Seq.{sets}
 use lib.Ieee.{Float, nan}
 use Rattle.rules.specs.Grid.{GridPoint}
@@ -71,6 +71,19 @@ eightAt l j =
 
 abbrev pub vectorAt : List Float → ℕ → Vector
 vectorAt l j = record { x = getD l j nan; y = getD l (32 + j) nan; z = getD l (64 + j) nan }
+
+-- where they stand, and values stored at places one after the other
+abbrev pub eightPlaces : ℕ → List ℕ
+eightPlaces j = j ∷ (32 + j) ∷ (64 + j) ∷ (96 + j) ∷ (128 + j) ∷ (160 + j) ∷ (192 + j) ∷ (224 + j) ∷ []
+
+abbrev pub threePlaces : ℕ → List ℕ
+threePlaces j = j ∷ (32 + j) ∷ (64 + j) ∷ []
+
+module _ {A : Type 0} where
+  abbrev pub stored : List A → List ℕ → List A → List A
+  stored l [] vs = l
+  stored l (p ∷ ps) [] = l
+  stored l (p ∷ ps) (v ∷ vs) = stored (set l p v) ps vs
 
 -- the corner values of the first n are those of the batch
 pub record Gathered (lower upper : List Float) (row : ℕ) (cells : List ℕ) (from : ℕ) (corners : List Float) (n : ℕ) : Type 0 where

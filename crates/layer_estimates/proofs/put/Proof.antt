@@ -1,18 +1,18 @@
 -- The invariant: the lists are what the vertices of the lanes before j leave. A turn writes the vertex of the lane j behind them. Assumes nothing.
 use Prim.Native.Nat.{_+_, _*_, _-_, _≤_, _<_, zero-le}
+use native.Mathlib.Nat.{le-refl}
 use native.Mathlib.Omega.{arith}
 use mathlib.Core.List.{_∷_, [], map}
 use mathlib.Core.Path.{refl, ap, _∙_}
-use mir.Syntax.{w64}
-use mir.Val.{Fits}
 use lib.ListN.{length}
 use lib.Seq.{sets}
 use Rattle.lists.specs.Lists.{upTo}
 use Rattle.lists.proofs.Runs.{upTo-none}
-use Rattle.rules.specs.Cell.{Vector}
+use Rattle.rules.specs.Cell.{Vector, position}
+use Rattle.rules.specs.Cutting.{pointIn}
 use Rattle.layer_estimates.specs.Estimates.{lists, vertexAt}
-use Rattle.layer_estimates.proofs.Writing.{Wrote, wrote-none, wrote-one, wrote-next, wrote-ended, wrote-lengths}
-use borrow.Author.Needs.{needs}
+use Rattle.layer_estimates.proofs.Numbers.{OfCell, of-cell, OfTurn, of-turn, OfVertex, of-vertex}
+use Rattle.layer_estimates.proofs.Writing.{Wrote, wrote-none, wrote-one, wrote-next, wrote-ended, wrote-lengths, room-left}
 use Rattle.layer_estimates.proofs.put.Statement.{statement}
 use Rattle.layer_estimates.proofs.put.Tie as tie
 
@@ -24,161 +24,94 @@ abbrev μ-loop : tie.MeasureT-loop
 μ-loop cells from n centroids gradients counts place positions₀ normals₀ crossings₀ j₀ positions normals crossings j =
     n - j
 
--- ---- the places that a later one leads back to, and the room that is left in a turn
+-- ---- the places that a later one leads back to, and the numbers of a turn
 
 abbrev start-of : tie.At-loop Inv-loop μ-loop → tie.Start Inv-loop μ-loop
-start-of c = c .before .before .before .before .before .before .before .before
+start-of c = c .before .before .before .before .before
 
-abbrev read-of : tie.After-position-in Inv-loop μ-loop → tie.In-loop Inv-loop μ-loop
-read-of c = c .before .before .before .before .before .before .before .before .before .before .before
+abbrev turn-of : tie.After-crossings Inv-loop μ-loop → tie.In-loop Inv-loop μ-loop
+turn-of c = c .before .before .before .before .before .before .before .before .before .before .before .before
 
-abbrev put-of : tie.After-put-vector-arg2 Inv-loop μ-loop → tie.After-position-in Inv-loop μ-loop
-put-of c = c .before .before .before .before
+cell : (c : tie.In-loop Inv-loop μ-loop) → let a = start-of (c .before) .args in OfCell (a .from) (c .before .loop .j) (length (a .cells .now))
+cell c = let s = start-of (c .before) in of-cell (c .loop-test .taken) (s .pre .0 .1) (s .good .0 .1)
 
-abbrev end-of : tie.After-shared-slice-known14 Inv-loop μ-loop → tie.After-put-vector-arg2 Inv-loop μ-loop
-end-of c = c .before .before .before .before
+turn : (c : tie.In-loop Inv-loop μ-loop) → OfTurn (c .before .loop .j) (start-of (c .before) .args .n)
+turn c = of-turn (c .loop-test .taken) (start-of (c .before) .pre .0 .0)
 
-room : (c : tie.In-loop Inv-loop μ-loop) → let w = c .before .loop in let p = start-of (c .before) .args .place + w .j in
-    (3 * p + 2 < length (w .positions)) × (3 * p + 2 < length (w .normals)) × (p < length (w .crossings)) × Fits w64 (3 * p)
-room c =
-    let h = c .loop-test .taken in
+vertex : (c : tie.In-loop Inv-loop μ-loop) → let w = c .before .loop in
+    OfVertex (start-of (c .before) .args .place) (w .j) (length (w .positions)) (length (w .normals)) (length (w .crossings))
+vertex c =
+    let s = start-of (c .before) in
     let l = wrote-lengths (c .before .loop .inv .1) in
-    let r = start-of (c .before) .pre .1 .1 in
-    (omega (arith, l .positions, r .positions), omega (arith, l .normals, r .normals), omega (arith, l .crossings, r .crossings), omega (arith, r .positions))
+    let r = room-left (s .pre .1) l (le-refl (s .args .place + s .args .n)) in
+    of-vertex (c .loop-test .taken) (r .positions) (r .normals) (r .crossings) (s .good .1 .1 .1 .1 .1 .1 .1 .0 .1) (l .positions)
 
 -- ---- the needs
 
 loop-holds : tie.Need-loop-holds Inv-loop μ-loop
 loop-holds c =
-    let a = c .before .before .before .before .before .before .before .args in
+    let a = c .before .before .before .before .args in
     let f = vertexAt (a .cells .now) (a .from) (a .centroids .now) (a .gradients .now) (a .counts .now) in
-    (omega arith, wrote-none (ap (map f) (upTo-none 0 0 zero-le)))
+    (zero-le, wrote-none (ap (map f) (upTo-none 0 0 zero-le)))
 
 add-c : tie.Need-add-c Inv-loop μ-loop
-add-c c = search needs
+add-c c = cell c .counted
 
 mul-c : tie.Need-mul-c Inv-loop μ-loop
-mul-c c = search needs
+mul-c c = cell c .first
 
 add-at : tie.Need-add-at Inv-loop μ-loop
-add-at c = search needs
+add-at c = vertex c .counted
 
 mul-at : tie.Need-mul-at Inv-loop μ-loop
-mul-at c = search needs
+mul-at c = vertex c .first
 
-mul-t17 : tie.Need-mul-t17 Inv-loop μ-loop
-mul-t17 c = search needs
+lane-requires : tie.Need-lane-requires Inv-loop μ-loop
+lane-requires c κs = turn c .lane
 
-shared-slice-read-t19 : tie.Need-shared-slice-read-t19 Inv-loop μ-loop
-shared-slice-read-t19 c = search needs
-
-add-t20 : tie.Need-add-t20 Inv-loop μ-loop
-add-t20 c = search needs
-
-mul-t21 : tie.Need-mul-t21 Inv-loop μ-loop
-mul-t21 c = search needs
-
-shared-slice-read-t23 : tie.Need-shared-slice-read-t23 Inv-loop μ-loop
-shared-slice-read-t23 c = search needs
-
-add-t24 : tie.Need-add-t24 Inv-loop μ-loop
-add-t24 c = search needs
-
-mul-t25 : tie.Need-mul-t25 Inv-loop μ-loop
-mul-t25 c = search needs
-
-shared-slice-read-t27 : tie.Need-shared-slice-read-t27 Inv-loop μ-loop
-shared-slice-read-t27 c = search needs
-
-mul-t17-2 : tie.Need-mul-t17-2 Inv-loop μ-loop
-mul-t17-2 c = search needs
-
-shared-slice-read-t27-2 : tie.Need-shared-slice-read-t27-2 Inv-loop μ-loop
-shared-slice-read-t27-2 c = search needs
-
-add-t25 : tie.Need-add-t25 Inv-loop μ-loop
-add-t25 c = search needs
-
-mul-t24 : tie.Need-mul-t24 Inv-loop μ-loop
-mul-t24 c = search needs
-
-shared-slice-read-t23-2 : tie.Need-shared-slice-read-t23-2 Inv-loop μ-loop
-shared-slice-read-t23-2 c = search needs
-
-add-t21 : tie.Need-add-t21 Inv-loop μ-loop
-add-t21 c = search needs
-
-mul-t20 : tie.Need-mul-t20 Inv-loop μ-loop
-mul-t20 c = search needs
-
-shared-slice-read-t19-2 : tie.Need-shared-slice-read-t19-2 Inv-loop μ-loop
-shared-slice-read-t19-2 c = search needs
-
-mul-position-in : tie.Need-mul-position-in Inv-loop μ-loop
-mul-position-in c = search needs
-
-shared-slice-read-position-in : tie.Need-shared-slice-read-position-in Inv-loop μ-loop
-shared-slice-read-position-in c = search needs
-
-add-position-in : tie.Need-add-position-in Inv-loop μ-loop
-add-position-in c = search needs
-
-mul-position-in-2 : tie.Need-mul-position-in-2 Inv-loop μ-loop
-mul-position-in-2 c = search needs
-
-shared-slice-read-position-in-2 : tie.Need-shared-slice-read-position-in-2 Inv-loop μ-loop
-shared-slice-read-position-in-2 c = search needs
-
-add-position-in-2 : tie.Need-add-position-in-2 Inv-loop μ-loop
-add-position-in-2 c = search needs
-
-mul-position-in-3 : tie.Need-mul-position-in-3 Inv-loop μ-loop
-mul-position-in-3 c = search needs
-
-shared-slice-read-position-in-3 : tie.Need-shared-slice-read-position-in-3 Inv-loop μ-loop
-shared-slice-read-position-in-3 c = search needs
-
-position-in-requires : tie.Need-position-in-requires Inv-loop μ-loop
-position-in-requires c κs = search needs
+position-at-requires : tie.Need-position-at-requires Inv-loop μ-loop
+position-at-requires c κs = cell (c .before .before) .third-within
 
 put-vector-requires : tie.Need-put-vector-requires Inv-loop μ-loop
-put-vector-requires c κs = room (read-of c) .0
+put-vector-requires c κs = vertex (c .before .before .before) .positions
+
+lane-requires-2 : tie.Need-lane-requires-2 Inv-loop μ-loop
+lane-requires-2 c κs = turn (c .before .before .before .before .before .before .before) .lane
 
 put-vector-requires-2 : tie.Need-put-vector-requires-2 Inv-loop μ-loop
-put-vector-requires-2 c κs = room (read-of (put-of c)) .1
+put-vector-requires-2 c κs = vertex (c .before .before .before .before .before .before .before .before) .normals
 
-shared-slice-read-crossings : tie.Need-shared-slice-read-crossings Inv-loop μ-loop
-shared-slice-read-crossings c =
-    let t = read-of (put-of (end-of c)) in
-    let p = start-of (t .before) .pre in
-    omega (arith, t .loop-test .taken, p .0 .0, p .1 .0 .1 .1)
+element-copy-out-crossings : tie.Need-element-copy-out-crossings Inv-loop μ-loop
+element-copy-out-crossings c = turn (c .before .before .before .before .before .before .before .before .before .before .before) .lane
 
 add-crossings : tie.Need-add-crossings Inv-loop μ-loop
-add-crossings c = omega (arith, room (read-of (put-of (end-of c))) .3)
+add-crossings c = let v = vertex (turn-of c) in omega (arith, v .counted, v .first)
 
 slice-write-crossings : tie.Need-slice-write-crossings Inv-loop μ-loop
-slice-write-crossings c = room (read-of (put-of (end-of c))) .2
+slice-write-crossings c = vertex (turn-of c) .crossings
 
 add-j : tie.Need-add-j Inv-loop μ-loop
-add-j c = search needs
+add-j c = turn (turn-of c) .next
 
 loop-less : tie.Need-loop-less Inv-loop μ-loop
-loop-less c = search needs
+loop-less c = turn (turn-of c) .less
 
 loop-again : tie.Need-loop-again Inv-loop μ-loop
 loop-again c =
-    let v = end-of c in
-    let r = put-of v in
-    let t = read-of r in
+    let t = turn-of c in
     let a = start-of (t .before) .args in
     let w = t .before .loop in
     let f = vertexAt (a .cells .now) (a .from) (a .centroids .now) (a .gradients .now) (a .counts .now) in
-    let at = 3 * (a .place + w .j) in (
-      omega (arith, t .loop-test .taken),
+    let at = 3 * (a .place + w .j) in
+    let n = c .before .before .before in
+    let p = n .before .before .before .before .before in (
+      turn t .taken,
       wrote-next f (w .j) (w .inv .1)
           (wrote-one (f (w .j))
-          (v .before .before .before .put-vector .ensures ∙ ap (λ (p : Vector). sets (w .positions) at (p .x ∷ p .y ∷ p .z ∷ [])) (r .position-in .ensures))
-          (c .before .before .before .put-vector2 .ensures) refl),
+          (p .put-vector .ensures
+          ∙ ap (λ (p : Vector). sets (w .positions) at (p .x ∷ p .y ∷ p .z ∷ []))
+          (p .before .position-at .ensures ∙ ap (position (pointIn (a .cells .now) (a .from + w .j))) (p .before .before .before .lane .ensures)))
+          (n .put-vector2 .ensures ∙ ap (λ (p : Vector). sets (w .normals) at (p .x ∷ p .y ∷ p .z ∷ [])) (n .before .lane2 .ensures)) refl),
     )
 
 same-length : tie.Need-same-length Inv-loop μ-loop
@@ -207,34 +140,12 @@ put-spec =
     mul-c
     add-at
     mul-at
-    mul-t17
-    shared-slice-read-t19
-    add-t20
-    mul-t21
-    shared-slice-read-t23
-    add-t24
-    mul-t25
-    shared-slice-read-t27
-    mul-t17-2
-    shared-slice-read-t27-2
-    add-t25
-    mul-t24
-    shared-slice-read-t23-2
-    add-t21
-    mul-t20
-    shared-slice-read-t19-2
-    mul-position-in
-    shared-slice-read-position-in
-    add-position-in
-    mul-position-in-2
-    shared-slice-read-position-in-2
-    add-position-in-2
-    mul-position-in-3
-    shared-slice-read-position-in-3
-    position-in-requires
+    lane-requires
+    position-at-requires
     put-vector-requires
+    lane-requires-2
     put-vector-requires-2
-    shared-slice-read-crossings
+    element-copy-out-crossings
     add-crossings
     slice-write-crossings
     add-j

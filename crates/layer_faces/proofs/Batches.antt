@@ -119,15 +119,14 @@ module _ {lower upper : List Float} {k : Block} {z : ℕ} (i : InLayers lower up
           subst (λ (a : ℕ). Fit (from + getD who (32 * axis + q) 0) (axisOf a)) along
           (subst (λ (v : ℕ). Fit v (axisOf (e % 3))) vertex (ready (getD rank (32 * axis + q) 0) (p .within)))
 
-      pub batch-along : (at indices : ℕ) → length who ≡ 96 → length rank ≡ 96
+      pub batch-along : (at indices : ℕ)
           → at + 6 * length (listed (twoLayers lower upper k z) (boxOf k) (flagsOf k) cs z from (3 * n)) ≤ indices
           → AllReady lower (k .dims .x) (first .here) cs mp ps under who rank from axis count at indices
-      batch-along at indices ew er room =
+      batch-along at indices room =
           record {
             axes = three;
             narrow = omega (arith, small (point (k .dims)) (i .dims) .x);
-            vertices = omega (arith, f .few);
-            places = omega (arith, f .few);
+            entries = omega (arith, f .few);
             each = entry;
             room = λ q low. omega (arith, f .each q low .within);
           }

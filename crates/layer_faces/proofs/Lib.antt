@@ -10,3 +10,4 @@ pub mod Filing
 pub mod Putting
 pub mod Vertices
 pub mod Batches
+pub mod Numbers

@@ -41,8 +41,7 @@ pub record AllFiled (edges who rank : List ℕ) (x y z all : ℕ) : Type 0 where
 pub record AllReady (lower : List Float) (row first : ℕ) (cs map : List ℕ) (positions : List Float) (under who rank : List ℕ) (from axis count at indices : ℕ) : Type 0 where
   pub axes : axis < 3
   pub narrow : row < 4294967296
-  pub vertices : 32 * axis + count ≤ length who
-  pub places : 32 * axis + count ≤ length rank
+  pub entries : 32 * axis + count ≤ 96
   pub each : (q : ℕ) → q < count → Ready lower row first cs map positions under (from + getD who (32 * axis + q) 0) (axisOf axis)
   pub room : (q : ℕ) → q < count → at + 6 * getD rank (32 * axis + q) 0 + 6 ≤ indices
 

@@ -219,8 +219,8 @@ struct Listed {
 }
 
 // One edge: the entry becomes its vertex and its place among all either way; who calls counts it if the edge gives a face.
-fn list_edge(who: &mut [u32], rank: &mut [u32], entry: usize, j: u32, place: u32)
-    requires { ⌜ (entry < length (now who)) × (entry < length (now rank)) ⌝ }
+fn list_edge(who: &mut [u32; 96], rank: &mut [u32; 96], entry: usize, j: u32, place: u32)
+    requires { ⌜ entry < 96 ⌝ }
     ensures { λ _. ⌜ now (who .exit) ≡ set (now (who .entry)) entry j ⌝ }
     ensures { λ _. ⌜ now (rank .exit) ≡ set (now (rank .entry)) entry place ⌝ }
 {
@@ -242,8 +242,8 @@ fn list_edges(
     cells: &[u32],
     from: usize,
     n: usize,
-    who: &mut [u32],
-    rank: &mut [u32],
+    who: &mut [u32; 96],
+    rank: &mut [u32; 96],
 ) -> Listed
     requires { ⌜ InLayers (gridGiven width lower lower16 lower8) (gridGiven width upper upper16 upper8) k z ⌝ }
     requires { ⌜ Cells (boxOf k) z (now cells) (from + n) ⌝ }
@@ -359,8 +359,8 @@ fn put_faces(
     positions_below: &[f32],
     from: usize,
     axis: u32,
-    who: &[u32],
-    rank: &[u32],
+    who: &[u32; 96],
+    rank: &[u32; 96],
     count: usize,
     indices: &mut [u32],
     at: usize,

@@ -1,9 +1,8 @@
 -- The edges of the batch are filed by their axes, and the faces along each put, each at its place: together those are the faces of the batch in their
 -- order. Assumes nothing.
-use Prim.Native.Nat.{ℕ, _+_, _*_, _≤_, _<_, _^_}
+use Prim.Native.Nat.{ℕ, _+_, _*_, _≤_, _<_}
 use mathlib.Core.List.{List}
-use mathlib.Core.Path.{_≡_, ap, _∙_}
-use native.Mathlib.Omega.{arith}
+use mathlib.Core.Path.{_≡_, refl, ap, _∙_}
 use lib.Ieee.{Float}
 use lib.ListN.{length}
 use lib.Seq.{sets}
@@ -18,6 +17,7 @@ use Rattle.layer_faces.proofs.Vertices.{vertex-is, vertex-cells}
 use Rattle.layer_faces.proofs.Listing.{listed-length, listed-few}
 use Rattle.layer_faces.proofs.Batches.{batch-along, batch-faces}
 use Rattle.layer_faces.proofs.Putting.{all-put}
+use Rattle.layer_faces.proofs.Numbers.{OfResult, of-result, few-listed, room-same, room-of, word-below, along-0, along-1, along-2}
 use borrow.Author.Needs.{needs}
 use Rattle.layer_faces.proofs.face_some.Statement.{statement}
 use Rattle.layer_faces.proofs.face_some.Tie as tie
@@ -28,7 +28,7 @@ abbrev start-of : tie.After-rank → tie.Start
 start-of c = c .before .before .before .before .before .before .before .before .before .before .before
 
 abbrev listed-of : tie.After-put-faces → tie.After-list-edges
-listed-of c = c .before .before .before .before .before .before
+listed-of c = c .before .before .before .before
 
 abbrev first-of : tie.After-put-faces2 → tie.After-put-faces
 first-of c = c .before .before .before .before .before .before
@@ -72,13 +72,9 @@ few c =
     let s = start-of (c .before) in
     let a = s .args in
     let b = s .pre .1 .1 .1 in
-    omega (
-      arith,
-      c .list-edges .ensures .count,
-      b .few,
-      listed-few (grid-of s) (boxOf (a .k)) (flagsOf (a .k)) (a .z) (a .from) (a .n) (a .cells .now) (b .within)
-          (vertex-is (grid-of s) (boxOf (a .k)) (a .z) (a .cells .now) (s .pre .1 .0 .cells)),
-    )
+    few-listed {edges = length (codes-of s)} (c .list-edges .ensures .count) (b .few)
+    (listed-few (grid-of s) (boxOf (a .k)) (flagsOf (a .k)) (a .z) (a .from) (a .n) (a .cells .now) (b .within)
+    (vertex-is (grid-of s) (boxOf (a .k)) (a .z) (a .cells .now) (s .pre .1 .0 .cells)))
 
 count : (s : tie.Start) → let a = s .args in length (codes-of s) ≡ length (someEdges (grid-of s) (boxOf (a .k)) (flagsOf (a .k)) (a .z) (a .from) (a .n))
 count s =
@@ -87,11 +83,10 @@ count s =
     (vertex-is (grid-of s) (boxOf (a .k)) (a .z) (a .cells .now) (s .pre .1 .0 .cells))
 
 room : (s : tie.Start) → s .args .at + 6 * length (codes-of s) ≤ length (s .args .indices .now)
-room s = let r = s .pre .1 .1 .1 .room in omega (arith, count s)
+room s = room-same (s .args .at) (s .pre .1 .1 .1 .room) (count s)
 
--- at places of 64 bits
-short : (s : tie.Start) → length (s .args .indices .now) < 2 ^ 64
-short s = omega (arith, s .good .1 .1 .1 .1 .1 .1 .1 .1 .1 .1 .1 .1 .1 .1 .1 .1 .1 .0)
+result : (c : tie.After-list-edges) → OfResult (start-of (c .before) .args .at) (c .list-edges .result .all)
+result c = let s = start-of (c .before) in of-result {edges = length (codes-of s)} (few c) (c .list-edges .ensures .count) (room s) (s .good .1 .1 .1 .1 .1 .1 .1 .1 .1 .1 .1 .1 .1 .1 .1 .1 .1 .0 .1)
 
 -- what the faces along one axis are made of
 along : (c : tie.After-list-edges) {axis count : ℕ} (indices : ℕ) → let s = start-of (c .before) in let a = s .args in axis < 3
@@ -103,10 +98,12 @@ along c indices three f same =
     let a = s .args in
     let known = c .before .before .before .before .before .before .before .before in
     batch-along (s .pre .0) (a .first) (a .cells .now) (a .map .now) (a .positions .now) (a .map-below .now) (a .positions-below .now) (s .pre .1 .0) (a .from) (a .n)
-    (s .pre .1 .1 .1 .within) (λ j. omega (arith, known .shared-slice-known4 .given j)) (s .pre .1 .1 .0) three f (a .at) indices
-    (c .list-edges .kept .1 .1 .1 .1 .1 .1 .1 .1 .1 .1 .1 .1 .0) (c .list-edges .kept .1 .1 .1 .1 .1 .1 .1 .1 .1 .1 .1 .1 .1 .0) (omega (arith, room s, same))
+    (s .pre .1 .1 .1 .within) (λ j. word-below (known .shared-slice-known4 .given j)) (s .pre .1 .1 .0) three f (a .at) indices (room-of (room s) same)
 
--- the indices after each axis
+-- the indices after each axis, each by those after the one before
+onto : (f : List ℕ → List ℕ) {l l' l'' : List ℕ} → l'' ≡ f l' → l' ≡ l → l'' ≡ f l
+onto f p q = p ∙ ap f q
+
 put1 : (c : tie.After-put-faces) → let l = listed-of c in let s = start-of (l .before) in let a = s .args in
     _≡_ {A = List ℕ} (c .put-faces .last .1 .1 .1 .1 .1 .1 .1 .1 .1 .1 .1 .1 .1 .1 .1 .1 .0)
     (facesPut (quad-of s 0) (who-of l) (rank-of l) (32 * 0) (a .from) (a .at) (l .list-edges .result .x) (a .indices .now))
@@ -120,7 +117,7 @@ put2 c =
     let l = listed-of (first-of c) in
     let s = start-of (l .before) in
     let a = s .args in
-    c .put-faces2 .ensures ∙ ap (facesPut (quad-of s 1) (who-of l) (rank-of l) (32 * 1) (a .from) (a .at) (l .list-edges .result .y)) (put1 (first-of c))
+    onto (facesPut (quad-of s 1) (who-of l) (rank-of l) (32 * 1) (a .from) (a .at) (l .list-edges .result .y)) (c .put-faces2 .ensures) (put1 (first-of c))
 
 put3 : (c : tie.After-put-faces3) → let l = listed-of (first-of (second-of c)) in let s = start-of (l .before) in let a = s .args in
     _≡_ {A = List ℕ} (c .put-faces3 .last .1 .1 .1 .1 .1 .1 .1 .1 .1 .1 .1 .1 .1 .1 .1 .1 .0)
@@ -131,7 +128,7 @@ put3 c =
     let l = listed-of (first-of (second-of c)) in
     let s = start-of (l .before) in
     let a = s .args in
-    c .put-faces3 .ensures ∙ ap (facesPut (quad-of s 2) (who-of l) (rank-of l) (32 * 2) (a .from) (a .at) (l .list-edges .result .z)) (put2 (second-of c))
+    onto (facesPut (quad-of s 2) (who-of l) (rank-of l) (32 * 2) (a .from) (a .at) (l .list-edges .result .z)) (c .put-faces3 .ensures) (put2 (second-of c))
 
 long1 : (c : tie.After-put-faces) → length (c .put-faces .last .1 .1 .1 .1 .1 .1 .1 .1 .1 .1 .1 .1 .1 .1 .1 .1 .0)
     ≡ length (start-of (listed-of c .before) .args .indices .now)
@@ -150,12 +147,6 @@ long3 c = c .put-faces3 .kept .1 .1 .1 .1 .1 .1 .1 .1 .1 .1 .1 .1 .1 .1 .1 .1 .0
 cast-row : tie.Need-cast-row
 cast-row c = search needs
 
-slice-aggregate-list-edges : tie.Need-slice-aggregate-list-edges
-slice-aggregate-list-edges c = search needs
-
-slice-aggregate-list-edges-2 : tie.Need-slice-aggregate-list-edges-2
-slice-aggregate-list-edges-2 c = search needs
-
 list-edges-requires : tie.Need-list-edges-requires
 list-edges-requires c κs =
     let s = start-of c in
@@ -164,56 +155,35 @@ list-edges-requires c κs =
       s .pre .0,
       (
         vertex-cells (grid-of s) (boxOf (a .k)) (a .z) (a .cells .now) (s .pre .1 .0 .cells) (a .from + a .n) (s .pre .0 .here) (b .within),
-        (b .few, (omega arith, omega arith)),
+        (b .few, (refl, refl)),
       ),
     )
 
-slice-aggregate-put-faces : tie.Need-slice-aggregate-put-faces
-slice-aggregate-put-faces c = search needs
-
-slice-aggregate-put-faces-2 : tie.Need-slice-aggregate-put-faces-2
-slice-aggregate-put-faces-2 c = search needs
-
 put-faces-requires : tie.Need-put-faces-requires
 put-faces-requires c κs =
-    let l = c .before .before .before .before .before in
-    along l (length (start-of (l .before) .args .indices .now)) (omega arith) (l .list-edges .ensures .along-x) (omega arith)
-
-slice-aggregate-put-faces-3 : tie.Need-slice-aggregate-put-faces-3
-slice-aggregate-put-faces-3 c = search needs
-
-slice-aggregate-put-faces-4 : tie.Need-slice-aggregate-put-faces-4
-slice-aggregate-put-faces-4 c = search needs
+    let l = c .before .before .before in
+    along l (length (start-of (l .before) .args .indices .now)) along-0 (l .list-edges .ensures .along-x) refl
 
 put-faces-requires-2 : tie.Need-put-faces-requires-2
 put-faces-requires-2 c κs =
     let p = c .before .before .before .before .before in
     let l = listed-of p in
-    along l (length (p .put-faces .last .1 .1 .1 .1 .1 .1 .1 .1 .1 .1 .1 .1 .1 .1 .1 .1 .0)) (omega arith) (l .list-edges .ensures .along-y) (long1 p)
-
-slice-aggregate-put-faces-5 : tie.Need-slice-aggregate-put-faces-5
-slice-aggregate-put-faces-5 c = search needs
-
-slice-aggregate-put-faces-6 : tie.Need-slice-aggregate-put-faces-6
-slice-aggregate-put-faces-6 c = search needs
+    along l (length (p .put-faces .last .1 .1 .1 .1 .1 .1 .1 .1 .1 .1 .1 .1 .1 .1 .1 .1 .0)) along-1 (l .list-edges .ensures .along-y) (long1 p)
 
 put-faces-requires-3 : tie.Need-put-faces-requires-3
 put-faces-requires-3 c κs =
     let p = c .before .before .before .before .before in
     let l = listed-of (first-of p) in
-    along l (length (p .put-faces2 .last .1 .1 .1 .1 .1 .1 .1 .1 .1 .1 .1 .1 .1 .1 .1 .1 .0)) (omega arith) (l .list-edges .ensures .along-z) (long2 p)
+    along l (length (p .put-faces2 .last .1 .1 .1 .1 .1 .1 .1 .1 .1 .1 .1 .1 .1 .1 .1 .1 .0)) along-2 (l .list-edges .ensures .along-z) (long2 p)
 
 cast-result : tie.Need-cast-result
-cast-result c = omega (arith, few (listed-of (first-of (second-of (third-of c)))))
+cast-result c = result (listed-of (first-of (second-of (third-of c)))) .fits
 
 mul-result : tie.Need-mul-result
-mul-result c = omega (arith, few (listed-of (first-of (second-of (third-of c)))))
+mul-result c = result (listed-of (first-of (second-of (third-of c)))) .six
 
 add-result : tie.Need-add-result
-add-result c =
-    let l = listed-of (first-of (second-of (third-of c))) in
-    let s = start-of (l .before) in
-    omega (arith, room s, short s, l .list-edges .ensures .count)
+add-result c = result (listed-of (first-of (second-of (third-of c)))) .place
 
 same-length : tie.Need-same-length
 same-length c = long3 (third-of c)
@@ -230,7 +200,7 @@ returns c =
           ∙ ap (sets (a .indices .now) (a .at))
           (batch-faces (s .pre .0) (a .first) (a .cells .now) (a .map .now) (a .positions .now) (a .map-below .now) (a .positions-below .now) (s .pre .1 .0) (a .from) (a .n)
           (s .pre .1 .1 .1 .within)),
-      omega (arith, l .list-edges .ensures .count, count s),
+      ap (λ (n : ℕ). a .at + 6 * n) (_∙_ {b = length (codes-of s)} (l .list-edges .ensures .count) (count s)),
     )
 
 pub face-some-spec : {M : Type 1} → statement M
@@ -238,17 +208,9 @@ face-some-spec =
     tie.close
     (tie.spec
     cast-row
-    slice-aggregate-list-edges
-    slice-aggregate-list-edges-2
     list-edges-requires
-    slice-aggregate-put-faces
-    slice-aggregate-put-faces-2
     put-faces-requires
-    slice-aggregate-put-faces-3
-    slice-aggregate-put-faces-4
     put-faces-requires-2
-    slice-aggregate-put-faces-5
-    slice-aggregate-put-faces-6
     put-faces-requires-3
     cast-result
     mul-result

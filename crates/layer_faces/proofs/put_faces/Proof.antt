@@ -1,19 +1,19 @@
 -- The invariant: the indices are what they were with the faces of the first q entries, each put at its place. A turn makes one: four vertices, the first
 -- by its number and three looked up, as the caller owes, and their quad is put. Assumes nothing.
-use Prim.Native.Nat.{ℕ, _+_, _-_, _*_, _≤_, _<_, _^_}
+use Prim.Native.Nat.{ℕ, _+_, _-_, _*_, _≤_, _<_, _^_, zero-le}
 use mathlib.Core.List.{List}
-use mathlib.Core.Path.{_≡_, ap, _∙_}
-use native.Mathlib.Omega.{arith}
+use mathlib.Core.Path.{_≡_, sym, ap, subst, _∙_}
+use native.Mathlib.Nat.{le-antisymm}
 use lib.Ieee.{Float}
 use lib.ListN.{length, getD}
 use Rattle.rules.specs.Cell.{negative}
 use Rattle.grid.specs.Values.{gridOf}
 use Rattle.grid.proofs.Places.{grid-counted}
-use Rattle.layer_faces.specs.Quads.{axisOf, quadAt, Ready}
+use Rattle.layer_faces.specs.Quads.{axisOf, placeAt, quadAt, Ready}
 use Rattle.layer_faces.specs.Filing.{facesPut}
 use Rattle.layer_faces.proofs.Chosen.{reaches, quad-looked}
 use Rattle.layer_faces.proofs.Putting.{put-length, put-none, put-on}
-use borrow.Author.Needs.{needs}
+use Rattle.layer_faces.proofs.Numbers.{OfEntry, of-entry, OfOwn, of-own, OfFace, of-face, start-fits}
 use Rattle.layer_faces.proofs.put_faces.Statement.{statement}
 use Rattle.layer_faces.proofs.put_faces.Tie as tie
 
@@ -29,7 +29,7 @@ abbrev μ-loop : tie.MeasureT-loop
 -- ---- the places that a later one leads back to
 
 abbrev start-of : tie.After-fourth-way Inv-loop μ-loop → tie.Start Inv-loop μ-loop
-start-of c = c .before .before .before .before .before .before .before .before .before .before .before .before
+start-of c = c .before .before .before .before .before .before .before .before .before .before
 
 abbrev entry-of : tie.In-loop Inv-loop μ-loop → tie.Start Inv-loop μ-loop
 entry-of c = start-of (c .before .before)
@@ -57,19 +57,10 @@ abbrev lower-of : tie.Start Inv-loop μ-loop → List Float
 lower-of s = let a = s .args in gridOf (a .width) (a .lower .now) (a .lower16 .now) (a .lower8 .now)
 
 short : (s : tie.Start Inv-loop μ-loop) → length (lower-of s) < 2 ^ 64
-short s = let a = s .args in grid-counted (a .width) (a .lower .now) (a .lower16 .now) (a .lower8 .now) (omega arith) (omega arith) (omega arith)
-
-short-cells : (s : tie.Start Inv-loop μ-loop) → length (s .args .cells .now) < 2 ^ 62
-short-cells s = omega (arith, s .good .1 .1 .1 .1 .1 .1 .0)
-
-short-who : (s : tie.Start Inv-loop μ-loop) → length (s .args .who .now) < 2 ^ 62
-short-who s = omega (arith, s .good .1 .1 .1 .1 .1 .1 .1 .1 .1 .1 .1 .1 .1 .0)
-
-short-rank : (s : tie.Start Inv-loop μ-loop) → length (s .args .rank .now) < 2 ^ 62
-short-rank s = omega (arith, s .good .1 .1 .1 .1 .1 .1 .1 .1 .1 .1 .1 .1 .1 .1 .0)
-
-short-indices : (s : tie.Start Inv-loop μ-loop) → length (s .args .indices .now) < 2 ^ 62
-short-indices s = omega (arith, s .good .1 .1 .1 .1 .1 .1 .1 .1 .1 .1 .1 .1 .1 .1 .1 .1 .0)
+short s =
+    let a = s .args in
+    let g = s .good .1 in
+    grid-counted (a .width) (a .lower .now) (a .lower16 .now) (a .lower8 .now) (g .0 .0) (g .1 .0 .0) (g .1 .1 .0 .0)
 
 -- ---- a turn
 
@@ -85,60 +76,62 @@ ready : (c : tie.In-loop Inv-loop μ-loop) → let s = entry-of c in let a = s .
     Ready (lower-of s) (a .row) (a .first .here) (a .cells .now) (a .map .now) (a .positions .now) (a .map-below .now) (vertex-of c) (axisOf (a .axis))
 ready c = entry-of c .pre .each (c .before .loop .q) (c .loop-test .taken)
 
--- the entry stands in both lists
-reads-who : (c : tie.In-loop Inv-loop μ-loop) → let a = entry-of c .args in 32 * a .axis + c .before .loop .q < length (a .who .now)
-reads-who c = let h = c .loop-test .taken in omega (arith, h, entry-of c .pre .vertices)
-
-reads-rank : (c : tie.In-loop Inv-loop μ-loop) → let a = entry-of c .args in 32 * a .axis + c .before .loop .q < length (a .rank .now)
-reads-rank c = let h = c .loop-test .taken in omega (arith, h, entry-of c .pre .places)
-
-room : (c : tie.In-loop Inv-loop μ-loop) → let a = entry-of c .args in
-    a .at + 6 * getD (a .rank .now) (32 * a .axis + c .before .loop .q) 0 + 6 ≤ length (a .indices .now)
-room c = entry-of c .pre .room (c .before .loop .q) (c .loop-test .taken)
-
 long : (c : tie.At-loop Inv-loop μ-loop) → length (c .loop .indices) ≡ length (start-of (c .before) .args .indices .now)
 long c =
     let s = start-of (c .before) in
     let a = s .args in
     ap length (c .loop .inv .1) ∙ put-length (quad-of s) (a .who .now) (a .rank .now) (32 * a .axis) (a .from) (a .at) (c .loop .q) (a .indices .now)
 
+entry : (c : tie.In-loop Inv-loop μ-loop) → let a = entry-of c .args in OfEntry (a .axis) (c .before .loop .q) (a .count)
+entry c = of-entry (c .loop-test .taken) (entry-of c .pre .entries)
+
+owned : (c : tie.In-loop Inv-loop μ-loop) → let a = entry-of c .args in
+    OfOwn (a .from) (getD (a .who .now) (32 * a .axis + c .before .loop .q) 0) (placeAt (a .row) (a .cells .now) (vertex-of c))
+owned c = let s = entry-of c in of-own (ready c .cell) (s .good .1 .1 .1 .1 .1 .1 .0 .1) (ready c .sign) (short s)
+
+face : (c : tie.In-loop Inv-loop μ-loop) → let a = entry-of c .args in
+    OfFace (a .at) (getD (a .rank .now) (32 * a .axis + c .before .loop .q) 0) (length (c .before .loop .indices))
+face c =
+    let s = entry-of c in
+    of-face (s .pre .room (c .before .loop .q) (c .loop-test .taken)) (s .good .1 .1 .1 .1 .1 .1 .1 .1 .1 .1 .1 .1 .1 .1 .1 .1 .0 .1) (long (c .before))
+
 -- ---- the needs
 
 second-way-requires : tie.Need-second-way-requires Inv-loop μ-loop
-second-way-requires c κs = c .before .before .before .before .before .before .before .before .before .pre .axes
+second-way-requires c κs = c .before .before .before .before .before .before .before .pre .axes
 
 third-way-requires : tie.Need-third-way-requires Inv-loop μ-loop
-third-way-requires c κs = c .before .before .before .before .before .before .before .before .before .before .pre .axes
+third-way-requires c κs = c .before .before .before .before .before .before .before .before .pre .axes
 
 fourth-way-requires : tie.Need-fourth-way-requires Inv-loop μ-loop
-fourth-way-requires c κs = let p = c .before .before .before .before .before .before .before .before .before .before .before .pre in (p .axes, p .narrow)
+fourth-way-requires c κs = let p = c .before .before .before .before .before .before .before .before .before .pre in (p .axes, p .narrow)
 
 mul-start : tie.Need-mul-start Inv-loop μ-loop
-mul-start c = omega (arith, start-of c .pre .axes)
+mul-start c = start-fits (start-of c .pre .axes)
 
 loop-holds : tie.Need-loop-holds Inv-loop μ-loop
 loop-holds c =
     let s = start-of c in
     let a = s .args in
-    (omega arith, put-none (quad-of s) (a .who .now) (a .rank .now) (32 * a .axis) (a .from) (a .at) (a .indices .now))
+    (zero-le, put-none (quad-of s) (a .who .now) (a .rank .now) (32 * a .axis) (a .from) (a .at) (a .indices .now))
 
 add-v : tie.Need-add-v Inv-loop μ-loop
-add-v c = omega (arith, reads-who c, short-who (entry-of c))
+add-v c = entry c .place
 
 mul-v : tie.Need-mul-v Inv-loop μ-loop
-mul-v c = omega (arith, reads-who c, short-who (entry-of c))
+mul-v c = entry c .byte
 
-shared-slice-read-v : tie.Need-shared-slice-read-v Inv-loop μ-loop
-shared-slice-read-v c = reads-who (c .before)
+element-copy-out-v : tie.Need-element-copy-out-v Inv-loop μ-loop
+element-copy-out-v c = entry c .within
 
 cast-v : tie.Need-cast-v Inv-loop μ-loop
-cast-v c = let t = c .before in omega (arith, ready t .cell, short-cells (entry-of t))
+cast-v c = owned (c .before) .fits
 
 add-v-2 : tie.Need-add-v-2 Inv-loop μ-loop
-add-v-2 c = let t = c .before in omega (arith, ready t .cell, short-cells (entry-of t))
+add-v-2 c = owned (c .before) .vertex
 
 place-of-requires : tie.Need-place-of-requires Inv-loop μ-loop
-place-of-requires c κs = let t = c .before in (ready t .cell, omega (arith, ready t .sign, short (entry-of t)))
+place-of-requires c κs = let t = c .before in (ready t .cell, owned t .place)
 
 own-vertex-requires : tie.Need-own-vertex-requires Inv-loop μ-loop
 own-vertex-requires c κs = let t = turn-of c in (ready t .position, ready t .number)
@@ -164,37 +157,37 @@ look-requires-3 c κs =
 value-at-requires : tie.Need-value-at-requires Inv-loop μ-loop
 value-at-requires c κs =
     let p = placed-of c in
-    omega (arith, p .place-of .ensures, ready (turn-of p) .sign)
+    subst (λ (n : ℕ). n < length (lower-of (entry-of (turn-of p)))) (sym (p .place-of .ensures)) (ready (turn-of p) .sign)
 
 negative-requires : tie.Need-negative-requires Inv-loop μ-loop
-negative-requires c κs = search needs
+negative-requires c κs = tt
 
 add-make-quad : tie.Need-add-make-quad Inv-loop μ-loop
-add-make-quad c = let t = turn-of (placed-of (looked-of c)) in omega (arith, reads-rank t, short-rank (entry-of t))
+add-make-quad c = entry (turn-of (placed-of (looked-of c))) .place
 
 mul-make-quad : tie.Need-mul-make-quad Inv-loop μ-loop
-mul-make-quad c = let t = turn-of (placed-of (looked-of c)) in omega (arith, reads-rank t, short-rank (entry-of t))
+mul-make-quad c = entry (turn-of (placed-of (looked-of c))) .byte
 
-shared-slice-read-make-quad : tie.Need-shared-slice-read-make-quad Inv-loop μ-loop
-shared-slice-read-make-quad c = reads-rank (turn-of (placed-of (looked-of (c .before))))
+element-copy-out-make-quad : tie.Need-element-copy-out-make-quad Inv-loop μ-loop
+element-copy-out-make-quad c = entry (turn-of (placed-of (looked-of c))) .within
 
 cast-make-quad : tie.Need-cast-make-quad Inv-loop μ-loop
-cast-make-quad c = let t = turn-of (placed-of (looked-of (c .before))) in omega (arith, room t, short-indices (entry-of t))
+cast-make-quad c = face (turn-of (placed-of (looked-of (c .before)))) .fits
 
 mul-make-quad-2 : tie.Need-mul-make-quad-2 Inv-loop μ-loop
-mul-make-quad-2 c = let t = turn-of (placed-of (looked-of (c .before))) in omega (arith, room t, short-indices (entry-of t))
+mul-make-quad-2 c = face (turn-of (placed-of (looked-of (c .before)))) .six
 
 add-make-quad-2 : tie.Need-add-make-quad-2 Inv-loop μ-loop
-add-make-quad-2 c = let t = turn-of (placed-of (looked-of (c .before))) in omega (arith, room t, short-indices (entry-of t))
+add-make-quad-2 c = face (turn-of (placed-of (looked-of (c .before)))) .place
 
 make-quad-requires : tie.Need-make-quad-requires Inv-loop μ-loop
-make-quad-requires c κs = let t = turn-of (placed-of (looked-of (c .before))) in omega (arith, room t, long (t .before))
+make-quad-requires c κs = face (turn-of (placed-of (looked-of (c .before)))) .room
 
 add-q : tie.Need-add-q Inv-loop μ-loop
-add-q c = let t = turn-end c in omega (arith, reads-who t, short-who (entry-of t))
+add-q c = entry (turn-end c) .next
 
 loop-less : tie.Need-loop-less Inv-loop μ-loop
-loop-less c = let h = turn-end c .loop-test .taken in omega (arith, h)
+loop-less c = entry (turn-end c) .less
 
 loop-again : tie.Need-loop-again Inv-loop μ-loop
 loop-again c =
@@ -207,9 +200,8 @@ loop-again c =
     let s = start-of ways in
     let a = s .args in
     let w = t .before .loop in
-    let h = t .loop-test .taken in
     let sign = n .negative .ensures ∙ ap negative (n .before .value-at .ensures) in (
-      omega (arith, h),
+      entry t .taken,
       put-on (quad-of s) (a .who .now) (a .rank .now) (32 * a .axis) (a .from) (a .at) (w .q) (a .indices .now) (w .inv .1)
           (quad-looked (a .first) (a .map .now) (a .positions .now) (a .map-below .now) (a .positions-below .now) (lower-of s) (a .row) (a .cells .now) (vertex-of t)
           (axisOf (a .axis)) (p .place-of .ensures) sign (ways .before .before .second-way .ensures) (ways .before .third-way .ensures) (ways .fourth-way .ensures)
@@ -223,12 +215,10 @@ same-length c = long (c .before)
 returns : tie.Need-returns Inv-loop μ-loop
 returns c =
     let w = c .before .loop in
-    let h = c .loop-test .left in
-    let low = w .inv .0 in
     let s = start-of (c .before .before) in
     let a = s .args in
-    let all : w .q ≡ a .count = omega (arith, h, low) in
-    w .inv .1 ∙ ap (λ (n : ℕ). facesPut (quad-of s) (a .who .now) (a .rank .now) (32 * a .axis) (a .from) (a .at) n (a .indices .now)) all
+    w .inv .1
+    ∙ ap (λ (n : ℕ). facesPut (quad-of s) (a .who .now) (a .rank .now) (32 * a .axis) (a .from) (a .at) n (a .indices .now)) (le-antisymm (w .inv .0) (c .loop-test .left))
 
 pub put-faces-spec : {M : Type 1} → statement M
 put-faces-spec =
@@ -243,7 +233,7 @@ put-faces-spec =
     loop-holds
     add-v
     mul-v
-    shared-slice-read-v
+    element-copy-out-v
     cast-v
     add-v-2
     place-of-requires
@@ -255,7 +245,7 @@ put-faces-spec =
     negative-requires
     add-make-quad
     mul-make-quad
-    shared-slice-read-make-quad
+    element-copy-out-make-quad
     cast-make-quad
     mul-make-quad-2
     add-make-quad-2

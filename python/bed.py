@@ -8,10 +8,17 @@ Distances are anything with a buffer of float32, int16 or int8 in C order, whole
 values; none is converted. One without three dimensions wants dims=(x, y, z). Lists come back as NumPy arrays where NumPy
 is there, and else as memoryviews. A refused call raises Refused, with the answer's number.
 
-The library is found by BED_SHARED, the path of libbed.so, and else by the system's own search. Every call is made in
-the default floating-point environment, and the caller's is set again after it."""
+Whatever is passed, no call reads or writes outside what it was lent: numbers, flags and buffers are looked at before the
+library is called. What is no three whole numbers from 0 up, or no three flags, is a ValueError; a buffer of another kind
+or order a TypeError. A number above 2^32 - 1 gets the answer that the documents give it: it is a dimension, corner or
+coordinate like another, and too large.
+
+The library is found by BED_SHARED, the path of libbed.so; else as libbed.so in the folder of this file; else by the
+system's own search. Every call is made in the default floating-point environment, and the caller's is set again after it."""
 import ctypes
 import ctypes.util
+import itertools
+import operator
 import os
 import sys
 
@@ -30,6 +37,7 @@ WORDS = {
     5: "a distance in the box is not finite or is above 2^124 in magnitude",
     6: "no room for the vertices",
     7: "no room for the indices",
+    8: "the box has no more layers",
     21: "the file is cut off before the end of its closing record",
     22: "a record's sum is wrong",
     23: "a record is of no known kind, or a vertex comes after a triangle",
@@ -55,12 +63,23 @@ WORDS = {
 }
 
 
+# What 3, 4 and 5 say of a layer.
+LAYER_WORDS = {
+    3: "the layer's length is not that of the dimensions",
+    4: "the kept memory is too short",
+    5: "a distance of the layer is not finite or is above 2^124 in magnitude",
+}
+
+
 class Refused(Exception):
     """The library refused a call; it changed nothing."""
 
-    def __init__(self, number):
-        super().__init__(f"refused {number}: {WORDS.get(number, 'unknown')}")
+    def __init__(self, number, words=None):
+        super().__init__(f"refused {number}: {words or WORDS.get(number, 'unknown')}")
         self.number = number
+
+    def __repr__(self):
+        return f"Refused({self.number})"
 
 
 class Mesh:
@@ -70,24 +89,147 @@ class Mesh:
         self.positions, self.normals, self.indices = positions, normals, indices
         self.cells, self.strides, self.crossings, self.stride_to_index = cells, strides, crossings, stride_to_index
 
+    def __repr__(self):
+        try:
+            return f"<bed.Mesh: {len(self.positions)} vertices, {len(self.indices) // 3} triangles>"
+        except TypeError:
+            return "<bed.Mesh>"
 
-class Block(ctypes.Structure):
+
+class Block:
     """A block of a plan, or its whole: the corners, and the max plane for each axis."""
 
-    _fields_ = [("min", ctypes.c_uint32 * 3), ("max", ctypes.c_uint32 * 3), ("max_plane", ctypes.c_bool * 3)]
-
     def __init__(self, min=(0, 0, 0), max=(0, 0, 0), max_plane=(False, False, False)):
-        super().__init__(tuple(min), tuple(max), tuple(max_plane))
+        self.min, self.max, self.max_plane = _three("min", min), _three("max", max), _flags(max_plane)
+
+    def __eq__(self, other):
+        return isinstance(other, Block) and repr(self) == repr(other)
+
+    __hash__ = None
+
+    def __repr__(self):
+        return f"bed.Block(min={self.min}, max={self.max}, max_plane={self.max_plane})"
 
 
-# ---- the library, and the environment it is called in
+# ---- numbers and flags, looked at before a call
+
+_LARGEST = 2 ** 32 - 1
+
+
+def _whole(name, number, largest=None):
+    """a whole number from 0 up, and up to the largest where one is named"""
+    try:
+        number = operator.index(number)
+    except TypeError:
+        raise ValueError(f"{name}: {number!r} is no whole number") from None
+    if number < 0 or largest is not None and number > largest:
+        raise ValueError(f"{name}: {number} is not from 0 to {largest if largest is not None else _LARGEST}")
+    return number
+
+
+def _row(name, values, count):
+    """exactly so many values, as a tuple"""
+    try:
+        row = tuple(itertools.islice(values, count + 1))
+    except TypeError:
+        raise ValueError(f"{name}: {count} values are wanted, not {values!r}") from None
+    if len(row) != count:
+        raise ValueError(f"{name}: exactly {count} values are wanted")
+    return row
+
+
+def _three(name, numbers):
+    return tuple(_whole(name, number) for number in _row(name, numbers, 3))
+
+
+def _flags(max_plane):
+    return tuple(map(_flag, _row("max_plane", max_plane, 3)))
+
+
+def _flag(flag):
+    if isinstance(flag, bool) or numpy is not None and isinstance(flag, numpy.bool_):
+        return bool(flag)
+    return bool(_whole("max_plane", flag, 1))
+
+
+def _passed(*lists):
+    """numbers as the library takes them. One above 2^32 - 1 is passed as 2^32 - 1, which gets the same answer: as a dimension 1, as
+    a box's corner 2, since no dimension is above it, as a plan's coordinate 42"""
+    return [min(number, _LARGEST) for numbers in lists for number in numbers]
+
+
+# ---- the library, its functions, and the environment they are called in
 
 _FLOAT, _NUMBER, _BYTE = ctypes.c_float, ctypes.c_uint32, ctypes.c_uint8
+_COUNT, _FLAG = ctypes.c_uint64, ctypes.c_bool
 _CODES = {_FLOAT: "f", _NUMBER: "I", _BYTE: "B"}
 # the kinds of distances, by a buffer's code, and how the functions over them are called
 _DISTANCES = {"f": (_FLOAT, ""), "h": (ctypes.c_int16, "_i16"), "b": (ctypes.c_int8, "_i8")}
-_library = ctypes.CDLL(os.environ.get("BED_SHARED") or ctypes.util.find_library("bed") or "libbed.so.0")
-_mathematics = ctypes.CDLL(ctypes.util.find_library("m") or "libm.so.6")
+
+
+class _Block(ctypes.Structure):
+    """bed.h's struct bed_block"""
+
+    _fields_ = [("min", _NUMBER * 3), ("max", _NUMBER * 3), ("max_plane", _FLAG * 3)]
+
+
+class _State(ctypes.Structure):
+    """bed.h's struct bed_layers"""
+
+    _fields_ = [("dims", _NUMBER * 3), ("min", _NUMBER * 3), ("max", _NUMBER * 3), ("max_plane", _NUMBER * 3),
+                ("taken", _NUMBER), ("next", _NUMBER), ("first", _NUMBER)]
+
+
+def _lists(*kinds):
+    return [part for kind in kinds for part in (ctypes.POINTER(kind), ctypes.c_size_t)]
+
+
+def _out(*kinds):
+    return [ctypes.POINTER(kind) for kind in kinds]
+
+
+def _signatures():
+    """what each function of include/bed.h that is called here takes"""
+    box, flags, counts = [_NUMBER] * 6, [_FLAG] * 3, _out(_COUNT, _COUNT)
+    dims, words, kept = [_NUMBER] * 3, [_NUMBER] * 7, (_FLOAT, _NUMBER, _FLOAT)
+    vertices = (_FLOAT, _FLOAT, _NUMBER, _NUMBER, _BYTE)
+    all_of = {
+        "bed_check_plan": _lists(_Block) + box + flags + _out(_FLAG),
+        "bed_write_mesh": _lists(_FLOAT, _FLOAT, _NUMBER, _BYTE) + _out(_COUNT),
+        "bed_write_record": _lists(_BYTE) + [_COUNT] + words,
+        "bed_read_mesh": _lists(_BYTE, _FLOAT, _FLOAT, _NUMBER) + counts,
+        "bed_check_mesh": _lists(_BYTE) + counts,
+        "bed_cut_fixtures": _lists(_BYTE) + dims + _lists(_FLOAT),
+        "bed_volume": _lists(_FLOAT, _NUMBER) + _out(ctypes.c_int64),
+        "bed_layers_start": _out(_State) + dims + box + flags + _lists(*kept),
+        "bed_layers_offer": _out(_State) + _lists(_FLOAT, *kept, *vertices, _NUMBER) + counts,
+    }
+    for kind, ending in _DISTANCES.values():
+        asked = _lists(kind) + dims + box
+        all_of["bed_surface_nets" + ending] = asked + flags + _lists(*vertices, _NUMBER, _NUMBER) + counts
+        all_of["bed_answer" + ending] = asked + flags + [_COUNT] * 7 + counts
+        all_of["bed_is_enclosed" + ending] = asked + _out(_FLAG)
+    return all_of
+
+
+def _loaded():
+    beside = os.path.join(os.path.dirname(os.path.abspath(__file__)), "libbed.so")
+    named = os.environ.get("BED_SHARED") or (beside if os.path.exists(beside) else None)
+    library = ctypes.CDLL(named or ctypes.util.find_library("bed") or "libbed.so.0")
+    for name, arguments in _signatures().items():
+        function = getattr(library, name)
+        function.argtypes, function.restype = arguments, ctypes.c_uint32
+    return library
+
+
+def _environment():
+    mathematics = ctypes.CDLL(ctypes.util.find_library("m") or "libm.so.6")
+    for function in (mathematics.fegetenv, mathematics.fesetenv):
+        function.argtypes, function.restype = [ctypes.c_void_p], ctypes.c_int
+    return mathematics
+
+
+_library, _mathematics = _loaded(), _environment()
 _DEFAULT_ENVIRONMENT = ctypes.c_void_p(-1)  # FE_DFL_ENV of the C libraries of Linux
 
 
@@ -103,25 +245,24 @@ class _Environment:
 
 def _call(name, *arguments):
     function = getattr(_library, name)
-    function.restype = ctypes.c_uint32
     with _Environment():
         return function(*arguments)
 
 
-def _done(answer):
+def _done(answer, words=None):
     if answer:
-        raise Refused(answer)
+        raise Refused(answer, (words or {}).get(answer))
 
 
 # ---- lists: each is passed as a pointer and its length
 
 def _room(kind, count):
     """room for so many numbers"""
-    return (kind * count).from_buffer(bytearray(max(1, count * ctypes.sizeof(kind)))) if count else (kind * 0)()
+    return (kind * count).from_buffer(bytearray(count * ctypes.sizeof(kind))) if count else (kind * 0)()
 
 
-def _lent(room):
-    return ctypes.byref(room), ctypes.c_size_t(len(room))
+def _lent(*rooms):
+    return [part for room in rooms for part in (room, len(room))]
 
 
 def _given(room, columns=1):
@@ -135,7 +276,10 @@ def _given(room, columns=1):
 
 
 def _view(buffer):
-    view = memoryview(buffer)
+    try:
+        view = memoryview(buffer)
+    except (TypeError, ValueError, BufferError) as error:
+        raise TypeError(f"a buffer is wanted: {error}") from None
     if not view.c_contiguous:
         raise TypeError("the buffer is not in C order")
     little = "<" if sys.byteorder == "little" else ">"
@@ -146,59 +290,74 @@ def _read(kind, buffer):
     """a buffer for reading, as it stands where it can be"""
     view, code = _view(buffer)
     same = {_FLOAT: "f", _NUMBER: "IL", _BYTE: "Bbc"}[kind]
-    if code in same and view.itemsize == ctypes.sizeof(kind):
-        return _taken(kind, buffer, view)
+    if code and code in same and view.itemsize == ctypes.sizeof(kind):
+        return _taken(kind, view)
     raise TypeError(f"a buffer of {code!r} is given where {_CODES[kind]!r} is wanted")
 
 
-def _taken(kind, buffer, view):
-    count = view.nbytes // view.itemsize
+def _written(kind, buffer, what):
+    """a buffer that is changed in its place"""
+    view = _view(buffer)[0]
+    if view.readonly:
+        raise TypeError(f"{what} in their place: a buffer for writing is wanted")
+    taken = _read(kind, buffer)
+    if len(taken) and not _aligned(kind, view):
+        raise TypeError(f"{what} in their place: an aligned buffer is wanted")
+    return taken
+
+
+def _aligned(kind, view):
+    first = (_BYTE * view.nbytes).from_buffer(view)
+    return ctypes.addressof(first) % ctypes.alignment(kind) == 0
+
+
+def _taken(kind, view):
+    """what the library may read: a copy where the buffer is only for reading, which ctypes does not lend, or not aligned"""
+    count = view.nbytes // ctypes.sizeof(kind)
     if count == 0:
         return (kind * 0)()
     source = kind * count
-    return source.from_buffer_copy(buffer) if view.readonly else source.from_buffer(buffer)
+    return source.from_buffer_copy(view) if view.readonly or not _aligned(kind, view) else source.from_buffer(view)
 
 
 def _grid(distances, dims):
     """the distances, the dimensions and what the names of the functions over such distances end with"""
     view, code = _view(distances)
-    if code not in _DISTANCES:
-        raise TypeError(f"a buffer of {code!r} is given where float32, int16 or int8 is wanted")
+    if code not in _DISTANCES or view.itemsize != ctypes.sizeof(_DISTANCES[code][0]):
+        wanted = "; .astype('float32') makes one" if code == "d" else ""
+        raise TypeError(f"a buffer of {code!r} is given where float32, int16 or int8 is wanted{wanted}")
     kind, ending = _DISTANCES[code]
     if dims is None:
-        if len(view.shape) != 3:
+        if view.ndim != 3:
             raise TypeError("the distances have not three dimensions: give dims=(x, y, z)")
         dims = view.shape[::-1]
-    if any(not 0 <= size < 2 ** 32 for size in dims):
-        raise Refused(1)
-    return _taken(kind, distances, view), tuple(dims), ending
-
-
-def _numbers(*lists):
-    return [ctypes.c_uint32(number) for numbers in lists for number in numbers]
-
-
-def _flags(max_plane):
-    return [ctypes.c_bool(flag) for flag in max_plane]
+    return _taken(kind, view), _three("dims", dims), ending
 
 
 def _box(dims, low, high):
-    return low, high if high is not None else tuple(max(size, 1) - 1 for size in dims)
+    """the corners, the highest point where no max is given"""
+    return _three("min", low), _three("max", high) if high is not None else tuple(max(size, 1) - 1 for size in dims)
 
 
 def _asked(distances, dims, low, high, max_plane):
     """the grid, what the names of its functions end with, and the grid with the box and the max plane as the library takes them"""
     grid, dims, ending = _grid(distances, dims)
-    return grid, ending, [*_lent(grid), *_numbers(dims, *_box(dims, low, high)), *_flags(max_plane)]
+    return grid, ending, [*_lent(grid), *_passed(dims, *_box(dims, low, high)), *_flags(max_plane)]
 
 
 def _counted(grid, ending, asked):
     """V and I, asked with nothing lent but a map as long as the grid"""
-    vertices, indices = ctypes.c_uint64(), ctypes.c_uint64()
-    lengths = [ctypes.c_uint64(length) for length in (0, 0, 0, 0, 0, len(grid), 0)]
+    vertices, indices = _COUNT(), _COUNT()
+    lengths = (0, 0, 0, 0, 0, len(grid), 0)
     answer = _call("bed_answer" + ending, *asked, *lengths, ctypes.byref(vertices), ctypes.byref(indices))
     _done(answer if answer not in (6, 7) else 0)
     return vertices.value, indices.value
+
+
+def _vertex_rooms(vertices):
+    """positions, normals, cells, strides and crossings of so many vertices"""
+    three = 3 * vertices
+    return [_room(_FLOAT, three), _room(_FLOAT, three), _room(_NUMBER, three), _room(_NUMBER, vertices), _room(_BYTE, vertices)]
 
 
 # ---- the functions of include/bed.h
@@ -214,10 +373,8 @@ def surface_nets(distances, dims=None, min=(0, 0, 0), max=None, max_plane=(False
     vertices, indices = _counted(grid, ending, asked)
     stride_to_index = _room(_NUMBER, len(grid))
     ctypes.memset(stride_to_index, 255, ctypes.sizeof(stride_to_index))
-    rooms = [_room(_FLOAT, 3 * vertices), _room(_FLOAT, 3 * vertices), _room(_NUMBER, 3 * vertices),
-             _room(_NUMBER, vertices), _room(_BYTE, vertices), stride_to_index, _room(_NUMBER, indices)]
-    lists = [part for room in rooms for part in _lent(room)]
-    _done(_call("bed_surface_nets" + ending, *asked, *lists, ctypes.byref(ctypes.c_uint64()), ctypes.byref(ctypes.c_uint64())))
+    rooms = [*_vertex_rooms(vertices), stride_to_index, _room(_NUMBER, indices)]
+    _done(_call("bed_surface_nets" + ending, *asked, *_lent(*rooms), ctypes.byref(_COUNT()), ctypes.byref(_COUNT())))
     positions, normals, cells, strides, crossings, stride_to_index, indices = rooms
     return Mesh(_given(positions, 3), _given(normals, 3), _given(indices), _given(cells, 3), _given(strides),
                 _given(crossings), _given(stride_to_index))
@@ -226,63 +383,134 @@ def surface_nets(distances, dims=None, min=(0, 0, 0), max=None, max_plane=(False
 def is_enclosed(distances, dims=None, min=(0, 0, 0), max=None):
     """Whether every distance below zero lies from min + 1 to max - 2; then the mesh has no hole."""
     grid, dims, ending = _grid(distances, dims)
-    enclosed = ctypes.c_bool()
-    _done(_call("bed_is_enclosed" + ending, *_lent(grid), *_numbers(dims, *_box(dims, min, max)), ctypes.byref(enclosed)))
+    enclosed = _FLAG()
+    _done(_call("bed_is_enclosed" + ending, *_lent(grid), *_passed(dims, *_box(dims, min, max)), ctypes.byref(enclosed)))
     return enclosed.value
 
 
 def check_plan(blocks, whole):
     """Whether the blocks make each face of the whole exactly once, and no other."""
-    lent, holds = (Block * len(blocks))(*blocks), ctypes.c_bool()
-    _done(_call("bed_check_plan", *_lent(lent), *_numbers(whole.min, whole.max), *_flags(whole.max_plane), ctypes.byref(holds)))
+    blocks = list(blocks)
+    for block in (*blocks, whole):
+        if not isinstance(block, Block):
+            raise TypeError(f"{block!r} is no bed.Block")
+    lent, holds = (_Block * len(blocks))(*map(_of_a_block, blocks)), _FLAG()
+    corners = _of_a_block(whole)
+    _done(_call("bed_check_plan", *_lent(lent), *corners.min, *corners.max, *corners.max_plane, ctypes.byref(holds)))
     return holds.value
+
+
+def _of_a_block(block):
+    # what stands there may have been set after the block was made
+    low, high, flags = _three("min", block.min), _three("max", block.max), _flags(block.max_plane)
+    return _Block(tuple(_passed(low)), tuple(_passed(high)), flags)
 
 
 def cut_fixtures(file, distances, dims=None):
     """Cuts a file of fixtures out of a grid of float32, in its place."""
-    if memoryview(distances).readonly:
-        raise TypeError("the distances are changed in their place: a buffer for writing is wanted")
     if _view(distances)[1] != "f":
         raise TypeError("the distances are changed in their place: float32 is wanted")
-    grid, dims, _ = _grid(distances, dims)
-    _done(_call("bed_cut_fixtures", *_lent(_read(_BYTE, file)), *_numbers(dims), *_lent(grid)))
+    sizes = _grid(distances, dims)[1]
+    grid = _written(_FLOAT, distances, "the distances are changed")
+    _done(_call("bed_cut_fixtures", *_lent(_apart(_read(_BYTE, file), grid)), *_passed(sizes), *_lent(grid)))
+
+
+def _apart(read, written):
+    """what is read, as a copy where it shares bytes with what is written"""
+    begin, end = ctypes.addressof(read), ctypes.addressof(read) + ctypes.sizeof(read)
+    first, last = ctypes.addressof(written), ctypes.addressof(written) + ctypes.sizeof(written)
+    return type(read).from_buffer_copy(read) if len(read) and begin < last and first < end else read
 
 
 def volume(positions, indices):
     """Six times the signed volume, in cubed steps of 1/256."""
     sixfold = ctypes.c_int64()
-    _done(_call("bed_volume", *_lent(_read(_FLOAT, positions)), *_lent(_read(_NUMBER, indices)), ctypes.byref(sixfold)))
+    _done(_call("bed_volume", *_lent(_read(_FLOAT, positions), _read(_NUMBER, indices)), ctypes.byref(sixfold)))
     return sixfold.value
 
 
 def write_mesh(mesh):
     """The bytes of the mesh file."""
     positions, normals, indices = _read(_FLOAT, mesh.positions), _read(_FLOAT, mesh.normals), _read(_NUMBER, mesh.indices)
-    file, count = _room(_BYTE, 32 * (len(positions) // 3 + len(indices) // 3 + 1)), ctypes.c_uint64()
-    _done(_call("bed_write_mesh", *_lent(positions), *_lent(normals), *_lent(indices), *_lent(file), ctypes.byref(count)))
+    file, count = _room(_BYTE, 32 * (len(positions) // 3 + len(indices) // 3 + 1)), _COUNT()
+    _done(_call("bed_write_mesh", *_lent(positions, normals, indices, file), ctypes.byref(count)))
     return bytes(file)[:count.value]
 
 
 def write_record(file, at, words):
     """Writes one record of a mesh file, seven words and their sum, into 32 bytes of a buffer, in their place."""
-    if memoryview(file).readonly:
-        raise TypeError("the bytes are written in their place: a buffer for writing is wanted")
-    kind, a, b, c, d, e, f = words
-    _done(_call("bed_write_record", *_lent(_read(_BYTE, file)), ctypes.c_uint64(at), *_numbers((kind, a, b, c, d, e, f))))
+    numbers = [_whole("words", word, _LARGEST) for word in _row("words", words, 7)]
+    # a place above 2^64 - 1 is past every buffer, as 2^64 - 1 is
+    place = min(_whole("at", at), 2 ** 64 - 1)
+    _done(_call("bed_write_record", *_lent(_written(_BYTE, file, "the bytes are written")), place, *numbers))
 
 
 def check_mesh(file):
     """The vertices and triangles of a mesh file."""
-    vertices, triangles = ctypes.c_uint64(), ctypes.c_uint64()
+    vertices, triangles = _COUNT(), _COUNT()
     _done(_call("bed_check_mesh", *_lent(_read(_BYTE, file)), ctypes.byref(vertices), ctypes.byref(triangles)))
     return vertices.value, triangles.value
 
 
 def read_mesh(file):
     """The mesh of a mesh file."""
-    vertices, triangles = check_mesh(file)
-    positions, normals, indices = _room(_FLOAT, 3 * vertices), _room(_FLOAT, 3 * vertices), _room(_NUMBER, 3 * triangles)
-    counts = ctypes.c_uint64(), ctypes.c_uint64()
-    _done(_call("bed_read_mesh", *_lent(_read(_BYTE, file)), *_lent(positions), *_lent(normals), *_lent(indices),
-                *map(ctypes.byref, counts)))
+    # one reading of the buffer: it may be shared, and what is counted must be what is read
+    lent = _read(_BYTE, bytes(_view(file)[0].cast("B")) if not isinstance(file, bytes) else file)
+    vertices, triangles = check_mesh(lent)
+    rooms = [_room(_FLOAT, 3 * vertices), _room(_FLOAT, 3 * vertices), _room(_NUMBER, 3 * triangles)]
+    _done(_call("bed_read_mesh", *_lent(lent, *rooms), ctypes.byref(_COUNT()), ctypes.byref(_COUNT())))
+    positions, normals, indices = rooms
     return Mesh(_given(positions, 3), _given(normals, 3), _given(indices))
+
+
+class Layers:
+    """A bed taken layer by layer, for who cannot hold the grid: dimensions, box and max plane first, then each layer of the box
+    by offer, from min z to max z. What all layers bring out, joined, is the mesh of surface_nets, its map apart.
+
+        bed_of_layers = bed.Layers((x, y, z))
+        for layer in layers:                       # float32, x * y distances
+            part = bed_of_layers.offer(layer)      # a Mesh; vertex numbers run on from part to part
+
+    The memory between the layers, seven numbers for each of a layer's points, is held here."""
+
+    def __init__(self, dims, min=(0, 0, 0), max=None, max_plane=(False, False, False)):
+        dims = _three("dims", dims)
+        self._points, self._state = dims[0] * dims[1], _State()
+        self._asked = [*_passed(dims, *_box(dims, min, max)), *_flags(max_plane)]
+        self._kept = [_room(kind, 0) for kind in (_FLOAT, _NUMBER, _FLOAT)]
+        # dimensions and box are judged before memory is measured, and none is taken for bad ones
+        answer = self._start()
+        if answer == 4:
+            self._kept = [_room(kind, times * self._points) for kind, times in ((_FLOAT, 2), (_NUMBER, 2), (_FLOAT, 3))]
+            answer = self._start()
+        _done(answer, LAYER_WORDS)
+
+    def _start(self):
+        return _call("bed_layers_start", ctypes.byref(self._state), *self._asked, *_lent(*self._kept))
+
+    @property
+    def taken(self):
+        """how many layers were taken"""
+        return self._state.taken
+
+    def offer(self, layer):
+        """Takes the next layer, and gives the vertices and triangles of the cells below it; the first layer brings out none. A
+        refused layer changes nothing and can be offered again."""
+        distances = _read(_FLOAT, layer)
+        rooms = self._offered(distances, 0, 0)
+        if not isinstance(rooms, list):
+            rooms = self._offered(distances, *rooms)
+        positions, normals, cells, strides, crossings, indices = rooms
+        return Mesh(_given(positions, 3), _given(normals, 3), _given(indices), _given(cells, 3), _given(strides), _given(crossings))
+
+    def _offered(self, distances, vertices, indices):
+        """what the layer brought out, or the V and I that it wants room for"""
+        rooms, counts = [*_vertex_rooms(vertices), _room(_NUMBER, indices)], (_COUNT(), _COUNT())
+        answer = _call("bed_layers_offer", ctypes.byref(self._state), *_lent(distances, *self._kept, *rooms), *map(ctypes.byref, counts))
+        if answer in (6, 7):
+            return counts[0].value, counts[1].value
+        _done(answer, LAYER_WORDS)
+        return rooms
+
+    def __repr__(self):
+        return f"<bed.Layers: {self.taken} layers taken, {self._state.next} vertices so far>"

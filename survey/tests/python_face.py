@@ -35,6 +35,14 @@ def wrong(function, *words, **more):
         pass
 
 
+def no_number(function, *words, **more):
+    try:
+        function(*words, **more)
+        expect(f"{function.__name__}{words} {more} is a wrong value", False)
+    except ValueError:
+        pass
+
+
 def rows(matrix):
     return [tuple(row) for row in matrix.tolist()]
 
@@ -90,6 +98,97 @@ def ball():
     expect("the volume of a single point", bed.volume(closed.positions, closed.indices) == 6 * 85 ** 3)
 
 
+def numbers():
+    """exactly three numbers from 0 up, exactly three flags; a number above 2^32 - 1 gets the documents' answer for it, in their order"""
+    grid = array.array("f", [1.0] * 13 + [-1.0] + [1.0] * 13)
+    three, large = (3, 3, 3), 2 ** 32
+    for function in (bed.surface_nets, bed.counts):
+        for flags in ((True,), (), (True,) * 4, (True, False, 2), (True, False, -1), (True, False, None), (True, False, "no"), None, 7):
+            no_number(function, grid, three, max_plane=flags)
+        expect("flags of 0 and 1", bed.counts(grid, three, max_plane=(1, 0, 1)) == bed.counts(grid, three, max_plane=(True, False, True)))
+    for function in (bed.surface_nets, bed.counts, bed.is_enclosed):
+        for bad in ((3, 9), (3, 3, 3, 1), (-3, -3, 3), (3, 3.0, 3), (3, None, 9), "333", 27, iter(int, 1)):
+            no_number(function, grid, bad)
+        for bad in ((2, 2), (2, 2, 2, 2), (2, 2, -1), (2.5, 2, 2), "222", 2):
+            no_number(function, grid, three, max=bad)
+            no_number(function, grid, three, min=bad)
+        for number, words in ((1, {"dims": (large + 3, 3, 3)}), (1, {"dims": (3, 3, 2 ** 70)}), (1, {"dims": (0, 3, 3), "max": (large + 2, 2, 2)}),
+                              (2, {"dims": three, "max": (large + 2, 2, 2)}), (2, {"dims": three, "min": (0, 0, large)}),
+                              (2, {"dims": three, "min": (large,) * 3, "max": (large,) * 3}), (2, {"dims": (3, 3, 4), "max": (2, 2 ** 64, 2)}),
+                              (3, {"dims": (3, 3, 4)})):
+            refused(number, function, grid, **words)
+    refused(1, bed.cut_fixtures, b"", grid, (3, 3, large + 3))
+    no_number(bed.cut_fixtures, b"", grid, (3, 9))
+    whole = bed.Block(max=(2, 2, 2))
+    expect("a plan's block is no smaller one", bed.check_plan([bed.Block(max=(2, 2, 2))], whole))
+    refused(42, bed.check_plan, [bed.Block(max=(large + 2, 2, 2))], whole)
+    refused(42, bed.check_plan, [whole], bed.Block(max=(2, 2, large + 2)))
+    refused(41, bed.check_plan, [bed.Block(max=(large + 2, 2, 2))] * 201, whole)
+    whole.max = (2, large + 2, 2)
+    refused(42, bed.check_plan, [], whole)
+    for bad in ({"min": (0, 0)}, {"max": (1, 1, -1)}, {"max_plane": (True,)}, {"max": (1, 1, 0.5)}):
+        no_number(bed.Block, **bad)
+    wrong(bed.check_plan, [(0, 0, 0)], bed.Block())
+    wrong(bed.check_plan, [], None)
+    room = bytearray(64)
+    for bad in ((1,) * 6, (1,) * 8, (-1,) * 7, (large,) * 7, (1.0,) * 7):
+        no_number(bed.write_record, room, 0, bad)
+    no_number(bed.write_record, room, -1, (1,) * 7)
+    refused(29, bed.write_record, room, 2 ** 64, (1,) * 7)
+    expect("nothing was written", room == bytearray(64))
+
+
+def buffers():
+    """kinds, order and alignment of what is lent"""
+    grid = array.array("f", [-1.0] * 27)
+    shifted = memoryview(bytearray(b"\0" + grid.tobytes()))[1:].cast("f")
+    expect("distances at an odd address", bed.counts(shifted, (3, 3, 3)) == bed.counts(grid, (3, 3, 3)))
+    wrong(bed.cut_fixtures, struct.pack("<I6fI", 1, 0, 0, 0, 1, 1, 1, 0), shifted, (3, 3, 3))
+    for bad in (None, 7, "text", [1.0] * 27, array.array("f", [1.0] * 54)[::2].tolist(), memoryview(array.array("f", [1.0] * 54))[::2]):
+        wrong(bed.surface_nets, bad, (3, 3, 3))
+    # the file is a part of the grid that is changed
+    shared = bytearray(struct.pack("<I6fI", 1, 0, 0, 0, 9, 9, 9, 0) + struct.pack("<19f", *[-5.0] * 19))
+    apart = array.array("f", bytes(shared))
+    bed.cut_fixtures(bytes(shared[:32]), apart, (3, 3, 3))
+    bed.cut_fixtures(memoryview(shared)[:32], memoryview(shared).cast("f"), (3, 3, 3))
+    expect("a file inside the grid", bytes(shared) == apart.tobytes())
+
+
+def layers():
+    """every layer offered: joined, the whole mesh; refusals, also of a layer that is then offered again"""
+    dims, corners = (5, 4, 6), {"min": (0, 1, 1), "max": (4, 3, 5)}
+    values = [random.choice((-1, 1)) * random.uniform(0.1, 3) for _ in range(120)]
+    grid = array.array("f", values)
+    whole = bed.surface_nets(grid, dims, max_plane=(True, False, True), **corners)
+    taking = bed.Layers(dims, max_plane=(True, False, True), **corners)
+    parts = []
+    for z in range(1, 6):
+        layer = grid[20 * z:20 * z + 20]
+        refused(3, taking.offer, layer[1:])
+        refused(5, taking.offer, layer[:9] + array.array("f", [float("inf")]) + layer[10:])
+        wrong(taking.offer, array.array("d", layer))
+        parts.append(taking.offer(layer))
+        expect("so many are taken", taking.taken == z)
+    refused(8, taking.offer, grid[:20])
+    expect("something came out", len(whole.indices) > 50 and len(parts[0].positions) == 0)
+    for name in ("positions", "normals", "indices", "cells", "strides", "crossings"):
+        expect(f"{name} of all layers", b"".join(getattr(part, name).tobytes() for part in parts) == getattr(whole, name).tobytes())
+    expect("in words", repr(taking) == f"<bed.Layers: 5 layers taken, {len(whole.positions)} vertices so far>")
+    refused(1, bed.Layers, (0, 4, 6))
+    refused(1, bed.Layers, (2 ** 32 + 5, 4, 6))
+    refused(2, bed.Layers, dims, max=(5, 3, 5))
+    refused(2, bed.Layers, dims, max=(4, 3, 2 ** 32 + 5))
+    no_number(bed.Layers, (5, 4))
+    no_number(bed.Layers, dims, max_plane=(True,))
+
+
+def in_words():
+    ball = bed.surface_nets(array.array("f", [1.0] * 13 + [-1.0] + [1.0] * 13), (3, 3, 3))
+    expect("a mesh", repr(ball) == "<bed.Mesh: 8 vertices, 6 triangles>")
+    expect("a block", repr(bed.Block(max=(1, 2, 3))) == "bed.Block(min=(0, 0, 0), max=(1, 2, 3), max_plane=(False, False, False))")
+    expect("a refusal", repr(bed.Refused(2)) == "Refused(2)" and str(bed.Refused(2)).startswith("refused 2: "))
+
+
 def whole_numbers():
     """grids of int16 and int8 against the float grid of the same values, the ends of the ranges among them"""
     for kind, least, most in (("h", -2 ** 15, 2 ** 15 - 1), ("b", -2 ** 7, 2 ** 7 - 1)):
@@ -127,7 +226,7 @@ def fixtures_and_plans():
     refused(51, bed.cut_fixtures, file[:-1], grid, (4, 4, 4))
     whole = bed.Block(max=(6, 4, 4))
     lower, upper = bed.Block(max=(4, 4, 4)), bed.Block((3, 0, 0), (6, 4, 4))
-    expect("a block is 28 bytes", ctypes.sizeof(bed.Block) == 28)
+    expect("a block is 28 bytes", ctypes.sizeof(bed._Block) == 28)
     expect("a plan", bed.check_plan([lower, upper], whole) and not bed.check_plan([lower], whole) and not bed.check_plan([], whole))
     expect("flags", not bed.check_plan([lower, bed.Block((3, 0, 0), (6, 4, 4), (True, False, False))], whole))
     refused(41, bed.check_plan, [lower] * 201, whole)
@@ -219,6 +318,10 @@ def with_numpy():
 
 
 ball()
+numbers()
+buffers()
+layers()
+in_words()
 whole_numbers()
 fixtures_and_plans()
 winding()

@@ -1,6 +1,6 @@
 //! Meshes a ball, takes the volume that its triangles enclose, keeps the mesh as a file and reads it back.
 //!
-//! `cargo run --example ball`, after `rt staticlib bed` at the top of the repository.
+//! `cargo run --example ball`, after `scripts/linked-library` at the top of the repository.
 
 use bed::{
     file_len, is_enclosed, read_mesh, surface_nets, write_mesh, MaxPlane, SurfaceNetsBuffer,

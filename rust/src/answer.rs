@@ -8,12 +8,19 @@ use crate::refusal::Refusal;
 /// The lengths of the seven lists of [`Lent`](crate::Lent), in elements.
 #[derive(Clone, Copy, Debug, Default, PartialEq, Eq)]
 pub struct LentLengths {
+    /// Of [`Lent::positions`](crate::Lent::positions): three a vertex.
     pub positions: u64,
+    /// Of [`Lent::normals`](crate::Lent::normals): three a vertex.
     pub normals: u64,
+    /// Of [`Lent::cells`](crate::Lent::cells): three a vertex.
     pub cells: u64,
+    /// Of [`Lent::strides`](crate::Lent::strides): one a vertex.
     pub strides: u64,
+    /// Of [`Lent::crossings`](crate::Lent::crossings): one a vertex.
     pub crossings: u64,
+    /// Of [`Lent::stride_to_index`](crate::Lent::stride_to_index): one a point of the grid.
     pub stride_to_index: u64,
+    /// Of [`Lent::indices`](crate::Lent::indices): three a triangle.
     pub indices: u64,
 }
 
@@ -35,87 +42,7 @@ impl LentLengths {
 
 /// What [`surface_nets_lent`](crate::surface_nets_lent) answers on this grid, box and max plane with lists of
 /// these lengths. Nothing is lent and nothing written.
-pub fn answer(
-    sdf: &[f32],
-    dims: [u32; 3],
-    min: [u32; 3],
-    max: [u32; 3],
-    max_plane: MaxPlane,
-    lengths: LentLengths,
-) -> Result<Counts, Refusal> {
-    answered(sdf, dims, min, max, max_plane, lengths)
-}
-
-/// [`answer`] over i16: what [`surface_nets_lent_i16`](crate::surface_nets_lent_i16) answers.
-pub fn answer_i16(
-    sdf: &[i16],
-    dims: [u32; 3],
-    min: [u32; 3],
-    max: [u32; 3],
-    max_plane: MaxPlane,
-    lengths: LentLengths,
-) -> Result<Counts, Refusal> {
-    answered(sdf, dims, min, max, max_plane, lengths)
-}
-
-/// [`answer`] over i8: what [`surface_nets_lent_i8`](crate::surface_nets_lent_i8) answers.
-pub fn answer_i8(
-    sdf: &[i8],
-    dims: [u32; 3],
-    min: [u32; 3],
-    max: [u32; 3],
-    max_plane: MaxPlane,
-    lengths: LentLengths,
-) -> Result<Counts, Refusal> {
-    answered(sdf, dims, min, max, max_plane, lengths)
-}
-
-/// V and I of the mesh of a box: with room for them and a map as long as the grid,
-/// [`surface_nets_lent`](crate::surface_nets_lent) is done and says them again. What is refused here it refuses
-/// too, however much is lent beside such a map.
-///
-/// ```
-/// use bed::{Counts, MaxPlane};
-///
-/// let mut sdf = [1.0; 27];
-/// sdf[13] = -1.0;
-/// let counts = bed::counts(&sdf, [3; 3], [0; 3], [2; 3], MaxPlane::NONE);
-/// assert_eq!(counts, Ok(Counts { vertices: 8, indices: 18 }));
-/// ```
-pub fn counts(
-    sdf: &[f32],
-    dims: [u32; 3],
-    min: [u32; 3],
-    max: [u32; 3],
-    max_plane: MaxPlane,
-) -> Result<Counts, Refusal> {
-    counted(sdf, dims, min, max, max_plane)
-}
-
-/// [`counts`] over i16.
-pub fn counts_i16(
-    sdf: &[i16],
-    dims: [u32; 3],
-    min: [u32; 3],
-    max: [u32; 3],
-    max_plane: MaxPlane,
-) -> Result<Counts, Refusal> {
-    counted(sdf, dims, min, max, max_plane)
-}
-
-/// [`counts`] over i8.
-pub fn counts_i8(
-    sdf: &[i8],
-    dims: [u32; 3],
-    min: [u32; 3],
-    max: [u32; 3],
-    max_plane: MaxPlane,
-) -> Result<Counts, Refusal> {
-    counted(sdf, dims, min, max, max_plane)
-}
-
-/// The answer over any kind of distance.
-fn answered<D: Distance>(
+pub fn answer<D: Distance>(
     sdf: &[D],
     dims: [u32; 3],
     min: [u32; 3],
@@ -157,8 +84,19 @@ fn answered<D: Distance>(
     Refusal::of(answer, counts)
 }
 
-/// The counts over any kind of distance.
-fn counted<D: Distance>(
+/// V and I of the mesh of a box: with room for them and a map as long as the grid,
+/// [`surface_nets_lent`](crate::surface_nets_lent) is done and says them again. What is refused here it refuses
+/// too, however much is lent beside such a map.
+///
+/// ```
+/// use bed::{Counts, MaxPlane};
+///
+/// let mut sdf = [1.0; 27];
+/// sdf[13] = -1.0;
+/// let counts = bed::counts(&sdf, [3; 3], [0; 3], [2; 3], MaxPlane::NONE);
+/// assert_eq!(counts, Ok(Counts { vertices: 8, indices: 18 }));
+/// ```
+pub fn counts<D: Distance>(
     sdf: &[D],
     dims: [u32; 3],
     min: [u32; 3],
@@ -166,7 +104,7 @@ fn counted<D: Distance>(
     max_plane: MaxPlane,
 ) -> Result<Counts, Refusal> {
     let map_alone = LentLengths::exactly(Counts::default(), sdf.len() as u64);
-    match answered(sdf, dims, min, max, max_plane, map_alone) {
+    match answer(sdf, dims, min, max, max_plane, map_alone) {
         Err(Refusal::VerticesShort(counts) | Refusal::IndicesShort(counts)) => Ok(counts),
         other => other,
     }

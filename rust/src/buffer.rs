@@ -1,7 +1,7 @@
 //! The shape of use that callers of fast-surface-nets know: one buffer that grows and is reused.
 
 use crate::distance::Distance;
-use crate::lent::{self, Counts, Lent, MaxPlane};
+use crate::lent::{surface_nets_lent, Counts, Lent, MaxPlane};
 use crate::refusal::Refusal;
 
 /// A grid index with this entry in `stride_to_index` made no vertex: a cell without one, or a point that is no cell.
@@ -35,59 +35,22 @@ pub struct SurfaceNetsBuffer {
 /// After it the lists hold exactly V vertices and I indices, and the map has the grid's length, new
 /// entries beginning as [`NULL_VERTEX`]. A lack of room is no refusal here, since the buffer grows; any
 /// other refusal leaves the buffer as it was.
-pub fn surface_nets(
-    sdf: &[f32],
-    dims: [u32; 3],
-    min: [u32; 3],
-    max: [u32; 3],
-    max_plane: MaxPlane,
-    buffer: &mut SurfaceNetsBuffer,
-) -> Result<(), Refusal> {
-    mesh(sdf, dims, min, max, max_plane, buffer)
-}
-
-/// [`surface_nets`] over signed 16-bit distances, each meaning the float of the same value.
 ///
-/// The mesh is that of [`surface_nets`] on the grid of those floats, bit for bit, but no such grid is made.
-/// [`Refusal::Distance`] never comes.
+/// The grid may hold f32, i16 or i8; see [`Distance`].
 ///
 /// ```
-/// use bed::{surface_nets, surface_nets_i16, MaxPlane, SurfaceNetsBuffer};
+/// use bed::{surface_nets, MaxPlane, SurfaceNetsBuffer};
 ///
 /// let mut sdf = [20i16; 27];
 /// sdf[13] = -7;
 /// let mut buffer = SurfaceNetsBuffer::default();
-/// surface_nets_i16(&sdf, [3; 3], [0; 3], [2; 3], MaxPlane::NONE, &mut buffer).unwrap();
+/// surface_nets(&sdf, [3; 3], [0; 3], [2; 3], MaxPlane::NONE, &mut buffer).unwrap();
 ///
 /// let mut of_floats = SurfaceNetsBuffer::default();
 /// surface_nets(&sdf.map(f32::from), [3; 3], [0; 3], [2; 3], MaxPlane::NONE, &mut of_floats).unwrap();
 /// assert_eq!(buffer, of_floats);
 /// ```
-pub fn surface_nets_i16(
-    sdf: &[i16],
-    dims: [u32; 3],
-    min: [u32; 3],
-    max: [u32; 3],
-    max_plane: MaxPlane,
-    buffer: &mut SurfaceNetsBuffer,
-) -> Result<(), Refusal> {
-    mesh(sdf, dims, min, max, max_plane, buffer)
-}
-
-/// The same over signed 8-bit distances.
-pub fn surface_nets_i8(
-    sdf: &[i8],
-    dims: [u32; 3],
-    min: [u32; 3],
-    max: [u32; 3],
-    max_plane: MaxPlane,
-    buffer: &mut SurfaceNetsBuffer,
-) -> Result<(), Refusal> {
-    mesh(sdf, dims, min, max, max_plane, buffer)
-}
-
-/// The call over any kind of distance.
-fn mesh<D: Distance>(
+pub fn surface_nets<D: Distance>(
     sdf: &[D],
     dims: [u32; 3],
     min: [u32; 3],
@@ -99,7 +62,7 @@ fn mesh<D: Distance>(
     buffer.take_up_capacity();
     lengthen(&mut buffer.stride_to_index, sdf.len(), NULL_VERTEX);
     let attempt = |buffer: &mut SurfaceNetsBuffer| {
-        lent::mesh(sdf, dims, min, max, max_plane, &mut buffer.lend())
+        surface_nets_lent(sdf, dims, min, max, max_plane, &mut buffer.lend())
     };
     let mut answered = attempt(buffer);
     if let Err(Refusal::VerticesShort(needed) | Refusal::IndicesShort(needed)) = answered {

@@ -1,29 +1,45 @@
 //! The numbers that a grid may hold: floats, and whole numbers of 16 or 8 bits, each meaning the float of the same
 //! value. The library has functions for each kind, and here is which.
 
-use crate::raw::{self, Answer, IsEnclosed, SurfaceNets};
+/// A kind of distance: f32, i16 or i8. A whole number means the float of the same value: a call on a grid of them answers and
+/// writes what it does on the grid of those floats, bit for bit, but no such grid is made, and [`Refusal::Distance`] never
+/// comes.
+///
+/// The library takes these three and no others, so the trait cannot be implemented elsewhere.
+///
+/// [`Refusal::Distance`]: crate::Refusal::Distance
+pub trait Distance: functions::Functions {}
 
-/// A kind of distance.
-pub(crate) trait Distance: Sized {
-    const SURFACE_NETS: SurfaceNets<Self>;
-    const IS_ENCLOSED: IsEnclosed<Self>;
-    const ANSWER: Answer<Self>;
-}
+impl Distance for f32 {}
+impl Distance for i16 {}
+impl Distance for i8 {}
 
-impl Distance for f32 {
-    const SURFACE_NETS: SurfaceNets<Self> = raw::bed_surface_nets;
-    const IS_ENCLOSED: IsEnclosed<Self> = raw::bed_is_enclosed;
-    const ANSWER: Answer<Self> = raw::bed_answer;
-}
+/// Public for the trait above and not reachable from outside: so it is sealed.
+pub(crate) mod functions {
+    use crate::raw::{self, Answer, IsEnclosed, SurfaceNets};
 
-impl Distance for i16 {
-    const SURFACE_NETS: SurfaceNets<Self> = raw::bed_surface_nets_i16;
-    const IS_ENCLOSED: IsEnclosed<Self> = raw::bed_is_enclosed_i16;
-    const ANSWER: Answer<Self> = raw::bed_answer_i16;
-}
+    /// The library's functions over a kind of distance.
+    pub trait Functions: Sized {
+        const SURFACE_NETS: SurfaceNets<Self>;
+        const IS_ENCLOSED: IsEnclosed<Self>;
+        const ANSWER: Answer<Self>;
+    }
 
-impl Distance for i8 {
-    const SURFACE_NETS: SurfaceNets<Self> = raw::bed_surface_nets_i8;
-    const IS_ENCLOSED: IsEnclosed<Self> = raw::bed_is_enclosed_i8;
-    const ANSWER: Answer<Self> = raw::bed_answer_i8;
+    impl Functions for f32 {
+        const SURFACE_NETS: SurfaceNets<Self> = raw::bed_surface_nets;
+        const IS_ENCLOSED: IsEnclosed<Self> = raw::bed_is_enclosed;
+        const ANSWER: Answer<Self> = raw::bed_answer;
+    }
+
+    impl Functions for i16 {
+        const SURFACE_NETS: SurfaceNets<Self> = raw::bed_surface_nets_i16;
+        const IS_ENCLOSED: IsEnclosed<Self> = raw::bed_is_enclosed_i16;
+        const ANSWER: Answer<Self> = raw::bed_answer_i16;
+    }
+
+    impl Functions for i8 {
+        const SURFACE_NETS: SurfaceNets<Self> = raw::bed_surface_nets_i8;
+        const IS_ENCLOSED: IsEnclosed<Self> = raw::bed_is_enclosed_i8;
+        const ANSWER: Answer<Self> = raw::bed_answer_i8;
+    }
 }

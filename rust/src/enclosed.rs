@@ -11,7 +11,7 @@ use crate::refusal::Refusal;
 /// If so, each directed triangle side of the box's mesh, with any [`MaxPlane`](crate::MaxPlane), occurs
 /// exactly as often as its reverse: the skin has no hole. A box without a distance below zero is enclosed too, and
 /// its mesh is empty. A no does not say that there is a hole. Refused are [`Refusal::Dimensions`],
-/// [`Refusal::Box`] and [`Refusal::GridLength`] alone.
+/// [`Refusal::Box`] and [`Refusal::GridLength`] alone. The grid may hold f32, i16 or i8; see [`Distance`].
 ///
 /// A bed that touches floor or walls has negative points on the box's sides and is never enclosed. To close it,
 /// mesh a copy of the grid with a border of positive points, one layer at min and two at max on each axis.
@@ -22,37 +22,7 @@ use crate::refusal::Refusal;
 /// assert_eq!(bed::is_enclosed(&sdf, [4; 3], [0; 3], [3; 3]), Ok(true));
 /// assert_eq!(bed::is_enclosed(&sdf, [4; 3], [0; 3], [2; 3]), Ok(false));
 /// ```
-pub fn is_enclosed(
-    sdf: &[f32],
-    dims: [u32; 3],
-    min: [u32; 3],
-    max: [u32; 3],
-) -> Result<bool, Refusal> {
-    test(sdf, dims, min, max)
-}
-
-/// [`is_enclosed`] over signed 16-bit distances: of the mesh that [`surface_nets_i16`](crate::surface_nets_i16) makes.
-pub fn is_enclosed_i16(
-    sdf: &[i16],
-    dims: [u32; 3],
-    min: [u32; 3],
-    max: [u32; 3],
-) -> Result<bool, Refusal> {
-    test(sdf, dims, min, max)
-}
-
-/// [`is_enclosed`] over signed 8-bit distances: of the mesh that [`surface_nets_i8`](crate::surface_nets_i8) makes.
-pub fn is_enclosed_i8(
-    sdf: &[i8],
-    dims: [u32; 3],
-    min: [u32; 3],
-    max: [u32; 3],
-) -> Result<bool, Refusal> {
-    test(sdf, dims, min, max)
-}
-
-/// The test over any kind of distance.
-fn test<D: Distance>(
+pub fn is_enclosed<D: Distance>(
     sdf: &[D],
     dims: [u32; 3],
     min: [u32; 3],

@@ -7,7 +7,9 @@ use std::fmt;
 /// How many vertices and triangles a file held.
 #[derive(Clone, Copy, Debug, Default, PartialEq, Eq)]
 pub struct FileCounts {
+    /// The number of vertices.
     pub vertices: u64,
+    /// The number of triangles.
     pub triangles: u64,
 }
 
@@ -93,9 +95,17 @@ impl fmt::Display for FileRefusal {
 
 impl std::error::Error for FileRefusal {}
 
-/// The length in bytes of the file of a mesh: 32 for each vertex, each triangle and the closing record.
+/// The length in bytes of the file of a mesh: 32 for each vertex, each triangle and the closing record. Where that is above
+/// `usize::MAX` it is `usize::MAX`, and never a smaller number: no slice is so long, so that no mesh is cut short.
+///
+/// ```
+/// assert_eq!(bed::file_len(8, 6), 32 * 15);
+/// assert_eq!(bed::file_len(usize::MAX, 1), usize::MAX);
+/// assert_eq!(bed::file_len(usize::MAX / 32, 0), usize::MAX);
+/// ```
 pub fn file_len(vertices: usize, triangles: usize) -> usize {
-    32 * (vertices + triangles + 1)
+    let records = vertices.saturating_add(triangles).saturating_add(1);
+    records.saturating_mul(32)
 }
 
 /// Writes the file of a mesh over the start of the lent bytes and says how many it took, which is

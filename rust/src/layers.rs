@@ -10,8 +10,11 @@ use std::fmt;
 #[repr(C)]
 #[derive(Clone, Copy, Debug, Default, PartialEq, Eq)]
 pub struct Layers {
+    /// The grid's dimensions, as they were given to the start.
     pub dims: [u32; 3],
+    /// The box's lowest point.
     pub min: [u32; 3],
+    /// The box's highest point, which belongs to it.
     pub max: [u32; 3],
     /// The max plane for each axis: 0 is no, any other number is yes.
     pub max_plane: [u32; 3],
@@ -37,11 +40,17 @@ pub struct Kept<'a> {
 /// What a caller lends for what one layer brings out.
 #[derive(Default)]
 pub struct LayerLent<'a> {
+    /// Three numbers a vertex, in grid coordinates.
     pub positions: &'a mut [f32],
+    /// Three numbers a vertex, not of unit length.
     pub normals: &'a mut [f32],
+    /// Three numbers a vertex: its cell.
     pub cells: &'a mut [u32],
+    /// The index of each vertex's cell in the whole grid.
     pub strides: &'a mut [u32],
+    /// How many of the twelve edges of each vertex's cell the surface crosses.
     pub crossings: &'a mut [u8],
+    /// Triangles, three vertex numbers each; the numbers run on from layer to layer.
     pub indices: &'a mut [u32],
 }
 

@@ -7,7 +7,9 @@ use crate::refusal::Refusal;
 /// The vertex count V and the index count I of a mesh.
 #[derive(Clone, Copy, Debug, Default, PartialEq, Eq)]
 pub struct Counts {
+    /// V, the number of vertices.
     pub vertices: u64,
+    /// I, the number of indices: three a triangle.
     pub indices: u64,
 }
 
@@ -23,8 +25,11 @@ pub struct Counts {
 #[repr(C)]
 #[derive(Clone, Copy, Debug, Default, PartialEq, Eq)]
 pub struct MaxPlane {
+    /// Along x.
     pub x: bool,
+    /// Along y.
     pub y: bool,
+    /// Along z.
     pub z: bool,
 }
 
@@ -47,62 +52,28 @@ impl MaxPlane {
 /// What a caller lends for writing. Positions, normals and cells take three numbers a vertex.
 #[derive(Default)]
 pub struct Lent<'a> {
+    /// Where each vertex lies, in grid coordinates: three numbers a vertex.
     pub positions: &'a mut [f32],
+    /// The gradient at each vertex, not of unit length: three numbers a vertex.
     pub normals: &'a mut [f32],
+    /// The cell of each vertex, named by its lowest corner: three numbers a vertex.
     pub cells: &'a mut [u32],
+    /// The grid index of each vertex's cell.
     pub strides: &'a mut [u32],
     /// How many of the twelve edges of each vertex's cell the surface crosses: 3 to 9, or 12.
     pub crossings: &'a mut [u8],
     /// At least as long as the grid. The entry of each point of the box is written: a cell's vertex number,
     /// and 4,294,967,295 for a cell without one and a point that is no cell. Entries outside the box are kept.
     pub stride_to_index: &'a mut [u32],
+    /// Triangles, three vertex numbers each.
     pub indices: &'a mut [u32],
 }
 
 /// Meshes the box from `min` to `max`, both included, of a grid with the given dimensions, x innermost.
 ///
 /// On success the first 3V, 3V, 3V, V, V and I numbers of the lists are written and the rest of them kept.
-/// A refused call changes nothing.
-pub fn surface_nets_lent(
-    sdf: &[f32],
-    dims: [u32; 3],
-    min: [u32; 3],
-    max: [u32; 3],
-    max_plane: MaxPlane,
-    lent: &mut Lent,
-) -> Result<Counts, Refusal> {
-    mesh(sdf, dims, min, max, max_plane, lent)
-}
-
-/// [`surface_nets_lent`] over signed 16-bit distances, each meaning the float of the same value.
-///
-/// What it answers and writes is what [`surface_nets_lent`] does on the grid of those floats, bit for bit, but no such
-/// grid is made. [`Refusal::Distance`] never comes.
-pub fn surface_nets_lent_i16(
-    sdf: &[i16],
-    dims: [u32; 3],
-    min: [u32; 3],
-    max: [u32; 3],
-    max_plane: MaxPlane,
-    lent: &mut Lent,
-) -> Result<Counts, Refusal> {
-    mesh(sdf, dims, min, max, max_plane, lent)
-}
-
-/// The same over signed 8-bit distances.
-pub fn surface_nets_lent_i8(
-    sdf: &[i8],
-    dims: [u32; 3],
-    min: [u32; 3],
-    max: [u32; 3],
-    max_plane: MaxPlane,
-    lent: &mut Lent,
-) -> Result<Counts, Refusal> {
-    mesh(sdf, dims, min, max, max_plane, lent)
-}
-
-/// The call over any kind of distance.
-pub(crate) fn mesh<D: Distance>(
+/// A refused call changes nothing. The grid may hold f32, i16 or i8; see [`Distance`].
+pub fn surface_nets_lent<D: Distance>(
     sdf: &[D],
     dims: [u32; 3],
     min: [u32; 3],

@@ -2,10 +2,7 @@
 //! library's own function gives other bits there, or the test could not see a guard that does nothing.
 #![cfg(any(target_arch = "x86_64", target_arch = "aarch64"))]
 
-use bed::{
-    counts, is_enclosed, raw, surface_nets_lent, surface_nets_lent_i16, surface_nets_lent_i8,
-    Counts, Lent, MaxPlane, Refusal,
-};
+use bed::{counts, is_enclosed, raw, surface_nets_lent, Counts, Lent, MaxPlane, Refusal};
 
 const SIDE: u32 = 6;
 const POINTS: usize = (SIDE as usize).pow(3);
@@ -228,14 +225,14 @@ fn every_environment_gives_the_same_bits_of_whole_numbers() {
     let rounding = |environment| environment & control::ROUNDING != 0;
     let shorts: Vec<i16> = words().take(POINTS).map(|word| word as i16).collect();
     same_bits_everywhere(
-        surface_nets_lent_i16,
+        surface_nets_lent::<i16>,
         raw::bed_surface_nets_i16,
         &shorts,
         rounding,
     );
     let bytes: Vec<i8> = words().take(POINTS).map(|word| word as i8).collect();
     same_bits_everywhere(
-        surface_nets_lent_i8,
+        surface_nets_lent::<i8>,
         raw::bed_surface_nets_i8,
         &bytes,
         rounding,

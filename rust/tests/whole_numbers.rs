@@ -2,9 +2,8 @@
 //! the floats of the same values.
 
 use bed::{
-    is_enclosed, is_enclosed_i16, is_enclosed_i8, surface_nets, surface_nets_i16, surface_nets_i8,
-    surface_nets_lent_i16, surface_nets_lent_i8, Counts, Lent, MaxPlane, Refusal,
-    SurfaceNetsBuffer,
+    answer, counts, is_enclosed, surface_nets, surface_nets_lent, Counts, Distance, Lent,
+    LentLengths, MaxPlane, Refusal, SurfaceNetsBuffer,
 };
 
 /// The call over one kind of number, as a value, so that a test is written once for both.
@@ -74,10 +73,10 @@ fn meshes_are_those_of_floats<D: Copy + Into<f32>>(mesh: Mesh<D>, number: fn(u64
 
 #[test]
 fn meshes_are_those_of_the_floats_of_the_same_values() {
-    meshes_are_those_of_floats(surface_nets_i16, |word| (word >> 40) as i16);
-    meshes_are_those_of_floats(surface_nets_i16, |word| (word >> 40) as i16 % 3);
-    meshes_are_those_of_floats(surface_nets_i8, |word| (word >> 40) as i8);
-    meshes_are_those_of_floats(surface_nets_i8, |word| (word >> 40) as i8 % 3);
+    meshes_are_those_of_floats(surface_nets::<i16>, |word| (word >> 40) as i16);
+    meshes_are_those_of_floats(surface_nets::<i16>, |word| (word >> 40) as i16 % 3);
+    meshes_are_those_of_floats(surface_nets::<i8>, |word| (word >> 40) as i8);
+    meshes_are_those_of_floats(surface_nets::<i8>, |word| (word >> 40) as i8 % 3);
 }
 
 /// Every number is a good distance: none is not finite, or too large.
@@ -86,12 +85,12 @@ fn the_ends_of_the_ranges_are_accepted() {
     let mut buffer = SurfaceNetsBuffer::default();
     let (dims, min, max) = ([3; 3], [0; 3], [2; 3]);
     let longest = ball(i16::MAX, i16::MIN);
-    surface_nets_i16(&longest, dims, min, max, MaxPlane::ALL, &mut buffer).unwrap();
+    surface_nets::<i16>(&longest, dims, min, max, MaxPlane::ALL, &mut buffer).unwrap();
     assert_eq!((buffer.positions.len(), buffer.indices.len()), (8, 36));
     let fraction = 32767.0 / 65535.0_f32;
     assert!(buffer.positions[0][0] > fraction && buffer.positions[0][0] < 1.0);
     let longest = ball(i8::MAX, i8::MIN);
-    surface_nets_i8(&longest, dims, min, max, MaxPlane::ALL, &mut buffer).unwrap();
+    surface_nets::<i8>(&longest, dims, min, max, MaxPlane::ALL, &mut buffer).unwrap();
     assert_eq!((buffer.positions.len(), buffer.indices.len()), (8, 36));
 }
 
@@ -107,9 +106,9 @@ fn ball_is_document_01s() {
         assert_eq!(buffer.indices, indices);
         assert_eq!(buffer.positions[0].map(f32::to_bits), [0x3F555555; 3]);
     };
-    surface_nets_i16(&ball(9, -9), dims, min, max, MaxPlane::NONE, &mut buffer).unwrap();
+    surface_nets::<i16>(&ball(9, -9), dims, min, max, MaxPlane::NONE, &mut buffer).unwrap();
     seen(&buffer);
-    surface_nets_i8(&ball(9, -9), dims, min, max, MaxPlane::NONE, &mut buffer).unwrap();
+    surface_nets::<i8>(&ball(9, -9), dims, min, max, MaxPlane::NONE, &mut buffer).unwrap();
     seen(&buffer);
 }
 
@@ -136,8 +135,8 @@ fn refused<D: Copy>(mesh: Mesh<D>, test: Test<D>, outside: D, inside: D) {
 
 #[test]
 fn refusals_say_why() {
-    refused(surface_nets_i16, is_enclosed_i16, 300, -300);
-    refused(surface_nets_i8, is_enclosed_i8, 3, -3);
+    refused(surface_nets::<i16>, is_enclosed::<i16>, 300, -300);
+    refused(surface_nets::<i8>, is_enclosed::<i8>, 3, -3);
 }
 
 /// Lent lists about as long as Ball needs: refused with nothing written, or written in front and kept behind.
@@ -182,8 +181,8 @@ fn lent_about_right<D: Copy>(mesh: MeshLent<D>, outside: D, inside: D) {
 
 #[test]
 fn lent_slices_are_refused_or_keep_their_rest() {
-    lent_about_right(surface_nets_lent_i16, 9, -9);
-    lent_about_right(surface_nets_lent_i8, 9, -9);
+    lent_about_right(surface_nets_lent::<i16>, 9, -9);
+    lent_about_right(surface_nets_lent::<i8>, 9, -9);
 }
 
 /// One point below zero, at each place in turn: of a cube of 4 only the one at 1, 1, 1 lies inside.
@@ -201,22 +200,50 @@ fn enclosed<D: Copy + Into<f32>>(test: Test<D>, outside: D, inside: D) {
 
 #[test]
 fn a_box_is_enclosed_if_its_margin_is_outside() {
-    enclosed(is_enclosed_i16, 0, -1);
-    enclosed(is_enclosed_i16, i16::MAX, i16::MIN);
-    enclosed(is_enclosed_i8, 0, -1);
-    enclosed(is_enclosed_i8, i8::MAX, i8::MIN);
+    enclosed(is_enclosed::<i16>, 0, -1);
+    enclosed(is_enclosed::<i16>, i16::MAX, i16::MIN);
+    enclosed(is_enclosed::<i8>, 0, -1);
+    enclosed(is_enclosed::<i8>, i8::MAX, i8::MIN);
 }
 
-/// Code that lets the call decide what its numbers are stays as it was: they are floats.
+/// Numbers with a point in them are f32 without a word, as in fast-surface-nets, which is generic too; where nothing tells the
+/// kind it has to be named.
 #[test]
-fn numbers_without_a_type_are_floats() {
-    let words = "1 1 1 1 1 1 1 -1";
-    let sdf: Vec<_> = words.split(' ').map(|word| word.parse().unwrap()).collect();
+fn numbers_with_a_point_are_floats() {
+    let mut sdf = [1.0; 8];
+    sdf[7] = -1.0;
     let mut buffer = SurfaceNetsBuffer::default();
     surface_nets(&sdf, [2; 3], [0; 3], [1; 3], MaxPlane::NONE, &mut buffer).unwrap();
     assert_eq!(buffer.positions.len(), 1);
     assert_eq!(
-        is_enclosed(&[], [0; 3], [0; 3], [0; 3]),
+        is_enclosed::<f32>(&[], [0; 3], [0; 3], [0; 3]),
         Err(Refusal::Dimensions)
     );
+}
+
+/// One function for every kind: the answer and the counts are those of the floats.
+fn told_as_of_floats<D: Distance + Copy + Into<f32>>(outside: D, inside: D) {
+    let sdf = ball(outside, inside);
+    let of_floats = floats(&sdf);
+    let (dims, min, max) = ([3; 3], [0; 3], [2; 3]);
+    let told = counts(&sdf, dims, min, max, MaxPlane::ALL).unwrap();
+    assert_eq!((told.vertices, told.indices), (8, 36));
+    let enough = LentLengths::exactly(told, 27);
+    for short in [0, 1] {
+        let lengths = LentLengths {
+            indices: enough.indices - short,
+            ..enough
+        };
+        let one = answer(&sdf, dims, min, max, MaxPlane::ALL, lengths);
+        let other = answer(&of_floats, dims, min, max, MaxPlane::ALL, lengths);
+        assert_eq!(one, other);
+        assert_eq!(one.is_ok(), short == 0);
+    }
+}
+
+#[test]
+fn answers_are_told_as_of_floats() {
+    told_as_of_floats(300i16, -300);
+    told_as_of_floats(3i8, -3);
+    told_as_of_floats(3.0f32, -3.0);
 }

@@ -48,8 +48,8 @@ impl Distances {
         let (min, max, flags) = (block.min, block.max, block.max_plane);
         match self {
             Distances::Float32(sdf) => bed::surface_nets(sdf, dims, min, max, flags, buffer),
-            Distances::Int16(sdf) => bed::surface_nets_i16(sdf, dims, min, max, flags, buffer),
-            Distances::Int8(sdf) => bed::surface_nets_i8(sdf, dims, min, max, flags, buffer),
+            Distances::Int16(sdf) => bed::surface_nets(sdf, dims, min, max, flags, buffer),
+            Distances::Int8(sdf) => bed::surface_nets(sdf, dims, min, max, flags, buffer),
         }
     }
 
@@ -63,8 +63,8 @@ impl Distances {
         let (min, max, flags) = (block.min, block.max, block.max_plane);
         match self {
             Distances::Float32(sdf) => bed::surface_nets_lent(sdf, dims, min, max, flags, lent),
-            Distances::Int16(sdf) => bed::surface_nets_lent_i16(sdf, dims, min, max, flags, lent),
-            Distances::Int8(sdf) => bed::surface_nets_lent_i8(sdf, dims, min, max, flags, lent),
+            Distances::Int16(sdf) => bed::surface_nets_lent(sdf, dims, min, max, flags, lent),
+            Distances::Int8(sdf) => bed::surface_nets_lent(sdf, dims, min, max, flags, lent),
         }
     }
 
@@ -77,8 +77,8 @@ impl Distances {
     ) -> Result<bool, Refusal> {
         match self {
             Distances::Float32(sdf) => bed::is_enclosed(sdf, dims, min, max),
-            Distances::Int16(sdf) => bed::is_enclosed_i16(sdf, dims, min, max),
-            Distances::Int8(sdf) => bed::is_enclosed_i8(sdf, dims, min, max),
+            Distances::Int16(sdf) => bed::is_enclosed(sdf, dims, min, max),
+            Distances::Int8(sdf) => bed::is_enclosed(sdf, dims, min, max),
         }
     }
 

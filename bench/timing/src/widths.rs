@@ -24,8 +24,8 @@ fn row(grid_name: &'static str, side: u32, grid: Vec<f32>) -> WidthsRow {
     WidthsRow {
         grid_name,
         side,
-        short: times(side, shorts, bed::surface_nets_lent_i16),
-        byte: times(side, bytes, bed::surface_nets_lent_i8),
+        short: times(side, shorts, bed::surface_nets_lent::<i16>),
+        byte: times(side, bytes, bed::surface_nets_lent::<i8>),
     }
 }
 

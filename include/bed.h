@@ -30,8 +30,23 @@
 extern "C" {
 #endif
 
-/* The version of this header and of the library that it was made for. */
+/* The version of this header and of the library that it was made for, as text and as numbers. There is no function that
+ * asks the library: link the libbed.a or libbed.so that this header came with. */
 #define BED_VERSION "0.1.0"
+#define BED_VERSION_STRING BED_VERSION
+#define BED_VERSION_MAJOR 0
+#define BED_VERSION_MINOR 1
+#define BED_VERSION_PATCH 0
+
+/* What holds of every pointer that is passed here, unless a function says more:
+ *
+ *   - Each is aligned for its type.
+ *   - A list is a pointer and its length in elements; the pointer may be null only where the length is 0.
+ *   - Nothing that may be written overlaps anything else that is passed. What is only read may overlap what is only read.
+ *   - What a single number or flag is written to, vertex_count, index_count, byte_count, triangle_count, volume, enclosed and
+ *     holds, is never null and is written on every answer. What stood there before never matters, but a bool holds false or true
+ *     before the call, as every bool that was given a value does: set it to false first.
+ */
 
 /* A guard for callers who do not know their thread's floating-point environment. Start-up code that
  * -ffast-math links in, audio and graphics code set flush-to-zero, denormals-are-zero or another rounding
@@ -81,7 +96,7 @@ static inline void bed_leave_environment(bed_environment kept)
 
 /* What a call answers. The conditions are tried in the order of their numbers and the first that holds
  * answers. On every answer but BED_DONE nothing at all is changed but the two counts. */
-enum bed_answer {
+enum bed_call_answer {
     /* The mesh was written. A box that is flat on an axis is accepted too and has no vertices. */
     BED_DONE = 0,
     /* A dimension is 0 or above 16,777,217, or the product of the three is above 1,073,741,824. */
@@ -201,7 +216,7 @@ uint32_t bed_surface_nets(
  * however much is lent beside such a map.
  *
  * The counts may not overlap the grid or each other; their pointers are aligned and never null. sdf may be
- * null only where its length is 0. (The enumeration of the same name is written `enum bed_answer`.)
+ * null only where its length is 0. Its answers are those of enum bed_call_answer.
  */
 uint32_t bed_answer(
     const float *sdf, size_t sdf_len,
@@ -299,7 +314,7 @@ uint32_t bed_answer_i8(
  * layer at min and two at max, on each axis (examples/closed_bed.c). The wall then lies between the
  * outermost point and the border, the nearer to the point the larger the border's value.
  *
- * enclosed is never null, points to a bool that holds false or true, and may not overlap the grid; sdf may
+ * enclosed is never null, points to a bool that holds false or true, whichever, and may not overlap the grid; sdf may
  * be null only where its length is 0.
  */
 uint32_t bed_is_enclosed(
@@ -360,10 +375,10 @@ struct bed_block {
  *   min_x .. max_plane_z    the whole: its corners and its max plane for each axis.
  *
  * Out, on every answer:
- *   holds            yes or no; no on every answer but BED_PLAN_CHECKED. What stood there before never matters.
+ *   holds            yes or no; no on every answer but BED_PLAN_CHECKED.
  *
- * No edge is visited: the time depends on the number of blocks alone. holds overlaps nothing else. Pointers
- * are aligned for their type; blocks may be null only where its length is 0, holds never.
+ * No edge is visited: the time depends on the number of blocks alone. holds is never null, points to a bool that holds
+ * false or true, whichever, and may not overlap the blocks; blocks may be null only where its length is 0.
  */
 uint32_t bed_check_plan(
     const struct bed_block *blocks, size_t blocks_len,
@@ -530,7 +545,7 @@ uint32_t bed_check_mesh(
  * first and the negated second. The order of comparing is that of the records, and of two equal values
  * the first stands, which shows where zeros of both signs meet. */
 
-/* What cutting fixtures answers. BED_DONE, BED_BAD_DIMENSIONS and BED_BAD_GRID_LENGTH are as in bed_answer;
+/* What cutting fixtures answers. BED_DONE, BED_BAD_DIMENSIONS and BED_BAD_GRID_LENGTH are as in enum bed_call_answer;
  * those two refusals are tried first. Then the first faulty record in file order answers, in one record the
  * lowest number, and BED_FIXTURE_AFTER comes last of all. On every answer but BED_DONE nothing is changed. */
 enum bed_fixture_answer {
@@ -658,6 +673,16 @@ struct bed_layers {
     uint32_t first;
 };
 
+/* The most vertices and indices that one layer brings out, as a uint64_t, for dimensions of 32 bits: room for 3, 3, 3, 1 and 1
+ * times BED_LAYER_VERTICES numbers in positions, normals, cells, strides and crossings, and for BED_LAYER_INDICES in indices, is
+ * always enough. They never overflow: where dim_x * dim_y is above 1,073,741,824 or 0 the start answers BED_LAYERS_DIMENSIONS,
+ * and they are 0. Where size_t has 32 bits, compare with SIZE_MAX before memory is asked for. */
+#define BED_LAYER_VERTICES(dim_x, dim_y) \
+    ((uint32_t)(dim_x) == 0 || (uint32_t)(dim_y) == 0 || (uint64_t)(uint32_t)(dim_x) * (uint32_t)(dim_y) > UINT64_C(1073741824) \
+         ? UINT64_C(0) \
+         : ((uint64_t)(uint32_t)(dim_x) - 1) * ((uint64_t)(uint32_t)(dim_y) - 1))
+#define BED_LAYER_INDICES(dim_x, dim_y) (UINT64_C(18) * BED_LAYER_VERTICES(dim_x, dim_y))
+
 /* Begins a bed that is taken layer by layer: for a head that sends one z layer at a time and cannot hold the
  * grid. Returns BED_LAYERS_DONE, _DIMENSIONS, _BOX or _MEMORY; on BED_LAYERS_DONE *layers is the state before the
  * first layer, else it is untouched. Kept memory is only measured here, and written by bed_layers_offer alone:
@@ -666,7 +691,16 @@ struct bed_layers {
  *     kept_map         2 * dim_x * dim_y numbers: their maps
  *     kept_positions   3 * dim_x * dim_y numbers: the positions of the last layer of cells
  *
- * Lend the same three to every offer, and leave them and the state as they are between layers.
+ * Lend the same three to every offer, and leave them and the state as they are between layers. Neither they nor *layers
+ * need a memset: what they held before the start never matters.
+ *
+ * After t + 1 layers were taken, the half t mod 2 of kept_distances is the last layer as it was offered, all of it; the same half
+ * of kept_map has no vertex at any point of the box, and the other half the numbers of the cells that came out last, where
+ * BED_NO_VERTEX is a point of the box without one; kept_positions begins with the positions of those vertices, the first of
+ * them being the vertex number layers->first. All else in them is what stood there before.
+ *
+ * layers is never null, aligned, and overlaps none of the lists. The three lists are only measured here: a pointer may be null
+ * where its length is 0, and no others are lent.
  */
 uint32_t bed_layers_start(
     struct bed_layers *layers,
@@ -685,7 +719,7 @@ uint32_t bed_layers_start(
  *
  * vertex_count and index_count are V and I of this layer on BED_LAYERS_DONE, _VERTEX_ROOM and _INDEX_ROOM, and 0
  * on every other answer. A refusal changes nothing, so that the same layer can be offered again with more room.
- * 3 * (dim_x - 1) * (dim_y - 1) numbers are always room enough for positions, 18 times that product for indices.
+ * BED_LAYER_VERTICES and BED_LAYER_INDICES tell room that is always enough.
  *
  * On BED_LAYERS_DONE the entry of each point of the box in this layer's half of kept_map becomes 4,294,967,295,
  * and the half of the cells that came out is their map; entries outside the box are kept. The layer number t of
@@ -693,6 +727,10 @@ uint32_t bed_layers_start(
  *
  * If state or kept memory were touched between layers a call still stays within its lists; what it then writes
  * follows from what it found there.
+ *
+ * layers, the layer, the three kept lists, the six lists for output and the two counts are lent apart: none overlaps another,
+ * and so the layer is not a part of kept_distances. layers and the counts are never null; a list's pointer may be null only
+ * where its length is 0. Every pointer is aligned for its type.
  */
 uint32_t bed_layers_offer(
     struct bed_layers *layers,
@@ -708,8 +746,26 @@ uint32_t bed_layers_offer(
     uint32_t *indices, size_t indices_len,
     uint64_t *vertex_count, uint64_t *index_count);
 
+/* The name of an answer of bed_layers_start or bed_layers_offer, as enum bed_layers_answer has it; "unknown" for any other
+ * number. The numbers 0 to 7 have other names there than in enum bed_call_answer. */
+static inline const char *bed_layers_answer_name(uint32_t answer)
+{
+    switch (answer) {
+    case BED_LAYERS_DONE: return "BED_LAYERS_DONE";
+    case BED_LAYERS_DIMENSIONS: return "BED_LAYERS_DIMENSIONS";
+    case BED_LAYERS_BOX: return "BED_LAYERS_BOX";
+    case BED_LAYERS_LENGTH: return "BED_LAYERS_LENGTH";
+    case BED_LAYERS_MEMORY: return "BED_LAYERS_MEMORY";
+    case BED_LAYERS_DISTANCE: return "BED_LAYERS_DISTANCE";
+    case BED_LAYERS_VERTEX_ROOM: return "BED_LAYERS_VERTEX_ROOM";
+    case BED_LAYERS_INDEX_ROOM: return "BED_LAYERS_INDEX_ROOM";
+    case BED_LAYERS_FINISHED: return "BED_LAYERS_FINISHED";
+    default: return "unknown";
+    }
+}
+
 /* The name of an answer, as the enumerations above have it; "BED_DONE" for 0, which all of them share, and
- * "unknown" for a number that no function answers. */
+ * "unknown" for a number that no function answers. For a bed taken layer by layer: bed_layers_answer_name. */
 static inline const char *bed_answer_name(uint32_t answer)
 {
     switch (answer) {

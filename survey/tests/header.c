@@ -1,5 +1,5 @@
 /* header.c: what bed.h has beside the library's functions: the version, the names of the answers, the size of a mesh
- * file; and a function and an enumeration of one name. Built as C and as C++. */
+ * file, the room for a layer, and what kept memory holds. Built as C and as C++. */
 #include "bed.h"
 
 #include <stdio.h>
@@ -10,6 +10,77 @@
         printf("%s has the name %s\n", #name, bed_answer_name(name)); \
         return 1; \
     }
+
+#define NAMED_OF_LAYERS(name) \
+    if (strcmp(bed_layers_answer_name(name), #name) != 0) { \
+        printf("%s has the name %s\n", #name, bed_layers_answer_name(name)); \
+        return 1; \
+    }
+
+static int names_of_layers(void)
+{
+    NAMED_OF_LAYERS(BED_LAYERS_DONE) NAMED_OF_LAYERS(BED_LAYERS_DIMENSIONS) NAMED_OF_LAYERS(BED_LAYERS_BOX)
+    NAMED_OF_LAYERS(BED_LAYERS_LENGTH) NAMED_OF_LAYERS(BED_LAYERS_MEMORY) NAMED_OF_LAYERS(BED_LAYERS_DISTANCE)
+    NAMED_OF_LAYERS(BED_LAYERS_VERTEX_ROOM) NAMED_OF_LAYERS(BED_LAYERS_INDEX_ROOM) NAMED_OF_LAYERS(BED_LAYERS_FINISHED)
+    unsigned known = 0;
+    for (uint32_t answer = 0; answer < 1000; answer++)
+        known += strcmp(bed_layers_answer_name(answer), "unknown") != 0;
+    return known == 9 ? 0 : 1;
+}
+
+/* The room of a layer, at the ends of the range too. */
+static int rooms(void)
+{
+    static uint32_t enough[BED_LAYER_INDICES(4, 3)];
+    (void)enough;
+    return BED_LAYER_VERTICES(4, 3) == 6 && BED_LAYER_INDICES(4, 3) == 108 && BED_LAYER_VERTICES(0, 7) == 0
+                   && BED_LAYER_VERTICES(1, 1) == 0 && BED_LAYER_VERTICES(32768, 32768) == UINT64_C(1073676289)
+                   && BED_LAYER_INDICES(32768, 32768) == UINT64_C(19326173202) && BED_LAYER_INDICES(32769, 32768) == 0
+                   && BED_LAYER_INDICES(UINT32_MAX, UINT32_MAX) == 0 && sizeof(BED_LAYER_VERTICES(2, 2)) == 8
+               ? 0
+               : 1;
+}
+
+/* Ball layer by layer in memory that was not set, with the room that is always enough: what stands in kept memory after
+ * each layer, as bed_layers_start says. */
+static int kept_memory(unsigned char before)
+{
+    float distances[18], kept_positions[27], positions[12], normals[12];
+    uint32_t map[18], cells[12], strides[4], indices[72];
+    uint8_t crossings[4];
+    struct bed_layers layers;
+    memset(distances, before, sizeof distances);
+    memset(kept_positions, before, sizeof kept_positions);
+    memset(map, before, sizeof map);
+    memset(&layers, before, sizeof layers);
+    if (bed_layers_start(&layers, 3, 3, 3, 0, 0, 0, 2, 2, 2, false, false, false, distances, 18, map, 18, kept_positions, 27) != BED_LAYERS_DONE)
+        return 1;
+    for (uint32_t t = 0; t < 3; t++) {
+        float layer[9];
+        uint64_t vertices = 9, count = 9;
+        for (int i = 0; i < 9; i++)
+            layer[i] = t == 1 && i == 4 ? -1.0f : 1.0f + (float)i;
+        uint32_t answer = bed_layers_offer(
+            &layers, layer, 9, distances, 18, map, 18, kept_positions, 27, positions, 3 * BED_LAYER_VERTICES(3, 3), normals, 12,
+            cells, 12, strides, BED_LAYER_VERTICES(3, 3), crossings, 4, indices, BED_LAYER_INDICES(3, 3), &vertices, &count);
+        if (answer != BED_LAYERS_DONE || vertices != (t == 0 ? 0u : 4u))
+            return 1;
+        if (memcmp(distances + 9 * (t % 2), layer, sizeof layer) != 0 || layers.first != (t == 2 ? 4u : 0u))
+            return 1;
+        for (int i = 0; i < 9; i++)
+            if (map[9 * (t % 2) + i] != BED_NO_VERTEX)
+                return 1;
+        if (memcmp(kept_positions, positions, 12 * (size_t)vertices) != 0)
+            return 1;
+        for (int i = 0; t > 0 && i < 9; i++) {
+            int cell = i % 3 < 2 && i / 3 < 2;
+            uint32_t number = layers.first + (uint32_t)(i % 3 + 2 * (i / 3));
+            if (map[9 * ((t + 1) % 2) + i] != (cell ? number : BED_NO_VERTEX))
+                return 1;
+        }
+    }
+    return 0;
+}
 
 static int names(void)
 {
@@ -47,23 +118,27 @@ static int size(void)
 }
 
 /* Document 01's Ball, asked about with a map and nothing else. */
-static int one_name(void)
+static int told(void)
 {
     float ball[27];
     uint64_t vertices = 0, indices = 0;
     for (int i = 0; i < 27; i++)
         ball[i] = i == 13 ? -1.0f : 1.0f;
-    enum bed_answer wanted = BED_VERTICES_SHORT;
+    enum bed_call_answer wanted = BED_VERTICES_SHORT;
     uint32_t answer = bed_answer(ball, 27, 3, 3, 3, 0, 0, 0, 2, 2, 2, false, false, false, 0, 0, 0, 0, 0, 27, 0, &vertices, &indices);
     return answer == (uint32_t)wanted && vertices == 8 && indices == 18 ? 0 : 1;
 }
 
 int main(void)
 {
-    if (names() != 0 || size() != 0 || one_name() != 0) {
+    if (names() != 0 || names_of_layers() != 0 || size() != 0 || rooms() != 0 || told() != 0) {
         puts("bed.h: not as it should be");
         return 1;
     }
-    printf("bed.h " BED_VERSION ": names and sizes as they should be\n");
+    if (kept_memory(0) != 0 || kept_memory(255) != 0 || kept_memory(0x5a) != 0) {
+        puts("bed.h: kept memory is not as it says");
+        return 1;
+    }
+    printf("bed.h " BED_VERSION_STRING ": names and sizes as they should be\n");
     return 0;
 }

@@ -2,10 +2,11 @@
 
 use crate::failure::Failure;
 use crate::machine;
+use crate::words::{flags, number, size};
 use bed::MaxPlane;
 use std::ffi::{OsStr, OsString};
+use std::os::unix::ffi::OsStrExt;
 use std::path::{Path, PathBuf};
-use std::str::FromStr;
 
 pub struct Arguments {
     command: &'static str,
@@ -28,20 +29,30 @@ impl Arguments {
         };
         let mut words = words.iter();
         while let Some(word) = words.next() {
-            if !word.as_encoded_bytes().starts_with(b"-") {
+            if word == "--" {
+                read.files.extend(words.by_ref().map(PathBuf::from));
+                break;
+            }
+            if !word.as_bytes().starts_with(b"-") {
                 read.files.push(word.into());
                 continue;
             }
-            let Some(&option) = options.iter().find(|&&option| word.as_os_str() == option) else {
+            let (name, given) = parted(word);
+            let name = if name == "--output" {
+                OsStr::new("-o")
+            } else {
+                name
+            };
+            let Some(&option) = options.iter().find(|&&option| name == option) else {
                 return Err(read.wrong(format!("no such option: {}", word.to_string_lossy())));
             };
             if read.option(option).is_some() {
                 return Err(read.wrong(format!("{option} is given twice")));
             }
-            let Some(value) = words.next() else {
+            let Some(value) = given.or_else(|| words.next().map(OsString::as_os_str)) else {
                 return Err(read.wrong(format!("{option} wants a value")));
             };
-            read.options.push((option, value.clone()));
+            read.options.push((option, value.to_os_string()));
         }
         if read.files.len() != files {
             let given = read.files.len();
@@ -89,7 +100,7 @@ impl Arguments {
         }
     }
 
-    /// How much memory a grid may take, in bytes.
+    /// How much memory the command may take, in bytes.
     pub fn memory(&self) -> Result<u128, Failure> {
         let Some(text) = self.text("--memory") else {
             return Ok(machine::memory().map_or(u128::MAX, |bytes| bytes / 2));
@@ -105,76 +116,20 @@ impl Arguments {
     }
 }
 
-/// A number of bytes; K, M and G are 1,024 of the one before.
-fn size(word: &str) -> Option<u128> {
-    let (digits, unit) = match word.split_at_checked(word.len().checked_sub(1)?)? {
-        (digits, "K") => (digits, 10),
-        (digits, "M") => (digits, 20),
-        (digits, "G") => (digits, 30),
-        _ => (word, 0),
-    };
-    let count: u64 = number(digits)?;
-    Some(u128::from(count) << unit)
+/// The words before `--`, of which alone `--help` may be one.
+pub fn before_files(words: &[OsString]) -> &[OsString] {
+    let end = words.iter().position(|word| word == "--");
+    &words[..end.unwrap_or(words.len())]
 }
 
-/// A number in digits alone.
-pub fn number<N: FromStr>(word: &str) -> Option<N> {
-    let digits = word.bytes().all(|byte| byte.is_ascii_digit());
-    word.parse().ok().filter(|_| digits)
-}
-
-/// The axes whose letters stand here, each at most once; `-` for none.
-pub fn flags(letters: &str) -> Option<MaxPlane> {
-    let mut flags = MaxPlane::NONE;
-    if letters == "-" {
-        return Some(flags);
-    }
-    for letter in letters.chars() {
-        let flag = match letter {
-            'x' => &mut flags.x,
-            'y' => &mut flags.y,
-            'z' => &mut flags.z,
-            _ => return None,
-        };
-        if std::mem::replace(flag, true) {
-            return None;
-        }
-    }
-    Some(flags).filter(|_| !letters.is_empty())
-}
-
-#[cfg(test)]
-mod tests {
-    use super::*;
-
-    #[test]
-    fn sizes() {
-        for (word, bytes) in [
-            ("0", 0),
-            ("17", 17),
-            ("3K", 3 << 10),
-            ("16M", 16 << 20),
-            ("4G", 4 << 30),
-            ("18446744073709551615G", u128::from(u64::MAX) << 30),
-        ] {
-            assert_eq!(size(word), Some(bytes), "{word}");
-        }
-        for word in [
-            "",
-            "K",
-            "-1",
-            "+1",
-            "1.5G",
-            "1 G",
-            "1k",
-            "1T",
-            "1GG",
-            "G1",
-            "1é",
-            "é",
-            "18446744073709551616",
-        ] {
-            assert_eq!(size(word), None, "{word}");
-        }
+/// An option of two dashes and the value that stands after `=`, where one does.
+fn parted(word: &OsStr) -> (&OsStr, Option<&OsStr>) {
+    let bytes = word.as_bytes();
+    match bytes.iter().position(|&byte| byte == b'=') {
+        Some(place) if bytes.starts_with(b"--") => (
+            OsStr::from_bytes(&bytes[..place]),
+            Some(OsStr::from_bytes(&bytes[place + 1..])),
+        ),
+        _ => (word, None),
     }
 }

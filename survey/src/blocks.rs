@@ -1,25 +1,18 @@
-//! Blocks of one grid, meshed on all cores.
+//! Blocks of one grid, meshed on several cores.
 
+use crate::explained;
 use crate::failure::Failure;
 use crate::grid::Grid;
 use crate::progress::{self, Steps};
-use bed::{Block, Lent, Refusal, SurfaceNetsBuffer};
+use bed::{Block, SurfaceNetsBuffer};
 use std::sync::atomic::{AtomicBool, AtomicUsize, Ordering};
 use std::sync::{mpsc, Mutex};
 use std::thread;
 use std::time::Instant;
 
-/// What a call needs room for, or why it is refused: 1, 2, 3 or 5. Nothing is lent but a map.
-pub fn counted(grid: &Grid, block: &Block) -> Result<bed::Counts, Refusal> {
-    let mut map = vec![bed::NULL_VERTEX; grid.distances.len()];
-    let mut lent = Lent {
-        stride_to_index: &mut map,
-        ..Lent::default()
-    };
-    match grid.distances.mesh_lent(grid.header.dims, block, &mut lent) {
-        Err(Refusal::VerticesShort(needed) | Refusal::IndicesShort(needed)) => Ok(needed),
-        other => other,
-    }
+/// How many workers there are at most: one for each core.
+pub fn cores() -> usize {
+    thread::available_parallelism().map_or(1, usize::from)
 }
 
 /// Meshes every block of a grid in memory and hands each mesh to `after`, with the block's place. `place` names a block in
@@ -27,6 +20,7 @@ pub fn counted(grid: &Grid, block: &Block) -> Result<bed::Counts, Refusal> {
 pub fn mesh_all<T: Send>(
     grid: &Grid,
     blocks: &[Block],
+    workers: usize,
     place: impl Fn(usize) -> String + Sync,
     after: impl Fn(usize, &SurfaceNetsBuffer) -> Result<T, Failure> + Sync,
 ) -> Result<Vec<T>, Failure> {
@@ -34,13 +28,17 @@ pub fn mesh_all<T: Send>(
         count: blocks.len() as u64,
         name: "blocks",
     };
-    on_all_cores(
+    on_cores(
         blocks.len(),
+        workers,
         steps,
         |number, buffer: &mut SurfaceNetsBuffer, report| {
             grid.distances
                 .mesh(grid.header.dims, &blocks[number], buffer)
-                .map_err(|refusal| Failure::refused(place(number), refusal.number(), refusal))?;
+                .map_err(|refusal| {
+                    let words = explained::of_a_block(refusal, grid, &blocks[number]);
+                    Failure::refused(place(number), refusal.number(), words)
+                })?;
             let result = after(number, buffer)?;
             report(buffer.positions.len());
             Ok(result)
@@ -48,10 +46,11 @@ pub fn mesh_all<T: Send>(
     )
 }
 
-/// Does jobs on all cores, each worker with a memory of its own; what they give comes in the jobs' order. The first
+/// Does jobs on so many cores, each worker with a memory of its own; what they give comes in the jobs' order. The first
 /// failure in that order, of those that came about, ends it. A job reports its steps, with the new vertices of each.
-pub fn on_all_cores<Memory: Default, T: Send>(
+pub fn on_cores<Memory: Default, T: Send>(
     jobs: usize,
+    workers: usize,
     steps: Steps,
     one: impl Fn(usize, &mut Memory, &dyn Fn(usize)) -> Result<T, Failure> + Sync,
 ) -> Result<Vec<T>, Failure> {
@@ -76,11 +75,10 @@ pub fn on_all_cores<Memory: Default, T: Send>(
             *slot.lock().expect("no worker panics") = Some(result);
         }
     };
-    let cores = thread::available_parallelism().map_or(1, usize::from);
     let start = Instant::now();
     thread::scope(|scope| {
         let (sender, reports) = mpsc::channel();
-        for _ in 0..cores.min(jobs) {
+        for _ in 0..workers.min(jobs) {
             let sender = sender.clone();
             scope.spawn(|| work(sender));
         }

@@ -1,8 +1,8 @@
 //! The distances of a grid in memory, as its file holds them: floats, or whole numbers of 16 or 8 bits, each meaning the
 //! float of the same value. The library meshes each kind as it stands.
 
-use crate::grid::Numbers;
-use bed::{Block, Counts, Lent, Refusal, SurfaceNetsBuffer};
+use crate::numbers::Numbers;
+use bed::{Block, Counts, Refusal, SurfaceNetsBuffer};
 
 pub enum Distances {
     Float32(Vec<f32>),
@@ -11,22 +11,21 @@ pub enum Distances {
 }
 
 impl Distances {
-    /// The numbers of a file's bytes, the lowest byte first. Bytes after the last whole number are left out.
-    pub fn of(bytes: Vec<u8>, numbers: Numbers) -> Self {
+    /// None yet, of this kind, or of floats of the same values; with room for so many, where there is so much.
+    pub fn empty(numbers: Numbers, floats: bool, count: usize) -> Self {
         match numbers {
-            Numbers::Float32 => Distances::Float32(
-                bytes
-                    .chunks_exact(4)
-                    .map(|four| f32::from_le_bytes([four[0], four[1], four[2], four[3]]))
-                    .collect(),
-            ),
-            Numbers::Int16 => Distances::Int16(
-                bytes
-                    .chunks_exact(2)
-                    .map(|two| i16::from_le_bytes([two[0], two[1]]))
-                    .collect(),
-            ),
-            Numbers::Int8 => Distances::Int8(bytes.into_iter().map(|one| one as i8).collect()),
+            Numbers::Int16 if !floats => Distances::Int16(room(count)),
+            Numbers::Int8 if !floats => Distances::Int8(room(count)),
+            _ => Distances::Float32(room(count)),
+        }
+    }
+
+    /// Adds the numbers of a file's bytes, the lowest byte first. Bytes after the last whole number are left out.
+    pub fn add(&mut self, bytes: &[u8], numbers: Numbers) {
+        match self {
+            Distances::Float32(list) => add_floats(bytes, numbers, list),
+            Distances::Int16(list) => list.extend(shorts(bytes)),
+            Distances::Int8(list) => list.extend(bytes.iter().map(|&one| one as i8)),
         }
     }
 
@@ -53,18 +52,13 @@ impl Distances {
         }
     }
 
-    /// The call over lent lists.
-    pub fn mesh_lent(
-        &self,
-        dims: [u32; 3],
-        block: &Block,
-        lent: &mut Lent,
-    ) -> Result<Counts, Refusal> {
+    /// What a call needs room for, or why it is refused: 1, 2, 3 or 5. Nothing is lent.
+    pub fn counts(&self, dims: [u32; 3], block: &Block) -> Result<Counts, Refusal> {
         let (min, max, flags) = (block.min, block.max, block.max_plane);
         match self {
-            Distances::Float32(sdf) => bed::surface_nets_lent(sdf, dims, min, max, flags, lent),
-            Distances::Int16(sdf) => bed::surface_nets_lent(sdf, dims, min, max, flags, lent),
-            Distances::Int8(sdf) => bed::surface_nets_lent(sdf, dims, min, max, flags, lent),
+            Distances::Float32(sdf) => bed::counts(sdf, dims, min, max, flags),
+            Distances::Int16(sdf) => bed::counts(sdf, dims, min, max, flags),
+            Distances::Int8(sdf) => bed::counts(sdf, dims, min, max, flags),
         }
     }
 
@@ -82,43 +76,66 @@ impl Distances {
         }
     }
 
-    /// Floats from now on, of the same values: fixtures are cut out of floats alone.
-    pub fn floats(&mut self) -> &mut Vec<f32> {
+    /// The floats, where they are floats: a grid that fixtures are cut out of is read so.
+    pub fn floats(&mut self) -> Option<&mut Vec<f32>> {
         match self {
-            Distances::Float32(_) => {}
-            Distances::Int16(list) => *self = Distances::Float32(converted(list)),
-            Distances::Int8(list) => *self = Distances::Float32(converted(list)),
-        }
-        match self {
-            Distances::Float32(list) => list,
-            _ => unreachable!("they are floats now"),
+            Distances::Float32(list) => Some(list),
+            _ => None,
         }
     }
 }
 
-fn converted<D: Copy + Into<f32>>(list: &[D]) -> Vec<f32> {
-    list.iter().map(|&number| number.into()).collect()
+fn room<D>(count: usize) -> Vec<D> {
+    let mut list = Vec::new();
+    // Without it the list grows as it is filled.
+    let _ = list.try_reserve_exact(count);
+    list
+}
+
+/// Adds floats of the same values: the library takes a bed layer by layer as floats, and cuts fixtures out of floats.
+pub fn add_floats(bytes: &[u8], numbers: Numbers, list: &mut Vec<f32>) {
+    match numbers {
+        Numbers::Float32 => list.extend(
+            bytes
+                .chunks_exact(4)
+                .map(|four| f32::from_le_bytes([four[0], four[1], four[2], four[3]])),
+        ),
+        Numbers::Int16 => list.extend(shorts(bytes).map(f32::from)),
+        Numbers::Int8 => list.extend(bytes.iter().map(|&one| f32::from(one as i8))),
+    }
+}
+
+fn shorts(bytes: &[u8]) -> impl Iterator<Item = i16> + '_ {
+    bytes
+        .chunks_exact(2)
+        .map(|two| i16::from_le_bytes([two[0], two[1]]))
 }
 
 #[cfg(test)]
 mod tests {
     use super::*;
 
+    fn read(bytes: &[u8], numbers: Numbers, floats: bool) -> Distances {
+        let mut read = Distances::empty(numbers, floats, 0);
+        read.add(bytes, numbers);
+        read
+    }
+
     fn floats(bytes: &[u8], numbers: Numbers) -> Vec<f32> {
-        Distances::of(bytes.to_vec(), numbers).floats().clone()
+        read(bytes, numbers, true).floats().unwrap().clone()
     }
 
     #[test]
     fn every_whole_number_keeps_its_value() {
         for value in i16::MIN..=i16::MAX {
             let bytes = value.to_le_bytes();
-            let read = Distances::of(bytes.to_vec(), Numbers::Int16);
+            let read = read(&bytes, Numbers::Int16, false);
             assert!(matches!(read, Distances::Int16(list) if list == [value]));
             assert_eq!(floats(&bytes, Numbers::Int16), [f32::from(value)]);
         }
         for value in i8::MIN..=i8::MAX {
             let bytes = value.to_le_bytes();
-            let read = Distances::of(bytes.to_vec(), Numbers::Int8);
+            let read = read(&bytes, Numbers::Int8, false);
             assert!(matches!(read, Distances::Int8(list) if list == [value]));
             assert_eq!(floats(&bytes, Numbers::Int8), [f32::from(value)]);
         }

@@ -3,67 +3,61 @@
 //!
 //! Whether the dimensions and the number of distances fit is answer 1 or 3, and not asked here.
 
-use crate::distances::Distances;
+use crate::distances::{add_floats, Distances};
 use crate::failure::Failure;
-use crate::npy::{self, Header};
+use crate::kept::digest_at;
+use crate::npy;
+use crate::numbers::Header;
+use crate::sha256::{Digest, Sha256};
 use std::fs::File;
-use std::io::{self, BufReader, Read, Seek};
+use std::io::{self, BufReader, Read};
 use std::os::unix::fs::FileExt;
 use std::path::{Path, PathBuf};
-
-#[derive(Clone, Copy, Debug, PartialEq)]
-pub enum Numbers {
-    Float32,
-    Int16,
-    Int8,
-}
-
-impl Numbers {
-    pub fn named(name: &str) -> Option<Self> {
-        match name {
-            "float32" => Some(Numbers::Float32),
-            "int16" => Some(Numbers::Int16),
-            "int8" => Some(Numbers::Int8),
-            _ => None,
-        }
-    }
-
-    pub fn name(self) -> &'static str {
-        match self {
-            Numbers::Float32 => "float32",
-            Numbers::Int16 => "int16",
-            Numbers::Int8 => "int8",
-        }
-    }
-
-    fn bytes(self) -> usize {
-        match self {
-            Numbers::Float32 => 4,
-            Numbers::Int16 => 2,
-            Numbers::Int8 => 1,
-        }
-    }
-}
 
 /// A grid in memory, x innermost.
 pub struct Grid {
     /// As the file has it.
     pub header: Header,
     pub distances: Distances,
+    /// Of the file that it was read from, where that was asked.
+    pub digest: Option<Digest>,
 }
 
 /// An open file at its first number, with what is known of it.
 pub struct Source {
     pub header: Header,
     path: PathBuf,
-    file: BufReader<File>,
+    file: BufReader<Counted>,
+}
+
+/// A file whose bytes are counted, and hashed where that is asked, as they are read.
+struct Counted {
+    file: File,
+    read: u64,
+    hash: Option<Sha256>,
+}
+
+impl Read for Counted {
+    fn read(&mut self, bytes: &mut [u8]) -> io::Result<usize> {
+        let count = self.file.read(bytes)?;
+        self.read += count as u64;
+        if let Some(hash) = &mut self.hash {
+            hash.add(&bytes[..count]);
+        }
+        Ok(count)
+    }
 }
 
 /// Opens a grid; `raw` is the header of a file that has none of its own.
-pub fn open(path: &Path, raw: Option<Header>) -> Result<Source, Failure> {
+pub fn open(path: &Path, raw: Option<Header>, hashed: bool) -> Result<Source, Failure> {
     let fail = |reason: String| Failure::file(path, reason);
     let file = File::open(path).map_err(|error| fail(error.to_string()))?;
-    let mut file = BufReader::new(file);
+    let hash = hashed.then(Sha256::default);
+    let mut file = BufReader::new(Counted {
+        file,
+        read: 0,
+        hash,
+    });
     let header = match raw {
         Some(header) => header,
         None => npy::read_header(&mut file).map_err(fail)?,
@@ -76,38 +70,66 @@ pub fn open(path: &Path, raw: Option<Header>) -> Result<Source, Failure> {
 }
 
 const HALF_A_NUMBER: &str = "ends inside a number";
+/// Bytes that are read at a time: whole numbers of each kind.
+const AT_A_TIME: usize = 1 << 18;
 
 impl Source {
-    /// The grid in memory.
-    pub fn whole(mut self) -> Result<Grid, Failure> {
-        let fail = |reason: String| Failure::file(&self.path, reason);
+    /// Where the next byte stands in the file.
+    fn place(&self) -> u64 {
+        self.file.get_ref().read - self.file.buffer().len() as u64
+    }
+
+    /// How many numbers the file holds: of a plain file, from its length; of another it is what the header says.
+    pub fn count(&self) -> u128 {
+        match self.file.get_ref().file.metadata() {
+            Ok(found) if found.is_file() => {
+                let bytes = found.len().saturating_sub(self.place());
+                u128::from(bytes) / self.header.numbers.bytes() as u128
+            }
+            _ => self.header.points(),
+        }
+    }
+
+    /// The grid in memory; as floats, where that is asked.
+    pub fn whole(mut self, floats: bool) -> Result<Grid, Failure> {
         let numbers = self.header.numbers;
-        let mut bytes = Vec::new();
-        self.file
-            .read_to_end(&mut bytes)
-            .map_err(|error| fail(error.to_string()))?;
-        if bytes.len() % numbers.bytes() != 0 {
-            return Err(fail(HALF_A_NUMBER.into()));
+        // A header may say more than there is: the file's own length goes before it.
+        let count = usize::try_from(self.count()).unwrap_or(0);
+        let mut distances = Distances::empty(numbers, floats, count);
+        let mut bytes = Vec::with_capacity(AT_A_TIME);
+        loop {
+            bytes.clear();
+            (&mut self.file)
+                .take(AT_A_TIME as u64)
+                .read_to_end(&mut bytes)
+                .map_err(|error| Failure::file(&self.path, error))?;
+            if bytes.is_empty() {
+                break;
+            }
+            if bytes.len() % numbers.bytes() != 0 {
+                return Err(Failure::file(&self.path, HALF_A_NUMBER));
+            }
+            distances.add(&bytes, numbers);
         }
         Ok(Grid {
             header: self.header,
-            distances: Distances::of(bytes, numbers),
+            distances,
+            digest: self.file.into_inner().hash.map(Sha256::digest),
         })
     }
 
     /// The grid in its file, which is read more than once.
-    pub fn stored(mut self) -> Result<Stored, Failure> {
+    pub fn stored(self) -> Result<Stored, Failure> {
+        let start = self.place();
         let path = self.path;
         let fail = |reason: &str| Failure::file(&path, reason);
-        let start = self.file.stream_position();
-        let file = self.file.into_inner();
+        let file = self.file.into_inner().file;
         let found = file.metadata().map_err(|error| fail(&error.to_string()))?;
         if !found.is_file() {
             return Err(fail(
                 "is no plain file and cannot be read twice, as a grid larger than --memory is",
             ));
         }
-        let start = start.map_err(|error| fail(&error.to_string()))?;
         let bytes = found.len().saturating_sub(start);
         let each = self.header.numbers.bytes() as u64;
         if bytes % each != 0 {
@@ -152,65 +174,17 @@ impl Stored {
                 io::ErrorKind::UnexpectedEof => self.changed(),
                 _ => Failure::file(&self.path, error),
             })?;
-        fill(&layer.bytes, numbers, &mut layer.distances);
+        layer.distances.clear();
+        add_floats(&layer.bytes, numbers, &mut layer.distances);
         Ok(())
     }
 
     pub fn changed(&self) -> Failure {
         Failure::file(&self.path, "changed while it was read; nothing is written")
     }
-}
 
-/// The floats of a layer's numbers: the library takes a bed layer by layer as floats. Whole numbers of 16 and 8 bits
-/// are floats of the same value.
-fn fill(bytes: &[u8], numbers: Numbers, distances: &mut Vec<f32>) {
-    distances.clear();
-    match numbers {
-        Numbers::Float32 => distances.extend(
-            bytes
-                .chunks_exact(4)
-                .map(|four| f32::from_le_bytes([four[0], four[1], four[2], four[3]])),
-        ),
-        Numbers::Int16 => distances.extend(
-            bytes
-                .chunks_exact(2)
-                .map(|two| f32::from(i16::from_le_bytes([two[0], two[1]]))),
-        ),
-        Numbers::Int8 => distances.extend(bytes.iter().map(|&one| f32::from(one as i8))),
-    }
-}
-
-#[cfg(test)]
-mod tests {
-    use super::*;
-
-    fn distances(bytes: &[u8], numbers: Numbers) -> Vec<f32> {
-        let mut distances = vec![0.5];
-        fill(bytes, numbers, &mut distances);
-        distances
-    }
-
-    #[test]
-    fn every_whole_number_keeps_its_value() {
-        for value in i16::MIN..=i16::MAX {
-            assert_eq!(
-                distances(&value.to_le_bytes(), Numbers::Int16),
-                [value as f32]
-            );
-        }
-        for value in i8::MIN..=i8::MAX {
-            assert_eq!(
-                distances(&value.to_le_bytes(), Numbers::Int8),
-                [value as f32]
-            );
-        }
-    }
-
-    #[test]
-    fn floats_keep_their_bits() {
-        for bits in [0, 0x8000_0000, 1, 0x7F80_0000, 0x7FC0_0001, 0xFFFF_FFFF] {
-            let read = distances(&u32::to_le_bytes(bits), Numbers::Float32);
-            assert_eq!(read[0].to_bits(), bits);
-        }
+    /// The digest of the file as it is now.
+    pub fn digest(&self) -> Result<Digest, Failure> {
+        digest_at(&self.file).map_err(|error| Failure::file(&self.path, error))
     }
 }

@@ -9,10 +9,13 @@ bed: meshes the bed of a tank from a grid of signed distances, by a proved libra
   bed volume BED.mesh             the volume of a mesh file
   bed ply BED.mesh OUT.ply        a mesh file for viewers
   bed plan PLAN GRID              whether blocks are a plan of a whole, and fit the grid
+  bed plan --make 10,5,4 GRID     a plan in so many blocks on x, y and z
   bed cut FIXTURES GRID -o OUT    fixtures cut out of a grid
+  bed fixtures TEXT -o FIXTURES   fixtures from a text
 
-bed COMMAND --help says more of each; bed --version. Exit status: 0 done; 1 refused by the library; 2 wrong use, or a
-file that cannot be read or written.
+bed COMMAND --help says more of each; bed --version. --output is -o, --memory=4G is --memory 4G, and after -- every word is
+a file. Exit status: 0 done; 1 refused by the library; 2 wrong use, or a file that cannot be read or written. No file that
+is read is written over, and INT and TERM leave the old files and nothing else.
 ";
 
 /// What every command that reads a grid says of it.
@@ -24,10 +27,11 @@ numbers, the lowest byte first, x innermost:
 ";
 
 /// What the commands that mesh say of large grids.
-const MEMORY: &str = "  --memory SIZE            how much memory the grid may take with a map of its cells, eight bytes a point: a number of
-                           bytes, or one with K, M or G after it; else half the machine's memory
+const MEMORY: &str = "  --memory SIZE            how much memory the command may take: a number of bytes, or one with K, M or G after it; else half
+                           of the machine's memory, or of what the control group has where that is less
 
-A grid that takes more stays in its file and is taken layer by layer, twice, in memory for some ten layers and what one of
+In memory there are the grid, and for each worker, of which there are as many as fit, a map of four bytes a point and the
+mesh of its block. A grid for which that is more stays in its file and is taken layer by layer, twice, in memory for some ten layers and what one of
 them brings out. The mesh file is the same, byte for byte. If the grid's file changes meanwhile, nothing is written.
 ";
 
@@ -39,22 +43,26 @@ pub fn of(command: &str) -> Option<String> {
         "volume" => &[VOLUME],
         "ply" => &[PLY],
         "plan" => &[PLAN, GRID],
-        "cut" => &[CUT, GRID],
+        "cut" => &[CUT, FIXTURES, GRID],
+        "fixtures" => &[TEXT, FIXTURES],
         _ => return None,
     };
     Some(parts.concat())
 }
 
 const SURVEY: &str = "\
-bed survey GRID [--plan PLAN] [--fixtures FIXTURES] [--memory SIZE] -o BED.mesh
+bed survey GRID [--plan PLAN] [--fixtures FIXTURES [--step METRES]] [--memory SIZE] -o BED.mesh
 
 Cuts the fixtures out of the grid, meshes it, writes the mesh file and prints one page: the mesh, whether its skin has no
 hole, its volume, and what each rests on. With a plan, which is checked first, the blocks are meshed on all cores, and
-BED.001.mesh, BED.002.mesh and so on are written, one for each block. A volume that the library refuses is said on the
-page and ends nothing.
+BED.001.mesh, BED.002.mesh and so on are written, one for each block, and last of all BED.manifest: their names, SHA-256,
+counts and sums, and what they were made of. Files of an older survey under the same name are removed where its manifest
+names them and they are what it says; any other of such a name is refused. A volume that the library refuses is said on
+the page and ends nothing.
 
   --plan PLAN              the blocks; see bed plan --help
-  --fixtures FIXTURES      a file of fixtures; see bed cut --help
+  --fixtures FIXTURES      a file of fixtures, or a text; see bed fixtures --help
+  --step METRES            the metres of a grid step, where the text is in metres
   -o BED.mesh              the mesh file
 ";
 
@@ -98,6 +106,7 @@ Writes a mesh file as binary PLY, with positions and normals; the normals are no
 
 const PLAN: &str = "\
 bed plan PLAN GRID
+bed plan --make X,Y,Z GRID [--max-plane xyz] [-o PLAN]
 
 Says whether the blocks are a plan of the whole: every edge that the whole owns is owned by exactly one block, and no
 block owns any other. And whether the mesher takes the whole and each block on the grid.
@@ -105,13 +114,37 @@ block owns any other. And whether the mesher takes the whole and each block on t
 PLAN is a text: the whole on the first line, then a block a line, min, max and the letters of its max planes, as
   0 0 0 64 64 32 xz
 with - for no letter. From # to the line's end is a comment.
+
+  --make X,Y,Z             prints a plan of the whole grid in so many blocks on each axis, which the library has checked; 200
+                           blocks at most
+  --max-plane xyz          the axes on which the whole has faces on its max side; else none
+  -o PLAN                  writes it to a file
 ";
 
 const CUT: &str = "\
-bed cut FIXTURES GRID -o OUT.npy
+bed cut FIXTURES GRID -o OUT.npy [--step METRES]
 
-Cuts the solid of a file of fixtures out of the grid and writes it as float32. FIXTURES is records of 32 bytes, as
-include/bed.h says: boxes, unions, intersections and differences.
+Cuts the solid of a file of fixtures out of the grid and writes it as float32.
 
   -o OUT.npy               the grid after it
+  --step METRES            the metres of a grid step, where the fixtures are a text in metres
+";
+
+const TEXT: &str = "\
+bed fixtures TEXT -o FIXTURES [--step METRES]
+
+Writes the records that a text of fixtures means, which the library has read.
+
+  -o FIXTURES              the records
+  --step METRES            the metres of a grid step, where the text is in metres; else it is in grid steps
+";
+
+/// What fixtures are, wherever they are taken.
+const FIXTURES: &str = "
+FIXTURES is records of 32 bytes, as include/bed.h says, or a text of one solid, low x y z and high x y z of each box:
+  box 40 6 8 42 8 20
+  union { box 0 0 0 1 1 1  box 2 0 0 3 1 1 }
+  intersection { .. }
+  difference { box 0 0 0 9 9 9  box 1 1 1 8 8 8 }
+From # to the line's end is a comment.
 ";

@@ -5,6 +5,7 @@
 //! vertices are written, the second time the triangles, and the vertices that come out again are compared with those
 //! in the file. What is written is then the mesh of the grid as it was read the second time.
 
+use crate::explained::{self, Bad};
 use crate::failure::Failure;
 use crate::grid::{self, Stored};
 use crate::kept::{Beside, Part};
@@ -55,7 +56,10 @@ impl Work<'_> {
             self.grid.read_layer(z, &mut layer)?;
             let counts = room
                 .offer(&mut layers, &layer.distances, &mut memory.kept())
-                .map_err(|refusal| self.refused(refusal.number(), format!("{refusal}, z {z}")))?;
+                .map_err(|refusal| match refusal {
+                    LayerRefusal::Distance => self.bad_distances(z),
+                    other => self.refused(other.number(), format!("{other}, z {z}")),
+                })?;
             all.vertices += counts.vertices;
             all.indices += counts.indices;
             show(&Taken {
@@ -65,6 +69,18 @@ impl Work<'_> {
             })?;
         }
         Ok(all)
+    }
+
+    /// Answer 5 to the layer at z, with what is found in it and in those after it.
+    fn bad_distances(&self, z: u32) -> Failure {
+        let (mut bad, mut layer) = (Bad::default(), grid::Layer::default());
+        for z in z..=self.block.max[2] {
+            if let Err(failure) = self.grid.read_layer(z, &mut layer) {
+                return failure;
+            }
+            bad.add(z, &layer.distances, &self.grid.header, &self.block);
+        }
+        self.refused(LayerRefusal::Distance.number(), bad.words())
     }
 
     pub fn refused(&self, number: u32, words: impl ToString) -> Failure {
@@ -92,8 +108,8 @@ impl Work<'_> {
         }
         let [x, y, z] = self.grid.header.dims.map(u64::from);
         if self.grid.length != x * y * z {
-            let refusal = Refusal::GridLength;
-            return Err(self.refused(refusal.number(), refusal));
+            let words = explained::length(&self.grid.header, self.grid.length);
+            return Err(self.refused(Refusal::GridLength.number(), words));
         }
         Ok(Memory::of((x * y) as usize))
     }
@@ -262,8 +278,7 @@ fn lengthen<T: Clone + Default>(list: &mut Vec<T>, length: usize) {
 #[cfg(test)]
 mod tests {
     use super::*;
-    use crate::grid::Numbers;
-    use crate::npy::Header;
+    use crate::numbers::{Header, Numbers};
     use bed::{MaxPlane, SurfaceNetsBuffer};
     use std::fs;
     use std::path::PathBuf;
@@ -310,7 +325,7 @@ mod tests {
             dims: DIMS,
             numbers: Numbers::Float32,
         };
-        let source = grid::open(path, Some(header)).unwrap();
+        let source = grid::open(path, Some(header), false).unwrap();
         source.stored().unwrap()
     }
 

@@ -2,25 +2,37 @@
 //! written to files and said in words. Nothing is worked out here that a function of the library works out.
 
 mod arguments;
+mod asked;
 mod blocks;
+mod budget;
 mod commands;
 mod distances;
 mod enclosing;
+mod explained;
 mod failure;
+mod fixtures;
 mod grid;
 mod help;
+mod judged;
 mod kept;
 mod layered;
 mod machine;
+mod manifest;
 mod mesh;
+mod meshing;
+mod names;
 mod npy;
+mod numbers;
 mod page;
 mod plan;
 mod ply;
 mod progress;
 mod records;
+mod sha256;
+mod signals;
 mod survey;
 mod weighing;
+mod words;
 
 use failure::Failure;
 use std::env;
@@ -28,6 +40,7 @@ use std::io::{self, Write};
 use std::process::ExitCode;
 
 fn main() -> ExitCode {
+    signals::before_the_end(kept::remove_begun);
     let words: Vec<_> = env::args_os().skip(1).collect();
     match commands::run(&words).and_then(|text| say(&text)) {
         Ok(()) => ExitCode::SUCCESS,

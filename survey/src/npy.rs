@@ -1,28 +1,10 @@
-//! NumPy's .npy files: the header, read and written. Versions 1 to 3, C order, three dimensions.
+//! NumPy's .npy files: the header, read and written. Versions 1 to 3, C order, three dimensions, which stand there as z, y, x.
 
-use crate::grid::Numbers;
+use crate::numbers::{Header, Numbers};
+use crate::words::number;
 use std::io::{self, Read};
 
 const MAGIC: &[u8] = b"\x93NUMPY";
-
-/// What the header says: the dimensions x, y, z, which stand there as z, y, x, and the kind of number.
-#[derive(Clone, Copy, Debug, PartialEq)]
-pub struct Header {
-    pub dims: [u32; 3],
-    pub numbers: Numbers,
-}
-
-impl Header {
-    /// The highest point. Dimensions of 0 have none, and the library refuses them whatever the box.
-    pub fn highest(&self) -> [u32; 3] {
-        self.dims.map(|size| size.saturating_sub(1))
-    }
-
-    /// What the grid takes in memory as floats with a map of its cells: eight bytes a point.
-    pub fn in_memory(&self) -> u128 {
-        8 * self.dims.map(u128::from).iter().product::<u128>()
-    }
-}
 
 /// Reads the header and leaves the file at the first number.
 pub fn read_header(file: &mut impl Read) -> Result<Header, String> {
@@ -68,9 +50,16 @@ fn said_by(text: &str) -> Result<Header, String> {
         Some("<i2") => Numbers::Int16,
         Some("|i1" | "<i1") => Numbers::Int8,
         Some(other) => {
+            let advice = match other
+                .trim_start_matches(['<', '>', '=', '|'])
+                .starts_with('f')
+            {
+                true => ": .astype('float32') makes it one of these",
+                false => "",
+            };
             return Err(format!(
-                "holds {other}; float32, int16 and int8 are read, lowest byte first"
-            ))
+                "holds {other}; float32, int16 and int8 are read, lowest byte first{advice}"
+            ));
         }
         None => return Err("has a header without a plain kind of number".into()),
     };
@@ -83,7 +72,7 @@ fn said_by(text: &str) -> Result<Header, String> {
         .split(',')
         .map(str::trim)
         .filter(|word| !word.is_empty())
-        .map(crate::arguments::number)
+        .map(number)
         .collect();
     match sizes.as_deref() {
         Some(&[z, y, x]) => Ok(Header {
@@ -147,7 +136,10 @@ mod tests {
         assert!(said("'<i2'", "False", "(1, 2, 3)").is_ok());
         assert!(said("'|i1'", "False", "(1, 2, 3)").is_ok());
         assert!(said("'>f4'", "False", "(1, 2, 3)").is_err());
-        assert!(said("'<f8'", "False", "(1, 2, 3)").is_err());
+        let float64 = said("'<f8'", "False", "(1, 2, 3)").unwrap_err();
+        assert!(float64.contains(".astype('float32')"), "{float64}");
+        let unsigned = said("'<u2'", "False", "(1, 2, 3)").unwrap_err();
+        assert!(!unsigned.contains("astype"), "{unsigned}");
         assert!(said("[('a', '<f4')]", "False", "(1, 2, 3)").is_err());
         assert!(said("'<f4'", "True", "(1, 2, 3)").is_err());
         assert!(said("'<f4'", "False", "(1, 2)").is_err());

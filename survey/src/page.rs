@@ -2,7 +2,8 @@
 //! it. Counted: this run counted it. Not claimed: nobody says it.
 
 use crate::mesh::Lists;
-use crate::npy::Header;
+use crate::numbers::Header;
+use crate::words::letters;
 use crate::{records, weighing};
 use bed::{Block, VolumeError};
 use std::path::{Path, PathBuf};
@@ -37,6 +38,10 @@ pub struct Page<'a> {
     pub enclosed: bool,
     pub weighed: &'a [Weighed],
     pub names: &'a [PathBuf],
+    /// Of a survey in blocks.
+    pub manifest: Option<&'a Path>,
+    /// How many files of an older survey under the same name were removed.
+    pub removed: usize,
 }
 
 impl Page<'_> {
@@ -68,12 +73,15 @@ impl Page<'_> {
         let (min, max) = (self.whole.min, self.whole.max);
         lines.found(
             "box",
-            format!("{min:?} to {max:?}, max planes {}", letters(&self.whole)),
+            format!(
+                "{min:?} to {max:?}, max planes {}",
+                letters(self.whole.max_plane)
+            ),
         );
         if self.by_layers {
             lines.found(
                 "layers",
-                "taken one by one, since the grid in memory takes more than --memory".into(),
+                "taken one by one, since in memory the grid takes more than --memory".into(),
             );
             lines.rests("proved: what all layers bring out, joined, is what the whole call makes");
             lines.rests("compared: each block's vertices, made two times; the mesh is of the grid as it was read the second time");
@@ -191,24 +199,16 @@ impl Page<'_> {
             });
             lines.rests("not claimed: that the disk keeps what it was told to sync");
         }
-    }
-}
-
-fn letters(block: &Block) -> String {
-    let flags = [
-        (block.max_plane.x, 'x'),
-        (block.max_plane.y, 'y'),
-        (block.max_plane.z, 'z'),
-    ];
-    let set: String = flags
-        .iter()
-        .filter(|(flag, _)| *flag)
-        .map(|(_, letter)| letter)
-        .collect();
-    if set.is_empty() {
-        "-".into()
-    } else {
-        set
+        if let Some(manifest) = self.manifest {
+            lines.found("manifest", manifest.display().to_string());
+            lines.rests("written last: the digests of grid, plan and files; a file that it does not name is not of this survey");
+        }
+        if self.removed > 0 {
+            lines.found(
+                "removed",
+                format!("{} files of an older survey under this name", self.removed),
+            );
+        }
     }
 }
 

@@ -1,15 +1,19 @@
 //! The survey: a grid in memory, or one that stays in its file; as a whole, or in the blocks of a plan.
 
 use crate::arguments::Arguments;
-use crate::commands::{accepted, apart, cut_out, held, named_block, open_grid, options};
+use crate::asked::{apart, open_grid, options, step};
+use crate::budget::{layered_workers, InMemory};
 use crate::enclosing::Enclosing;
 use crate::failure::Failure;
 use crate::grid::{Grid, Source, Stored};
+use crate::judged::{accepted, cut_out, held, named_block};
 use crate::kept::{self, Beside};
 use crate::layered::{self, Work};
+use crate::manifest::{self, Made, MadeBlock, Read};
 use crate::page::{Page, Weighed};
 use crate::plan::{self, Plan};
-use crate::{blocks, mesh, weighing};
+use crate::sha256::Digest;
+use crate::{blocks, fixtures, mesh, weighing};
 use bed::{Block, Counts, MaxPlane};
 use std::ffi::OsString;
 use std::path::{Path, PathBuf};
@@ -19,55 +23,162 @@ pub fn survey(words: &[OsString]) -> Result<String, Failure> {
         "survey",
         words,
         1,
-        &options(["-o", "--plan", "--fixtures", "--memory"]),
+        &options(["-o", "--plan", "--fixtures", "--step", "--memory"]),
     )?;
     let (name, output) = (arguments.file(0), arguments.output()?);
-    let fixtures = arguments.path("--fixtures");
+    let cut = arguments.path("--fixtures");
     let path = arguments.path("--plan");
-    let memory = arguments.memory()?;
-    for read in [Some(name), fixtures, path].into_iter().flatten() {
-        apart(&arguments, read, output)?;
+    let step = step(&arguments)?;
+    if step.is_some() && cut.is_none() {
+        return Err(arguments.wrong("--step is for --fixtures"));
     }
+    let memory = arguments.memory()?;
     let plan = path.map(plan::read).transpose()?;
     let plan = path.zip(plan.as_ref());
     if let Some((path, plan)) = plan {
         held(path, plan)?;
     }
-    let source = open_grid(&arguments, 0)?;
+    let read = [Some(name), cut, path].into_iter().flatten();
+    let files = Files::of(&arguments, read, plan.map(|(_, plan)| plan), output)?;
+    let fixtures = cut.map(|cut| fixtures::read(cut, step)).transpose()?;
+    let hashed = plan.is_some();
+    let source = open_grid(&arguments, 0, hashed)?;
     let header = source.header;
-    let by_layers = header.in_memory() > memory;
-    if by_layers && fixtures.is_some() {
-        return Err(arguments.wrong(format!(
-            "--fixtures wants the grid in memory, and {} takes more than --memory there",
-            name.display()
-        )));
-    }
-    let survey = Survey::of(name, &source, plan, output);
-    let found = if by_layers {
-        survey.by_layers(&source.stored()?)?
-    } else {
-        let mut grid = source.whole()?;
-        if let Some(fixtures) = fixtures {
+    let survey = Survey::of(name, &source, plan, &files.names);
+    let in_memory = InMemory {
+        count: source.count(),
+        numbers: header.numbers,
+        floats: fixtures.is_some(),
+        viewed: false,
+    };
+    let found = if in_memory.fits(memory) {
+        let mut grid = source.whole(in_memory.floats)?;
+        if let Some(fixtures) = &fixtures {
             cut_out(fixtures, name, &mut grid)?;
         }
-        survey.in_memory(&grid)?
+        let needed = accepted(&grid, &survey.whole, || survey.whole_in_words())?;
+        match in_memory.workers(memory, needed) {
+            0 => None,
+            workers => Some(survey.in_memory(&grid, needed, workers)?),
+        }
+    } else {
+        None
     };
-    let (weighed, files): (Vec<_>, Vec<_>) = found.blocks.into_iter().unzip();
-    // Only when every block is meshed and synced does the first file change.
-    kept::rename(files)?;
+    let by_layers = found.is_none();
+    let found = match found {
+        Some(found) => found,
+        None if fixtures.is_some() => {
+            return Err(arguments.wrong(format!(
+                "--fixtures wants the grid in memory, and {} takes more than --memory there",
+                name.display()
+            )))
+        }
+        None => {
+            let stored = open_grid(&arguments, 0, false)?.stored()?;
+            survey.by_layers(&stored, layered_workers(memory, &header))?
+        }
+    };
+    let (weighed, written): (Vec<_>, Vec<_>) = found.blocks.into_iter().unzip();
+    let manifest = match plan.zip(found.digest) {
+        Some(((path, plan), digest)) => Some(Made {
+            grid: Read { name, digest },
+            fixtures: fixtures.as_ref().map(|fixtures| Read {
+                name: &fixtures.path,
+                digest: fixtures.digest,
+            }),
+            plan: Read {
+                name: path,
+                digest: plan.digest,
+            },
+            whole: survey.whole,
+            blocks: made(&survey, &weighed, &written)?,
+        }),
+        None => None,
+    };
+    let manifest = manifest
+        .map(|made| Beside::write(&files.manifest, &made.text()))
+        .transpose()?;
+    let in_blocks = manifest.is_some();
+    // Only when every block is meshed and synced does the first file change; the manifest is the last.
+    kept::replace(written, &files.removed, manifest)?;
     Ok(Page {
         name,
         header,
         by_layers,
-        fixtures,
+        fixtures: cut,
         plan: path,
         whole: survey.whole,
         needed: found.needed,
         enclosed: found.enclosed,
         weighed: &weighed,
-        names: &survey.names,
+        names: survey.names,
+        manifest: in_blocks.then_some(files.manifest.as_path()),
+        removed: files.removed.len(),
     }
     .text())
+}
+
+/// The names that a survey writes, and the files of an older one that it removes.
+struct Files {
+    /// The mesh file of each block.
+    names: Vec<PathBuf>,
+    manifest: PathBuf,
+    removed: Vec<PathBuf>,
+}
+
+impl Files {
+    /// All of them are apart from what is read, and from each other.
+    fn of<'a>(
+        arguments: &Arguments,
+        read: impl Iterator<Item = &'a Path>,
+        plan: Option<&Plan>,
+        output: &Path,
+    ) -> Result<Self, Failure> {
+        if !manifest::writable(output) {
+            return Err(arguments.wrong("-o wants a name without a new line in it"));
+        }
+        let names: Vec<_> = match plan {
+            None => vec![output.to_path_buf()],
+            Some(plan) => (1..=plan.blocks.len())
+                .map(|number| manifest::numbered(output, number))
+                .collect(),
+        };
+        let manifest = manifest::name(output);
+        let read: Vec<_> = read.collect();
+        let of_this = || {
+            let last = plan.map(|_| &manifest);
+            names.iter().chain(last).map(PathBuf::as_path)
+        };
+        apart(arguments, read.iter().copied(), of_this())?;
+        let removed = manifest::older(output, &names, plan.is_some())?.removed;
+        let removed_names = removed.iter().map(PathBuf::as_path);
+        apart(arguments, read, of_this().chain(removed_names))?;
+        Ok(Self {
+            names,
+            manifest,
+            removed,
+        })
+    }
+}
+
+/// The blocks' files as the manifest has them.
+fn made<'a>(
+    survey: &'a Survey,
+    weighed: &'a [Weighed],
+    written: &[Beside],
+) -> Result<Vec<MadeBlock<'a>>, Failure> {
+    let blocks = survey.blocks.iter().zip(survey.names);
+    let blocks = blocks.zip(weighed.iter().zip(written));
+    blocks
+        .map(|((block, name), (weighed, file))| {
+            Ok(MadeBlock {
+                name,
+                block: *block,
+                weighed,
+                digest: file.digest()?,
+            })
+        })
+        .collect()
 }
 
 struct Survey<'a> {
@@ -77,7 +188,7 @@ struct Survey<'a> {
     /// The plan's; without one the whole alone.
     blocks: Vec<Block>,
     /// The mesh file of each block.
-    names: Vec<PathBuf>,
+    names: &'a [PathBuf],
 }
 
 /// What a survey found, its files not yet renamed.
@@ -86,6 +197,8 @@ struct Found {
     needed: Counts,
     enclosed: bool,
     blocks: Vec<(Weighed, Beside)>,
+    /// Of the grid's file, where there is a plan.
+    digest: Option<Digest>,
 }
 
 impl<'a> Survey<'a> {
@@ -93,7 +206,7 @@ impl<'a> Survey<'a> {
         name: &'a Path,
         source: &Source,
         plan: Option<(&'a Path, &'a Plan)>,
-        output: &Path,
+        names: &'a [PathBuf],
     ) -> Self {
         let whole = Block {
             min: [0; 3],
@@ -106,16 +219,14 @@ impl<'a> Survey<'a> {
                 plan,
                 whole,
                 blocks: vec![whole],
-                names: vec![output.to_path_buf()],
+                names,
             },
             Some((_, read)) => Self {
                 name,
                 plan,
                 whole: read.whole,
                 blocks: read.blocks.clone(),
-                names: (1..=read.blocks.len())
-                    .map(|number| numbered(output, number))
-                    .collect(),
+                names,
             },
         }
     }
@@ -131,8 +242,7 @@ impl<'a> Survey<'a> {
         }
     }
 
-    fn in_memory(&self, grid: &Grid) -> Result<Found, Failure> {
-        let needed = accepted(grid, &self.whole, || self.whole_in_words())?;
+    fn in_memory(&self, grid: &Grid, needed: Counts, workers: usize) -> Result<Found, Failure> {
         let (min, max) = (self.whole.min, self.whole.max);
         let enclosed = grid
             .distances
@@ -141,7 +251,7 @@ impl<'a> Survey<'a> {
                 Failure::refused(self.whole_in_words(), refusal.number(), refusal)
             })?;
         let place = |number| self.place(number);
-        let blocks = blocks::mesh_all(grid, &self.blocks, place, |number, buffer| {
+        let blocks = blocks::mesh_all(grid, &self.blocks, workers, place, |number, buffer| {
             let lists = mesh::of_call(buffer);
             let name = &self.names[number];
             let file = Beside::write(name, &lists.file(name)?)?;
@@ -151,17 +261,23 @@ impl<'a> Survey<'a> {
             needed,
             enclosed,
             blocks,
+            digest: grid.digest,
         })
     }
 
-    fn by_layers(&self, grid: &Stored) -> Result<Found, Failure> {
+    fn by_layers(&self, grid: &Stored, workers: usize) -> Result<Found, Failure> {
+        let digest = || self.plan.map(|_| grid.digest()).transpose();
+        let before = digest()?;
         let of_the_whole = match self.plan {
             Some(_) => Some(self.whole_asked(grid)?),
             None => None,
         };
         let steps = layered::steps(2, &self.blocks);
-        let meshed =
-            blocks::on_all_cores(self.blocks.len(), steps, |number, _: &mut (), report| {
+        let meshed = blocks::on_cores(
+            self.blocks.len(),
+            workers,
+            steps,
+            |number, _: &mut (), report| {
                 let work = Work {
                     grid,
                     block: self.blocks[number],
@@ -169,7 +285,8 @@ impl<'a> Survey<'a> {
                     report,
                 };
                 written(&work, &self.names[number])
-            })?;
+            },
+        )?;
         // Without a plan the whole is the only block, and was asked as it was meshed.
         let mut asked = of_the_whole.unwrap_or_default();
         let mut blocks = Vec::new();
@@ -179,17 +296,22 @@ impl<'a> Survey<'a> {
             }
             blocks.push((weighed, file));
         }
+        // The manifest says what the meshes were made of.
+        if digest()? != before {
+            return Err(grid.changed());
+        }
         Ok(Found {
             needed: asked.needed,
             enclosed: asked.enclosed,
             blocks,
+            digest: before,
         })
     }
 
     /// What is asked of the whole before its blocks are meshed.
     fn whole_asked(&self, grid: &Stored) -> Result<Asked, Failure> {
         let steps = layered::steps(1, &[self.whole]);
-        let asked = blocks::on_all_cores(1, steps, |_, _: &mut (), report| {
+        let asked = blocks::on_cores(1, 1, steps, |_, _: &mut (), report| {
             let work = Work {
                 grid,
                 block: self.whole,
@@ -244,15 +366,4 @@ fn written(work: &Work, name: &Path) -> Result<(Weighed, Beside, Asked), Failure
         enclosed: enclosing.enclosed,
     };
     Ok((weighed, file, asked))
-}
-
-/// BED.mesh becomes BED.001.mesh.
-fn numbered(output: &Path, number: usize) -> PathBuf {
-    let mut name = output.file_stem().unwrap_or_default().to_os_string();
-    name.push(format!(".{number:03}"));
-    if let Some(extension) = output.extension() {
-        name.push(".");
-        name.push(extension);
-    }
-    output.with_file_name(name)
 }

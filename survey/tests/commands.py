@@ -40,11 +40,12 @@ def helps():
     expect("python's version", f'VERSION = "{version[4:-1]}"' in open(f"{HERE}/../../python/bed.py").read())
     expect("rust's version", f'version = "{version[4:-1]}"' in open(f"{HERE}/../../rust/Cargo.toml").read())
     expect("help", bed("--help")[0] == 0)
-    for command in "survey mesh info volume ply plan cut".split():
+    for command in "survey mesh info volume ply plan cut fixtures".split():
         status, output, errors = bed(command, "--help")
         expect(f"{command} --help", status == 0 and output.startswith(f"bed {command} ") and errors == "")
         expect(f"{command} in the help", f"bed {command} " in bed("--help")[1])
         expect(f"{command} --version", bed(command, "--version")[:2] == (0, version))
+        expect(f"{command} -- --help", bed(command, "--", "--help")[0] == 2)
 
 
 def uses():
@@ -68,6 +69,15 @@ def uses():
     wrong("mesh", BALL_FILE, "-o", "a.mesh", "--ply", "a.mesh", says="one file")
     wrong("info", "none.mesh", says="none.mesh: ")
     wrong("mesh", BALL_FILE, "-o", "out.mesh", "--type", "int8", says="--dims")
+    wrong("mesh", BALL_FILE, "-o=out.mesh", says="no such option")
+    wrong("mesh", BALL_FILE, "--output", "a", "-o", "b", says="twice")
+    wrong("mesh", BALL_FILE, "--memory=", "-o", "out.mesh", says="--memory")
+    wrong("mesh", "--", "-o", "out.mesh", says="1 files are wanted, 2 are given")
+    put("-grid", got(BALL_FILE))
+    for words in (("mesh", "--output", "-mesh", "--", "-grid"), ("mesh", "--output=-mesh", "--memory=4G", "--max-plane=-", "--", "-grid")):
+        expect(f"{words}", bed(*words)[0] == 0 and mesh_file(got("-mesh"))[2])
+    for name in ("-grid", "-mesh"):
+        os.remove(name)
 
 
 def grids():
@@ -99,7 +109,7 @@ def grids():
                            ("no .npy", floats(BALL)), ("empty", b""), ("cut in the header", npy(b"", (1, 1, 1))[:20]),
                            ("half a number", npy(floats(BALL)[:-1], (SIDE,) * 3))):
         put("bad.npy", content)
-        wrong("mesh", "bad.npy", "-o", "out.mesh", says="bad.npy: ")
+        wrong("mesh", "bad.npy", "-o", "out.mesh", says=".astype('float32')" if words == "float64" else "bad.npy: ")
     whole = (SIDE,) * 3
     for number, content, more in (
             (1, npy(b"", (0, 1, 1)), ()), (2, npy(floats(BALL), whole), ("--box", "0,0,0,12,1,1")),
@@ -156,6 +166,87 @@ def fixtures():
     refused(51, "cut", "empty.fixtures", BALL_FILE, "-o", "never.npy", name="empty.fixtures")
     refused(51, "survey", BALL_FILE, "--fixtures", "empty.fixtures", "-o", "never.mesh", name="empty.fixtures")
     wrong("survey", BALL_FILE, "--fixtures", "none.fixtures", "-o", "never.mesh", says="none.fixtures")
+
+
+def fixtures_as_text():
+    """texts against the records that document 02 says, and wherever fixtures are taken"""
+    def record(*words):
+        kind, *rest = words
+        if kind == 1:
+            return struct.pack("<I6fI", 1, *rest, 0)
+        return struct.pack("<8I", kind, *rest, *[0] * 6)
+
+    text = b"""# a weir and a rake, with a slot
+    difference {
+        union { box 3 2.5 4 8 9 20
+                intersection{ box 0 0 0 2 2 2 box 1 1 1 9 9 9 } }   # two boxes' common part
+        box 4 4 4 5 5 5
+    }"""
+    records = b"".join((record(4, 2), record(2, 2), record(1, 3, 2.5, 4, 8, 9, 20), record(3, 2), record(1, 0, 0, 0, 2, 2, 2),
+                        record(1, 1, 1, 1, 9, 9, 9), record(1, 4, 4, 4, 5, 5, 5)))
+    put("weir.text", text)
+    expect("records of a text", bed("fixtures", "weir.text", "-o", "weir.fixtures") == (0, "fixtures records 7\n", "") and got("weir.fixtures") == records)
+    expect("records stay records", bed("fixtures", "weir.fixtures", "-o", "same.fixtures")[0] == 0 and got("same.fixtures") == records)
+    for name in ("text", "fixtures"):
+        expect(f"cut, {name}", bed("cut", f"weir.{name}", BALL_FILE, "-o", f"{name}.npy")[0] == 0)
+        expect(f"surveyed, {name}", bed("survey", BALL_FILE, "--fixtures", f"weir.{name}", "-o", f"{name}.mesh")[0] == 0)
+    expect("the same grid and mesh", got("text.npy") == got("fixtures.npy") and got("text.mesh") == got("fixtures.mesh"))
+    put("metres.text", b"\xef\xbb\xbfbox 2 .3 0.4 2.1 4e-1 1")
+    expect("in metres", bed("fixtures", "metres.text", "-o", "metres.fixtures", "--step", "0.05")[0] == 0 and
+           got("metres.fixtures") == record(1, 40, 6, 8, 42, 8, 20))
+    put("steps.text", b"box 40 6 8 42 8 20\n")
+    expect("in grid steps", bed("fixtures", "steps.text", "-o", "steps.fixtures")[0] == 0 and got("steps.fixtures") == record(1, 40, 6, 8, 42, 8, 20))
+    put("near.text", b"box .15 .125 .2 .4 .45 1")
+    for command in ("cut", "survey"):
+        words = ("cut", "near.text", BALL_FILE) if command == "cut" else ("survey", BALL_FILE, "--fixtures", "near.text")
+        expect(f"{command} in metres", bed(*words, "-o", "metres.out", "--step", "0.05")[0] == 0)
+        plain = [word if word != "near.text" else "box.fixtures" for word in words]
+        expect(f"{command} in steps", bed(*plain, "-o", "steps.out")[0] == 0 and got("metres.out") == got("steps.out"))
+    wrong("cut", "box.fixtures", BALL_FILE, "-o", "never.npy", "--step", "0.05", says="records")
+    for step in ("0", "-1", "nan", "inf", "x", ""):
+        wrong("fixtures", "near.text", "-o", "never.fixtures", "--step", step, says="--step")
+    wrong("survey", BALL_FILE, "-o", "never.mesh", "--step", "1", says="--step is for --fixtures")
+    for bad, line in ((b"box 1 2 3 4 5", 1), (b"union {\nbox 1 2 3 4 5 6\n", 2), (b"# ball\nball 3", 2), (b"box 1 2 3 4 5 6 }", 1)):
+        put("bad.text", bad)
+        wrong("fixtures", "bad.text", "-o", "never.fixtures", says=f"bad.text, line {line}: ")
+        wrong("cut", "bad.text", BALL_FILE, "-o", "never.npy", says=f"bad.text, line {line}: ")
+    # what the records say is the library's to judge
+    for number, bad in ((53, b"union { " * 8 + b"box 1 2 3 4 5 6" + b" }" * 8), (54, b"union { }"), (54, b"difference { box 1 2 3 4 5 6 }"),
+                        (55, b"box 1 2 3 4 5 16777217.5")):
+        put("bad.text", bad)
+        refused(number, "fixtures", "bad.text", "-o", "never.fixtures", name="bad.text")
+    put("deep.text", b"union { " * 7 + b"box 1 2 3 4 5 6" + b" }" * 7)
+    expect("eight deep", bed("fixtures", "deep.text", "-o", "deep.fixtures")[1] == "fixtures records 8\n")
+
+
+def made_plans():
+    """each edge of a plan that is made is owned once, counted one by one"""
+    def owned(line):
+        x0, y0, z0, x1, y1, z1, letters = line.split()
+        low, high = [int(word) for word in (x0, y0, z0)], [int(word) for word in (x1, y1, z1)]
+        for axis in range(3):
+            ranges = [range(low[k] + (k != axis), high[k] - (k == axis and "xyz"[k] not in letters)) for k in range(3)]
+            yield from ((axis, x, y, z) for x in ranges[0] for y in ranges[1] for z in ranges[2])
+
+    put("odd.npy", npy(floats([1.0] * (7 * 10 * 6)), (7, 10, 6)))
+    for counts, letters in (("1,1,1", "-"), ("2,3,1", "-"), ("6,9,5", "-"), ("3,4,5", "xz"), ("2,2,2", "xyz")):
+        blocks = [int(word) for word in counts.split(",")]
+        status, output, errors = bed("plan", "--make", counts, "odd.npy", "--max-plane", letters)
+        whole, *lines = output.split("\n")[:-1] or [""]
+        if blocks[0] * blocks[1] * blocks[2] > 200:
+            expect(f"{counts}: {errors}", (status, output) == (1, "") and "refused 41: " in errors)
+            continue
+        expect(f"{counts}: {errors}", status == 0 and whole == f"0 0 0 6 9 5 {letters}" and len(lines) == blocks[0] * blocks[1] * blocks[2])
+        expect(f"{counts}: every edge once", sorted(edge for line in lines for edge in owned(line)) == sorted(owned(whole)))
+        expect("written", bed("plan", f"--make={counts}", "odd.npy", "--max-plane", letters, "-o", "made.plan") == (0, f"plan yes blocks {len(lines)}\n", "")
+               and got("made.plan").decode() == output)
+        expect("it fits", bed("plan", "made.plan", "odd.npy")[1].startswith(f"plan yes blocks {len(lines)}\n"))
+    wrong("plan", "--make", "7,1,1", "odd.npy", says="1 to 6 blocks on x")
+    wrong("plan", "--make", "1,0,1", "odd.npy", says="1 to 9 blocks on y")
+    wrong("plan", "--make", "1,1", "odd.npy", says="--make")
+    wrong("plan", "made.plan", "odd.npy", "-o", "never.plan", says="-o is for --make")
+    put("marked.plan", b"\xef\xbb\xbf" + got("made.plan"))
+    expect("a mark at the head", bed("plan", "marked.plan", "odd.npy") == bed("plan", "made.plan", "odd.npy"))
 
 
 def plans():
@@ -228,7 +319,7 @@ def surveys():
             sides[side] = sides.get(side, 0) + 1
     expect("none is counted", all(count == sides.get(side[::-1], 0) for side, count in sides.items()))
     two, text = page(grid, "--plan", plan, "--fixtures", rake, "-o", "block.mesh")
-    names = sorted(glob.glob("block.*"))
+    names = sorted(glob.glob("block.*.mesh"))
     expect("two hundred blocks", names == [f"block.{number:03}.mesh" for number in range(1, 201)] and "yes, 200 blocks" in two["plan"])
     blocks = [mesh_file(got(name)) for name in names]
     expect("the blocks' volume", two["volume"] == one["volume"])
@@ -275,6 +366,8 @@ uses()
 grids()
 files()
 fixtures()
+fixtures_as_text()
+made_plans()
 plans()
 whole_numbers()
 surveys()

@@ -103,7 +103,20 @@ def refusals():
             expect("the old file stays, and nothing else is there", sorted(os.listdir(".")) == before and got("out.mesh") == b"old")
     os.remove("out.mesh")
     put("bad.npy", npy(floats(bad), dims))
-    expect("the layer is named", "z 5" in bed("mesh", "bad.npy", "-o", "out.mesh", *LAYERS)[2])
+    for way in (MEMORY, LAYERS):
+        errors = bed("mesh", "bad.npy", "-o", "out.mesh", *way)[2]
+        expect(f"the bad distance is named: {errors}", errors.endswith(": the only one stands at x 3, y 4, z 5 and is NaN\n"))
+    several = list(good)
+    several[1 + 4 * (2 + 5 * 3)], several[2 + 4 * (0 + 5 * 4)], several[0] = float("-inf"), 3e37, float("nan")
+    put("bad.npy", npy(floats(several), dims))
+    for way in (MEMORY, LAYERS):
+        errors = bed("mesh", "bad.npy", "-o", "out.mesh", "--box", "1,0,0,3,4,5", *way)[2]
+        expect(f"the first of those in the box: {errors}", errors.endswith(": 2 of them, the first at x 1, y 2, z 3 is -inf\n"))
+        put("short.npy", npy(floats(good[:7]), dims))
+        errors = bed("mesh", "short.npy", "-o", "out.mesh", *way)[2]
+        expect(f"both counts: {errors}", errors.endswith(": 7 numbers are there, 4 x 5 x 6 = 120 are wanted\n"))
+        os.remove("short.npy")
+    put("bad.npy", npy(floats(bad), dims))
     one, other = both("mesh", "bad.npy", "-o", "out.mesh", "--box", "0,0,0,3,4,4")
     expect("a bad distance outside the box", one == other and one[0] == 0)
 
@@ -124,10 +137,12 @@ def uses():
     wrong("survey", ball, "-o", "out.mesh", "--fixtures", f"{TANK}/rake.fixtures", *LAYERS, says="--fixtures wants the grid in memory")
     put("half.npy", got(ball)[:-1])
     wrong("mesh", "half.npy", "-o", "out.mesh", *LAYERS, says="half.npy: ends inside a number")
-    # 512 points with a map take 4096 bytes
-    for size, layers in (("4096", False), ("4095", True), ("4K", False), ("3K", True), ("0", True), ("1M", False), ("1G", False)):
+    # the command's own four MiB, 512 points, a map of them and the mesh; how it is added up the command's own tests say
+    for size, layers in (("4194304", True), ("4096K", True), ("4M", True), ("5M", False), ("0", True), ("1M", True), ("1G", False)):
         status, output, _ = bed("survey", ball, "-o", "out.mesh", "--memory", size)
         expect(f"--memory {size}", status == 0 and ("\nlayers: " in output) == layers)
+        joined = bed("survey", ball, "--output=out.mesh", f"--memory={size}")
+        expect(f"--memory={size}", joined == (status, output, ""))
     expect("without it", "\nlayers: " not in bed("survey", ball, "-o", "out.mesh")[1])
     wanted = got("out.mesh")
     for name in ("half.npy", "out.mesh"):
@@ -175,7 +190,8 @@ def surveys():
             (("noise.npy", "--plan", "none.plan"), 0, "", "")):
         one, other = both("survey", *words, "-o", "out.mesh")
         expect(f"survey {words}: {other[2]}", one[0] == other[0] == 0 and one[2] == other[2] == "")
-        expect(f"the files of {words}", one[3] == other[3] and len(one[3]) == blocks)
+        manifest = 1 if "--plan" in words else 0
+        expect(f"the files of {words}", one[3] == other[3] and len(one[3]) == blocks + manifest and ("out.manifest" in one[3]) == bool(manifest))
         expect(f"the page of {words}", lines(one[1]) == lines(other[1]) and "\nlayers: taken one by one" in other[1])
         expect(f"what it says of {words}", f"\nhole: {hole}" in other[1] and re.search(f"^volume: {volume}", other[1], re.M))
         expect("what is not proved", "not proved: that the layers' answers" in other[1] and "not proved: that the layers" not in one[1])

@@ -1,0 +1,110 @@
+//! How much memory a work takes, so that `--memory` bounds it: the grid, and what each worker has of its own, its map of the whole
+//! grid among it.
+
+use crate::blocks::cores;
+use crate::numbers::{Header, Numbers};
+use bed::Counts;
+
+/// What the command takes whatever the grid: its code, its threads, what is read at a time.
+const OWN: u128 = 4 << 20;
+
+/// Bytes of a vertex in the lists of a call: position, normal, cell, stride, crossings.
+const VERTEX: u128 = 12 + 12 + 12 + 4 + 1;
+const INDEX: u128 = 4;
+/// Bytes of a record of a mesh file.
+const RECORD: u128 = 32;
+/// Bytes of a vertex and a triangle as PLY, and its header.
+const PLY: [u128; 3] = [25, 13, 512];
+
+/// Bytes for each point of a layer, where a block is taken layer by layer: what the library keeps, the layer as bytes and as
+/// floats, the four that the test for holes is asked with, and the most that a layer brings out, with a quarter more.
+const LAYERED: u128 = 28 + 8 + 16 + (VERTEX + 18 * INDEX) * 5 / 4;
+
+/// What is in memory of a grid.
+#[derive(Clone, Copy)]
+pub struct InMemory {
+    /// How many numbers the file holds.
+    pub count: u128,
+    pub numbers: Numbers,
+    /// Whether it is read as floats.
+    pub floats: bool,
+    /// Whether a PLY is made too.
+    pub viewed: bool,
+}
+
+impl InMemory {
+    fn grid(&self) -> u128 {
+        let each = if self.floats { 4 } else { self.numbers.bytes() };
+        self.count * each as u128
+    }
+
+    /// What a worker takes for a block with at most so many vertices and indices: a map, the lists, which may grow to twice
+    /// that, and the file.
+    fn worker(&self, most: Counts) -> u128 {
+        let (vertices, indices) = (u128::from(most.vertices), u128::from(most.indices));
+        let lists = 2 * (VERTEX * vertices + INDEX * indices);
+        let file = RECORD * (vertices + indices / 3 + 1);
+        let [vertex, triangle, header] = PLY;
+        let viewed = vertex * vertices + triangle * (indices / 3) + header;
+        4 * self.count + lists + file + if self.viewed { viewed } else { 0 }
+    }
+
+    /// Whether the grid and one map fit, before anything is known of the mesh.
+    pub fn fits(&self, memory: u128) -> bool {
+        OWN + self.grid() + self.worker(Counts::default()) <= memory
+    }
+
+    /// How many workers fit beside the grid, none where not one does. A block of a plan has no more vertices and indices than
+    /// the whole.
+    pub fn workers(&self, memory: u128, whole: Counts) -> usize {
+        let left = memory.saturating_sub(OWN + self.grid());
+        let fit = left / self.worker(whole);
+        cores().min(usize::try_from(fit).unwrap_or(usize::MAX))
+    }
+}
+
+/// How many blocks are taken layer by layer at a time: one at least.
+pub fn layered_workers(memory: u128, header: &Header) -> usize {
+    let fit = memory.saturating_sub(OWN) / (LAYERED * header.plane()).max(1);
+    cores()
+        .min(usize::try_from(fit).unwrap_or(usize::MAX))
+        .max(1)
+}
+
+#[cfg(test)]
+mod tests {
+    use super::*;
+
+    #[test]
+    fn every_worker_has_a_map() {
+        let grid = InMemory {
+            count: 1 << 20,
+            numbers: Numbers::Float32,
+            floats: false,
+            viewed: false,
+        };
+        let none = Counts::default();
+        let mib = 1 << 20;
+        assert!(!grid.fits(12 * mib) && grid.fits(13 * mib));
+        assert_eq!(grid.workers(12 * mib, none), 0);
+        assert_eq!(grid.workers(13 * mib, none), 1);
+        assert_eq!(grid.workers(1 << 60, none), cores());
+        let mesh = Counts {
+            vertices: 1 << 20,
+            indices: 6 << 20,
+        };
+        assert_eq!(grid.workers(100 * mib, mesh), 0);
+        let short = InMemory {
+            numbers: Numbers::Int16,
+            ..grid
+        };
+        assert!(
+            short.fits(11 * mib)
+                && !InMemory {
+                    floats: true,
+                    ..short
+                }
+                .fits(11 * mib)
+        );
+    }
+}

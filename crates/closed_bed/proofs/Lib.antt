@@ -1,0 +1,6 @@
+-- Theorems over the contracts of closing, of the test for holes and of the mesher: a closed bed is enclosed, is let in where the open one is, and is the same
+-- by layers. Assumes nothing.
+pub mod Values
+pub mod Enclosing
+pub mod Passing
+pub mod Joining

@@ -341,6 +341,111 @@ uint32_t bed_is_enclosed_i8(
     uint32_t max_x, uint32_t max_y, uint32_t max_z,
     bool *enclosed);
 
+/* Dimensions, a box and its max plane as one block of twelve 32-bit words, in this order, each for x, y and z.
+ * A word of max_plane is no where it is 0, and yes where it is any other number. */
+struct bed_box {
+    uint32_t dims[3];
+    uint32_t min[3];
+    uint32_t max[3];
+    uint32_t max_plane[3];
+};
+
+/* What closing a grid, or a layer, answers. The conditions are tried in this order, and the first that holds
+ * answers: 1, 71, 3, 72, 73, 74. BED_CLOSE_HEIGHT is of a layer alone. */
+enum bed_close_answer {
+    /* The closed grid, or layer, was written. */
+    BED_CLOSE_DONE = 0,
+    /* A dimension is 0 or above 16,777,217, or their product is above 1,073,741,824. */
+    BED_CLOSE_DIMENSIONS = 1,
+    /* z is not below dims[2] + 3. */
+    BED_CLOSE_HEIGHT = 71,
+    /* The grid is not as long as the product of the dimensions; or the layer not as long as it should be. */
+    BED_CLOSE_LENGTH = 3,
+    /* The wall is not a number, not above zero, or above 2^124. */
+    BED_CLOSE_WALL = 72,
+    /* The closed dimensions are such that BED_BAD_DIMENSIONS would refuse them. */
+    BED_CLOSE_TOO_LARGE = 73,
+    /* closed is shorter than the closed grid, or layer. */
+    BED_CLOSE_ROOM = 74
+};
+
+/* Closes a grid: a bed that touches floor or walls has an open skin, and a border of far points above zero,
+ * one layer at min and two at max on each axis, closes it.
+ *
+ * In:
+ *   sdf              the distances, x innermost, exactly dims[0] * dims[1] * dims[2] of them.
+ *   box              the grid's dimensions in box->dims. Nothing else of box is read.
+ *   wall             the value of every point of the border; see bed_wall_for.
+ *
+ * Lent for writing:
+ *   closed           on BED_CLOSE_DONE its first (dims[0] + 3) * (dims[1] + 3) * (dims[2] + 3) numbers are the
+ *                    closed grid: at (x + 1, y + 1, z + 1) the distance at (x, y, z), and everywhere else the
+ *                    wall. What stands past it is kept. On every other answer nothing changes.
+ *
+ * Proved: bed_is_enclosed says yes of every closed grid and its whole box, from 0, 0, 0 to its dimensions less
+ * 1, so that its mesh has no hole; and bed_surface_nets takes the closed grid where it takes the open one's
+ * distances and the map is as long as the closed grid. Positions are those of the closed grid: subtract 1 on
+ * each axis for the open one's.
+ *
+ * The lists may not overlap. Pointers are aligned for their type; box is never null, and another pointer may be
+ * null only where its length is 0.
+ */
+uint32_t bed_close(
+    const float *sdf, size_t sdf_len,
+    const struct bed_box *box, float wall,
+    float *closed, size_t closed_len);
+
+/* bed_close of signed 16-bit and of signed 8-bit distances, each number meaning the float of the same value;
+ * the closed grid is of floats. */
+uint32_t bed_close_i16(
+    const int16_t *sdf, size_t sdf_len,
+    const struct bed_box *box, float wall,
+    float *closed, size_t closed_len);
+
+uint32_t bed_close_i8(
+    const int8_t *sdf, size_t sdf_len,
+    const struct bed_box *box, float wall,
+    float *closed, size_t closed_len);
+
+/* The layer z of the closed grid, for who has the bed one layer at a time. From z = 0 to dims[2] + 2 the layers
+ * one behind the other are what bed_close writes.
+ *
+ * In:
+ *   layer            the layer z - 1 of the open grid, dims[0] * dims[1] distances; and where z is 0,
+ *                    dims[2] + 1 or dims[2] + 2, so that the closed layer is wall alone, no number at all.
+ *   box, wall        as in bed_close.
+ *
+ * Lent for writing:
+ *   closed           on BED_CLOSE_DONE its first (dims[0] + 3) * (dims[1] + 3) numbers are the closed layer.
+ */
+uint32_t bed_close_layer(
+    const float *layer, size_t layer_len,
+    const struct bed_box *box, uint32_t z, float wall,
+    float *closed, size_t closed_len);
+
+uint32_t bed_close_layer_i16(
+    const int16_t *layer, size_t layer_len,
+    const struct bed_box *box, uint32_t z, float wall,
+    float *closed, size_t closed_len);
+
+uint32_t bed_close_layer_i8(
+    const int8_t *layer, size_t layer_len,
+    const struct bed_box *box, uint32_t z, float wall,
+    float *closed, size_t closed_len);
+
+/* How deep distances lie below zero: the largest of so_far and the negated distances, in their order. Begin
+ * with 0, which is also the answer where no distance is below zero; give the answer of one layer, or grid, to
+ * the next as so_far. A distance that is not a number is passed over. */
+float bed_deepest(float so_far, const float *sdf, size_t sdf_len);
+
+float bed_deepest_i16(float so_far, const int16_t *sdf, size_t sdf_len);
+
+float bed_deepest_i8(float so_far, const int8_t *sdf, size_t sdf_len);
+
+/* A wall that is far enough for a bed that lies so deep: the least power of two that is at least 2^25 times
+ * deepest, and 2^124 where that is too small; 1.0 where deepest is not above zero. */
+float bed_wall_for(float deepest);
+
 /* A tank's block plan: the blocks that a tank's box is meshed in, each by a call of its own. */
 
 /* What checking a plan answers. BED_PLAN_LIST is tried before BED_PLAN_BOX. */

@@ -28,6 +28,9 @@ use Rattle.layers.specs.Offer.{output, left, roomIn, layerAnswer, stateAfter, l
 use Rattle.layers.specs.Words.{stateOf, wordsOn}
 use Rattle.bed.specs.Boundary.{extent, planes, roomAsked, said}
 use Rattle.bed.specs.Layered.{blockAsked, wordsStarted}
+use Rattle.bed.specs.Words12.{dimsAsked as dimsIn}
+use Rattle.closing.specs.Answers.{closeAnswer, closedRoom, layerAnswer as closedAnswer, layerRoom}
+use Rattle.closing.specs.Wall.{deepest, wallFor}
 use Rattle.bed.proofs.bed_surface_nets.Kinds as nets-kinds
 use Rattle.bed.proofs.bed_surface_nets.Reads as nets
 use Rattle.bed.proofs.wholes.bed_surface_nets_i16.Kinds as nets-i16-kinds
@@ -56,6 +59,26 @@ use Rattle.bed.proofs.files.bed_check_mesh.Kinds as check-kinds
 use Rattle.bed.proofs.files.bed_check_mesh.Reads as check
 use Rattle.bed.proofs.cut.bed_cut_fixtures.Kinds as cut-kinds
 use Rattle.bed.proofs.cut.bed_cut_fixtures.Reads as cut
+use Rattle.bed.proofs.closed.bed_close.Kinds as close-kinds
+use Rattle.bed.proofs.closed.bed_close.Reads as close-reads
+use Rattle.bed.proofs.closed.bed_close_i16.Kinds as close-i16-kinds
+use Rattle.bed.proofs.closed.bed_close_i16.Reads as close-i16-reads
+use Rattle.bed.proofs.closed.bed_close_i8.Kinds as close-i8-kinds
+use Rattle.bed.proofs.closed.bed_close_i8.Reads as close-i8-reads
+use Rattle.bed.proofs.closed.bed_close_layer.Kinds as layer-kinds
+use Rattle.bed.proofs.closed.bed_close_layer.Reads as layer-reads
+use Rattle.bed.proofs.closed.bed_close_layer_i16.Kinds as layer-i16-kinds
+use Rattle.bed.proofs.closed.bed_close_layer_i16.Reads as layer-i16-reads
+use Rattle.bed.proofs.closed.bed_close_layer_i8.Kinds as layer-i8-kinds
+use Rattle.bed.proofs.closed.bed_close_layer_i8.Reads as layer-i8-reads
+use Rattle.bed.proofs.closed.bed_deepest.Kinds as deep-kinds
+use Rattle.bed.proofs.closed.bed_deepest.Reads as deep-reads
+use Rattle.bed.proofs.closed.bed_deepest_i16.Kinds as deep-i16-kinds
+use Rattle.bed.proofs.closed.bed_deepest_i16.Reads as deep-i16-reads
+use Rattle.bed.proofs.closed.bed_deepest_i8.Kinds as deep-i8-kinds
+use Rattle.bed.proofs.closed.bed_deepest_i8.Reads as deep-i8-reads
+use Rattle.bed.proofs.closed.bed_wall_for.Kinds as wall-kinds
+use Rattle.bed.proofs.closed.bed_wall_for.Reads as wall-reads
 use Rattle.bed.proofs.layered.bed_layers_start.Kinds as start-kinds
 use Rattle.bed.proofs.layered.bed_layers_start.Reads as start
 use Rattle.bed.proofs.layered.bed_layers_offer.Kinds as offer-kinds
@@ -328,3 +351,93 @@ pub layers-offer-by-place : (u : OfferCall)
     (said (u .result) v i ≡ layerAnswer s (layer .now) m (roomIn m o)) × ((layers' ≡ wordsOn (layers .now) (stateAfter s (layer .now) m o))
     × (left (memory kd' km' kp') (output positions' normals' cells' strides' crossings' indices') ≡ leaves s (layer .now) m o)))
 layers-offer-by-place u = u .fits
+
+-- ---- bed_close: the grid, the twelve words, the wall, the room
+
+abbrev pub CloseCall : Type 0
+CloseCall = Called 3 close-kinds.ps close-kinds.r close-reads.Learnt
+
+pub close-by-place : (u : CloseCall)
+    → (let (sdf, (words, (wall, (closed, _)))) = u .args in
+    let (_, (_, (_, (left, _)))) = u .last in
+    let d = point (dimsIn (words .now)) in
+    (u .result ≡ closeAnswer d (length (sdf .now)) wall (length (closed .now))) × (left ≡ closedRoom d wall (sdf .now) (closed .now)))
+close-by-place u = u .fits
+
+abbrev pub CloseCall-i16 : Type 0
+CloseCall-i16 = Called 3 close-i16-kinds.ps close-i16-kinds.r close-i16-reads.Learnt
+
+pub close-i16-by-place : (u : CloseCall-i16)
+    → (let (sdf, (words, (wall, (closed, _)))) = u .args in
+    let (_, (_, (_, (left, _)))) = u .last in
+    let d = point (dimsIn (words .now)) in
+    (u .result ≡ closeAnswer d (length (sdf .now)) wall (length (closed .now))) × (left ≡ closedRoom d wall (asFloats (sdf .now)) (closed .now)))
+close-i16-by-place u = u .fits
+
+abbrev pub CloseCall-i8 : Type 0
+CloseCall-i8 = Called 3 close-i8-kinds.ps close-i8-kinds.r close-i8-reads.Learnt
+
+pub close-i8-by-place : (u : CloseCall-i8)
+    → (let (sdf, (words, (wall, (closed, _)))) = u .args in
+    let (_, (_, (_, (left, _)))) = u .last in
+    let d = point (dimsIn (words .now)) in
+    (u .result ≡ closeAnswer d (length (sdf .now)) wall (length (closed .now))) × (left ≡ closedRoom d wall (asFloats (sdf .now)) (closed .now)))
+close-i8-by-place u = u .fits
+
+-- ---- bed_close_layer: the layer, the twelve words, z, the wall, the room
+
+abbrev pub LayerCall : Type 0
+LayerCall = Called 3 layer-kinds.ps layer-kinds.r layer-reads.Learnt
+
+pub close-layer-by-place : (u : LayerCall)
+    → (let (layer, (words, (z, (wall, (closed, _))))) = u .args in
+    let (_, (_, (_, (_, (left, _))))) = u .last in
+    let d = point (dimsIn (words .now)) in
+    (u .result ≡ closedAnswer d z (length (layer .now)) wall (length (closed .now))) × (left ≡ layerRoom d wall z (layer .now) (closed .now)))
+close-layer-by-place u = u .fits
+
+abbrev pub LayerCall-i16 : Type 0
+LayerCall-i16 = Called 3 layer-i16-kinds.ps layer-i16-kinds.r layer-i16-reads.Learnt
+
+pub close-layer-i16-by-place : (u : LayerCall-i16)
+    → (let (layer, (words, (z, (wall, (closed, _))))) = u .args in
+    let (_, (_, (_, (_, (left, _))))) = u .last in
+    let d = point (dimsIn (words .now)) in
+    (u .result ≡ closedAnswer d z (length (layer .now)) wall (length (closed .now))) × (left ≡ layerRoom d wall z (asFloats (layer .now)) (closed .now)))
+close-layer-i16-by-place u = u .fits
+
+abbrev pub LayerCall-i8 : Type 0
+LayerCall-i8 = Called 3 layer-i8-kinds.ps layer-i8-kinds.r layer-i8-reads.Learnt
+
+pub close-layer-i8-by-place : (u : LayerCall-i8)
+    → (let (layer, (words, (z, (wall, (closed, _))))) = u .args in
+    let (_, (_, (_, (_, (left, _))))) = u .last in
+    let d = point (dimsIn (words .now)) in
+    (u .result ≡ closedAnswer d z (length (layer .now)) wall (length (closed .now))) × (left ≡ layerRoom d wall z (asFloats (layer .now)) (closed .now)))
+close-layer-i8-by-place u = u .fits
+
+-- ---- bed_deepest: what was found so far, the list; bed_wall_for: what was found
+
+abbrev pub DeepestCall : Type 0
+DeepestCall = Called 1 deep-kinds.ps deep-kinds.r deep-reads.Learnt
+
+pub deepest-by-place : (u : DeepestCall) → (let (found, (sdf, _)) = u .args in u .result ≡ deepest found (sdf .now))
+deepest-by-place u = u .fits
+
+abbrev pub DeepestCall-i16 : Type 0
+DeepestCall-i16 = Called 1 deep-i16-kinds.ps deep-i16-kinds.r deep-i16-reads.Learnt
+
+pub deepest-i16-by-place : (u : DeepestCall-i16) → (let (found, (sdf, _)) = u .args in u .result ≡ deepest found (asFloats (sdf .now)))
+deepest-i16-by-place u = u .fits
+
+abbrev pub DeepestCall-i8 : Type 0
+DeepestCall-i8 = Called 1 deep-i8-kinds.ps deep-i8-kinds.r deep-i8-reads.Learnt
+
+pub deepest-i8-by-place : (u : DeepestCall-i8) → (let (found, (sdf, _)) = u .args in u .result ≡ deepest found (asFloats (sdf .now)))
+deepest-i8-by-place u = u .fits
+
+abbrev pub WallCall : Type 0
+WallCall = Called 0 wall-kinds.ps wall-kinds.r wall-reads.Learnt
+
+pub wall-for-by-place : (u : WallCall) → (let (found, _) = u .args in u .result ≡ wallFor found)
+wall-for-by-place u = u .fits

@@ -1,5 +1,6 @@
 // The functions that C and Rust link: thin, and nothing else. A slice is a pointer and then a length; include/bed.h says the rest.
 pub mod asking;
+pub mod closed;
 pub mod cut;
 pub mod enclosed;
 pub mod files;

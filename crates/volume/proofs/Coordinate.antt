@@ -39,7 +39,7 @@ use Rattle.volume.specs.Steps.{outside, steps}
 
 -- ---- permitted: 0 ≤ x and x ≤ 128, as floats compare
 
-abbrev zero32 : Float
+abbrev pub zero32 : Float
 zero32 = fin false 0 (pos 0)
 
 abbrev top32 : Float
@@ -53,17 +53,17 @@ all-pass : (t r : Bool) → not ((t && true) && (true || r)) ≡ not t
 all-pass true r = refl
 all-pass false r = refl
 
-below-nothing : (z n b : ℕ) (r : Bool) → z ≡ 0 → 0 < b → not ((eqb z n && eqb z 0) && (ltb 0 (n + b) || r)) ≡ not (eqb n 0)
+pub below-nothing : (z n b : ℕ) (r : Bool) → z ≡ 0 → 0 < b → not ((eqb z n && eqb z 0) && (ltb 0 (n + b) || r)) ≡ not (eqb n 0)
 below-nothing z n b r e h =
     rw (e, zero-first n, is-true (ltb 0 (n + b)) (lt→ltb 0 (n + b) (omega arith))) (all-pass (eqb n 0) r)
 
-scaled-zero : (m u : ℕ) → 0 < u → eqb (m * u * 1) 0 ≡ eqb m 0
+pub scaled-zero : (m u : ℕ) → 0 < u → eqb (m * u * 1) 0 ≡ eqb m 0
 scaled-zero zero u h = ap (λ (n : ℕ). eqb (n * 1) 0) (zero-mul u)
 scaled-zero (suc m) u h =
     let k : 0 < suc m * u = mul-pos (omega arith) h in
     ne-eqb (suc m * u * 1) 0 (λ e. absurd (omega arith)) ∙ sym (eqb·suc-zero m)
 
-from-nothing : (z n : ℕ) → z ≡ 0 → (ltb z n || (eqb z n && true)) ≡ true
+pub from-nothing : (z n : ℕ) → z ≡ 0 → (ltb z n || (eqb z n && true)) ≡ true
 from-nothing z zero e = rw e refl
 from-nothing z (suc n) e = rw (e, is-true (ltb 0 (suc n)) (lt→ltb 0 (suc n) (omega arith))) refl
 
@@ -73,7 +73,7 @@ and-true true h = tt
 true-and : (t : Bool) → T (t && true) → T t
 true-and true h = tt
 
-at-most : (n b : ℕ) → not (ltb n b || (eqb n b && true)) ≡ ltb b n
+pub at-most : (n b : ℕ) → not (ltb n b || (eqb n b && true)) ≡ ltb b n
 at-most n b = same-test (not (ltb n b || (eqb n b && true))) (ltb b n) forth back
   where
     forth : T (not (ltb n b || (eqb n b && true))) → T (ltb b n)
@@ -109,7 +109,7 @@ value-steps (fin true m e) a c C h = absurd (true≢false (h .0))
 value-steps (fin false m e) a c C h =
     div-same (256 * (m * up e)) (down e) (256 * a) c (down-pos e) C (mul-assoc 256 (m * up e) c ∙ ap (λ (n : ℕ). 256 * n) (h .1) ∙ sym (mul-assoc 256 a (down e)))
 
-not-not : (t : Bool) → T (not (not t)) → T t
+pub not-not : (t : Bool) → T (not (not t)) → T t
 not-not true h = tt
 
 -- a permitted value is at most 128, and is not below zero
@@ -148,7 +148,7 @@ steps-near (fin false m e) p =
 
 -- ---- the steps by the bits' fields: exponent E and digits t
 
-steps-odd : (s : Bool) (q k : ℕ) → steps (odd 24 s q k 149) ≡ cond s 0 (256 * (q * 2 ^ k) / 2 ^ 149)
+pub steps-odd : (s : Bool) (q k : ℕ) → steps (odd 24 s q k 149) ≡ cond s 0 (256 * (q * 2 ^ k) / 2 ^ 149)
 unfolding steps odd
 steps-odd true zero k = refl
 steps-odd true (suc q) k = refl

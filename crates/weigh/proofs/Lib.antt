@@ -1,0 +1,10 @@
+-- Laws that the proofs of the code lean on, and those of the definitions. Assumes nothing.
+pub mod Coordinate
+pub mod Whole
+pub mod Words
+pub mod Terms
+pub mod Summing
+pub mod Answering
+pub mod Loop
+pub mod Unbiased
+pub mod Instances

@@ -1,0 +1,13 @@
+-- A whole number with a sign in two words of 64 bits, as a machine keeps one of 128: `highOf z` times 2^64 and `lowOf z`, which is from 0 to 2^64 - 1, are
+-- together z. Definitions only. Assumes nothing.
+use Prim.Native.Nat.{ℕ, _-_, _/_, _%_, _^_}
+use lib.IntN.{ℤ, pos, negsuc}
+
+-- `negsuc n` is -(n + 1)
+unfoldable pub highOf : ℤ → ℤ
+highOf (pos n) = pos (n / 2 ^ 64)
+highOf (negsuc n) = negsuc (n / 2 ^ 64)
+
+unfoldable pub lowOf : ℤ → ℕ
+lowOf (pos n) = n % 2 ^ 64
+lowOf (negsuc n) = 2 ^ 64 - 1 - n % 2 ^ 64

@@ -741,6 +741,60 @@ uint32_t bed_volume(
     const uint32_t *indices, size_t indices_len,
     int64_t *volume);
 
+/* What the weighing of a mesh answers. The conditions are tried in the order of their numbers and the
+ * first that holds answers. */
+enum bed_weigh_answer {
+    /* The mesh was weighed. */
+    BED_WEIGH_DONE = 0,
+    /* positions or indices are not in threes. */
+    BED_WEIGH_THREES = 61,
+    /* A coordinate, of any vertex lent, whether or not a triangle has it, is not finite or not from 0 to
+     * 16,777,216. -0.0 counts as 0. */
+    BED_WEIGH_OUTSIDE = 63,
+    /* A triangle has an index that is below first, or not below first and the number of vertices lent. */
+    BED_WEIGH_INDEX = 64,
+    /* There are more than 2^33 triangles. */
+    BED_WEIGH_TOO_MANY = 75,
+    /* A triangle's second or third corner is more than 512 steps, two grid steps, from its first in x or
+     * in y. No triangle of bed_surface_nets is. */
+    BED_WEIGH_WIDE = 76
+};
+
+/* Six times the volume that stands between the triangles of a mesh of any size and the plane z = 0, and
+ * twice their area as seen from above, as whole numbers.
+ *
+ * In:
+ *   positions        three floats a vertex, each from 0 to 16,777,216.
+ *   first            the number of the first vertex lent: 0 for a whole mesh. With another number the
+ *                    triangles of one layer are weighed from the positions of its vertices and of those
+ *                    of the layer below, whose numbers run on.
+ *   indices          three vertex numbers a triangle; the vertex v stands at positions + 3 (v - first).
+ * After bed_surface_nets these are the first 3 V and I numbers of its lists: pass those lengths and not
+ * the lists' own. A mesh that bed_surface_nets answered 0 is never refused.
+ *
+ * Out, on every answer:
+ *   sum_low, sum_high  the sum, *sum_high * 2^64 + *sum_low, in cubed steps; both 0 on every answer but
+ *                    BED_WEIGH_DONE.
+ *   shadow           twice the area seen from above, in squared steps, a triangle that turns clockwise
+ *                    there counting below zero; 0 on every answer but BED_WEIGH_DONE.
+ *
+ * Each coordinate is turned into steps of 1/256, as bed_volume does. The sum goes over the triangles a, b,
+ * c, each with (az + bz + cz) ((bx - ax) (cy - ay) - (by - ay) (cx - ax)), and the shadow with the second
+ * factor alone. Divide the sum by 6 * 256^3 for cubed grid steps. It is below 2^92 in magnitude.
+ *
+ * Where each directed side occurs as often as its reverse (bed_is_enclosed), the sum is that of bed_volume.
+ * In any case the sums of the parts of a list of triangles add up to that of the whole, and those of the
+ * pieces of a box that was cut to that of the whole box.
+ *
+ * sum_low, sum_high and shadow are never null and may not overlap each other nor the lists; a list's pointer
+ * may be null only where its length is 0.
+ */
+uint32_t bed_weigh(
+    const float *positions, size_t positions_len,
+    uint32_t first,
+    const uint32_t *indices, size_t indices_len,
+    uint64_t *sum_low, int64_t *sum_high, int64_t *shadow);
+
 /* What a bed taken layer by layer answers. A layer's conditions are tried in this order, and the first that
  * holds answers: 1, 2, 8, 3, 4, 5, 6, 7. The start gives 0, 1, 2 or 4. */
 enum bed_layers_answer {

@@ -387,6 +387,23 @@ extern "C" {
         volume: *mut i64,
     ) -> u32;
 
+    /// Six times the volume between the triangles of a mesh of any size and the plane z = 0, in two words,
+    /// twice their area seen from above, and the answer number: 0, 61, 63, 64, 75 or 76.
+    ///
+    /// # Safety
+    ///
+    /// As for [`bed_write_mesh`]; `sum_low`, `sum_high` and `shadow` are written on every answer.
+    pub fn bed_weigh(
+        positions: *const f32,
+        positions_len: usize,
+        first: u32,
+        indices: *const u32,
+        indices_len: usize,
+        sum_low: *mut u64,
+        sum_high: *mut i64,
+        shadow: *mut i64,
+    ) -> u32;
+
     /// Begins a bed that is taken layer by layer, and returns the answer number, 0, 1, 2 or 4.
     ///
     /// # Safety

@@ -26,6 +26,7 @@ use Rattle.fixtures.specs.Cut.{cutAnswer, cutGrid}
 use Rattle.layers.specs.Memory.{memory, lengths, startAnswer}
 use Rattle.layers.specs.Offer.{output, left, roomIn, layerAnswer, stateAfter, leaves}
 use Rattle.layers.specs.Words.{stateOf, wordsOn}
+use Rattle.weigh.specs.Answers.{told, weight}
 use Rattle.bed.specs.Boundary.{extent, planes, roomAsked, said}
 use Rattle.bed.specs.Layered.{blockAsked, wordsStarted}
 use Rattle.bed.specs.Words12.{dimsAsked as dimsIn}
@@ -83,6 +84,8 @@ use Rattle.bed.proofs.layered.bed_layers_start.Kinds as start-kinds
 use Rattle.bed.proofs.layered.bed_layers_start.Reads as start
 use Rattle.bed.proofs.layered.bed_layers_offer.Kinds as offer-kinds
 use Rattle.bed.proofs.layered.bed_layers_offer.Reads as offer
+use Rattle.bed.proofs.weights.bed_weigh.Kinds as weigh-kinds
+use Rattle.bed.proofs.weights.bed_weigh.Reads as weigh
 
 -- a call of a function and what it leaves: the result, and behind each `&mut` the value that it has last. `Learnt` of a function's Reads is what a
 -- caller learns from the function's own `ensures`, so this is no copy of it.
@@ -441,3 +444,14 @@ WallCall = Called 0 wall-kinds.ps wall-kinds.r wall-reads.Learnt
 
 pub wall-for-by-place : (u : WallCall) → (let (found, _) = u .args in u .result ≡ wallFor found)
 wall-for-by-place u = u .fits
+
+-- ---- bed_weigh: positions, the number of the first vertex, indices, the low and the high word of the sum, the shadow
+
+abbrev pub WeighCall : Type 0
+WeighCall = Called 5 weigh-kinds.ps weigh-kinds.r weigh.Learnt
+
+pub weigh-by-place : (u : WeighCall)
+    → (let (positions, (first, (indices, _))) = u .args in
+    let (_, (_, (_, (low, (high, (shadow, _)))))) = u .last in
+    told (u .result) low high shadow ≡ weight (positions .now) first (indices .now))
+weigh-by-place u = u .fits

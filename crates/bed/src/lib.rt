@@ -7,6 +7,7 @@ pub mod files;
 pub mod layered;
 pub mod plans;
 pub mod weighing;
+pub mod weights;
 pub mod wholes;
 
 ghost use mathlib.Core.Path.{_≡_};

@@ -72,7 +72,7 @@ module _ (p : List Float) (i j : List ℕ) (long : length j ≡ length i) (used 
 
 -- ---- turned round
 
-or-turn : (a b c r : Bool) → (a || (c || (b || r))) ≡ (a || (b || (c || r)))
+pub or-turn : (a b c r : Bool) → (a || (c || (b || r))) ≡ (a || (b || (c || r)))
 or-turn true b c r = refl
 or-turn false true true r = refl
 or-turn false true false r = refl
@@ -87,14 +87,14 @@ or-roll false true c r = refl
 or-roll false false true r = refl
 or-roll false false false r = refl
 
-round-length : (l : List ℕ) → length (turnedRound l) ≡ length l
+pub round-length : (l : List ℕ) → length (turnedRound l) ≡ length l
 unfolding turnedRound
 round-length [] = refl
 round-length (i ∷ []) = refl
 round-length (i ∷ j ∷ []) = refl
 round-length (i ∷ j ∷ k ∷ is) = ap (λ (n : ℕ). suc (suc (suc n))) (round-length is)
 
-round-some : (f : ℕ → Bool) (l : List ℕ) → some f (turnedRound l) ≡ some f l
+pub round-some : (f : ℕ → Bool) (l : List ℕ) → some f (turnedRound l) ≡ some f l
 unfolding some turnedRound
 round-some f [] = refl
 round-some f (i ∷ []) = refl
@@ -123,7 +123,7 @@ rolled-weighs p {i} {j} r = unchanged p i j (rolled-length r) (rolled-some (noVe
 
 -- ---- in another order
 
-triangles-length : (l : List ℕ) → length l % 3 ≡ 0 → length l ≡ 3 * length (triangles l)
+pub triangles-length : (l : List ℕ) → length l % 3 ≡ 0 → length l ≡ 3 * length (triangles l)
 unfolding triangles
 triangles-length [] h = refl
 triangles-length (i ∷ []) h = absurd (omega arith)
@@ -135,7 +135,7 @@ or-three true b c r = refl
 or-three false true c r = refl
 or-three false false c r = refl
 
-some-triangles : (f : ℕ → Bool) (l : List ℕ) → length l % 3 ≡ 0 → some f l ≡ some (λ (t : Triangle). f (t .first) || (f (t .second) || f (t .third))) (triangles l)
+pub some-triangles : (f : ℕ → Bool) (l : List ℕ) → length l % 3 ≡ 0 → some f l ≡ some (λ (t : Triangle). f (t .first) || (f (t .second) || f (t .third))) (triangles l)
 unfolding some triangles
 some-triangles f [] h = refl
 some-triangles f (i ∷ []) h = absurd (omega arith)
@@ -150,7 +150,7 @@ or-past true false r = refl
 or-past false true r = refl
 or-past false false r = refl
 
-perm-some : {A : Type 0} (f : A → Bool) {s t : List A} → Perm s t → some f s ≡ some f t
+pub perm-some : {A : Type 0} (f : A → Bool) {s t : List A} → Perm s t → some f s ≡ some f t
 unfolding some
 perm-some f nil = refl
 perm-some f (skip {x = x} p) = ap (λ (r : Bool). f x || r) (perm-some f p)
@@ -169,7 +169,7 @@ order-weighs p i j h k q =
 or-no : (a b : Bool) → a ≡ false → b ≡ false → (a || b) ≡ false
 or-no a b e f = ap₂ _||_ e f
 
-three-is : (n : ℕ) → n % 3 ≡ 0 → notThrees n ≡ false
+pub three-is : (n : ℕ) → n % 3 ≡ 0 → notThrees n ≡ false
 three-is n h = rw (eq-eqb (n % 3) 0 h) refl
 
 or-left : (a b : Bool) → (a || b) ≡ false → a ≡ false

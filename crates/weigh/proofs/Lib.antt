@@ -7,4 +7,6 @@ pub mod Summing
 pub mod Answering
 pub mod Loop
 pub mod Unbiased
+pub mod Laws
+pub mod Weighing
 pub mod Instances

@@ -8,7 +8,7 @@ use mir.Syntax.{w64}
 use mir.Val.{SFits, toZ, ofZ}
 use mir.Facts.{toZ-ofZ, toZ-pos}
 use Rattle.volume.proofs.Bounds.{minus-most, fits-64}
-use Rattle.weigh.specs.Words.{highOf, lowOf}
+use Rattle.weigh.specs.Words.{highOf, lowOf, wordsAs}
 use Rattle.weigh.proofs.Whole.{same-difference, above-by, below-by, Order, up, down, order}
 
 -- ---- the two words make the number
@@ -18,7 +18,7 @@ unfolding lowOf
 low-below (pos n) = omega arith
 low-below (negsuc n) = omega arith
 
-pub words-make : (z : ℤ) → highOf z *ℤ pos (2 ^ 64) +ℤ pos (lowOf z) ≡ z
+pub words-make : (z : ℤ) → wordsAs (highOf z) (lowOf z) ≡ z
 unfolding highOf lowOf
 words-make (pos n) = ap (λ (m : ℕ). pos m) {x = n / 2 ^ 64 * 2 ^ 64 + n % 2 ^ 64} {y = n} (omega arith)
 words-make (negsuc n) =
@@ -70,7 +70,7 @@ module _ (w k : ℕ) where
 
 -- ---- no other two words make it
 
-pub words-one : (z h : ℤ) (l : ℕ) → l < 2 ^ 64 → h *ℤ pos (2 ^ 64) +ℤ pos l ≡ z → (h ≡ highOf z) × (l ≡ lowOf z)
+pub words-one : (z h : ℤ) (l : ℕ) → l < 2 ^ 64 → wordsAs h l ≡ z → (h ≡ highOf z) × (l ≡ lowOf z)
 unfolding highOf lowOf
 words-one z (pos k) l b e =
     let q : k ≡ (k * 2 ^ 64 + l) / 2 ^ 64 = omega arith in

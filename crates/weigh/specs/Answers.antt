@@ -12,7 +12,7 @@ use Rattle.lists.specs.Lists.{some}
 use Rattle.volume.specs.declared.Corner.{Corner}
 use Rattle.volume.specs.Answers.{notThrees}
 use Rattle.weigh.specs.Sums.{cornerFrom, pillars, shadows}
-use Rattle.weigh.specs.Words.{highOf, lowOf}
+use Rattle.weigh.specs.Words.{highOf, lowOf, wordsAs}
 use Rattle.weigh.specs.declared.Weight.{Weight}
 
 -- 63, of one coordinate
@@ -50,12 +50,15 @@ someWide at (i ∷ []) = false
 someWide at (i ∷ j ∷ []) = false
 someWide at (i ∷ j ∷ k ∷ is) = wide (at i) (at j) (at k) || someWide at is
 
--- an answer number with the sum, in two words, and the shadow
+-- an answer number, the two words of the sum, and the shadow
+abbrev pub told : ℕ → ℕ → ℤ → ℤ → Weight
+told n low high shadow = record { answer = n; low = low; high = high; shadow = shadow }
+
 abbrev pub says : ℕ → ℤ → ℤ → Weight
-says n sum shadow = record { answer = n; low = lowOf sum; high = highOf sum; shadow = shadow }
+says n sum shadow = told n (lowOf sum) (highOf sum) shadow
 
 abbrev pub refuses : ℕ → Weight
-refuses n = record { answer = n; low = 0; high = pos 0; shadow = pos 0 }
+refuses n = told n 0 (pos 0) (pos 0)
 
 unfoldable pub weight : List Float → ℕ → List ℕ → Weight
 weight positions first indices =
@@ -65,3 +68,7 @@ weight positions first indices =
     (cond (tooMany (length indices)) (refuses 75)
     (cond (someWide (cornerFrom positions first) indices) (refuses 76)
     (says 0 (pillars positions first indices) (shadows positions first indices))))))
+
+-- the sum that an answer tells
+abbrev pub sumIn : Weight → ℤ
+sumIn w = wordsAs (w .high) (w .low)

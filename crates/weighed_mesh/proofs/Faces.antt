@@ -81,7 +81,7 @@ module _ (g : Field) (b : Box) (m : Flags) where
   xs = flatVectors (map (vertexPosition g) (vertices g b))
 
   -- a vertex's number, looked up, gives its position
-  corner-is : (c : GridPoint) → T (isCell b c) → T (surfaceCell g c) → cornerAt xs (place (samePoint c) (vertices g b)) ≡ stepsOf (vertexPosition g c)
+  pub corner-is : (c : GridPoint) → T (isCell b c) → T (surfaceCell g c) → cornerAt xs (place (samePoint c) (vertices g b)) ≡ stepsOf (vertexPosition g c)
   corner-is c t s = λ j. corner (steps (v .first j)) (steps (v .second j)) (steps (v .third j))
     where
       n : ℕ

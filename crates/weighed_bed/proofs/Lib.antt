@@ -1,0 +1,9 @@
+-- The theorems. Assumes nothing.
+pub mod Whole
+pub mod Agree
+pub mod Narrow
+pub mod Fits
+pub mod Moved
+pub mod Faces
+pub mod Cut
+pub mod Layered

@@ -1,0 +1,3 @@
+-- A call of the weighing with what came of it, and what a mesh call leaves for it.
+pub mod Told
+pub mod Layered

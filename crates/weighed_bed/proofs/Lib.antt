@@ -7,3 +7,6 @@ pub mod Moved
 pub mod Faces
 pub mod Cut
 pub mod Layered
+pub mod Outcomes
+pub mod Once
+pub mod Calls

@@ -41,14 +41,14 @@ use Rattle.weighed_bed.specs.Told.{Told, pillarsOf, shadowsOf}
 use Rattle.weighed_bed.proofs.Whole.{from-zero}
 use Rattle.weighed_bed.proofs.Narrow.{mesh-narrow}
 
-none-passes : {A : Type 0} (f : A → Bool) {l : List A} → All (λ (x : A). f x ≡ false) l → some f l ≡ false
+pub none-passes : {A : Type 0} (f : A → Bool) {l : List A} → All (λ (x : A). f x ≡ false) l → some f l ≡ false
 unfolding some
 none-passes f none = refl
 none-passes f (more {x = x} {xs = l} h hs) = or-none (f x) (some f l) h (none-passes f hs)
 
 -- ---- 63: a coordinate in a cell below 2^24
 
-in-cell-permitted : (n : ℕ) (x : Float) → n < 2 ^ 24 → InCell n x → beyond x ≡ false
+pub in-cell-permitted : (n : ℕ) (x : Float) → n < 2 ^ 24 → InCell n x → beyond x ≡ false
 unfolding beyond
 in-cell-permitted n nan l h = absurd (h .0)
 in-cell-permitted n (inf s) l h = absurd (h .0)
@@ -57,16 +57,20 @@ in-cell-permitted n (fin false m e) l h = le-ltb (16777216 * down e) (m * up e) 
 
 -- ---- 75: each vertex begins three edges at most
 
-joined-most : {A B : Type 0} (h : A → List B) (k : ℕ) → ((x : A) → length (h x) ≤ k) → (l : List A) → length (joined h l) ≤ k * length l
+pub joined-most : {A B : Type 0} (h : A → List B) (k : ℕ) → ((x : A) → length (h x) ≤ k) → (l : List A) → length (joined h l) ≤ k * length l
 unfolding joined
 joined-most h k most [] = omega arith
 joined-most h k most (x ∷ l) = omega (arith, length-append (h x) (joined h l), most x, joined-most h k most l)
 
+pub cell-edges-most : (g : Field) (b : Box) (m : Flags) (c : GridPoint) → length (cellEdges g b m c) ≤ 3
+unfolding cellEdges
+cell-edges-most g b m c = omega (arith, length-keep (gives g b m) (edgesAt c), many-most (gives g b m) (edgesAt c))
+
 edges-most : (g : Field) (b : Box) (m : Flags) → length (edges g b m) ≤ 3 * length (vertices g b)
-unfolding edges vertices layerEdges cellEdges
+unfolding edges vertices layerEdges
 edges-most g b m =
     subst (λ (l : List Edge). length l ≤ 3 * length (joined (layerVertices g b) (layers b))) (joined-joined (cellEdges g b m) (layerVertices g b) (layers b))
-    (joined-most (cellEdges g b m) 3 (λ c. omega (arith, length-keep (gives g b m) (edgesAt c), many-most (gives g b m) (edgesAt c))) (joined (layerVertices g b) (layers b)))
+    (joined-most (cellEdges g b m) 3 (cell-edges-most g b m) (joined (layerVertices g b) (layers b)))
 
 indices-length : (g : Field) (b : Box) (m : Flags) → length (indices g b m) ≡ 6 * length (edges g b m)
 indices-length g b m =

@@ -54,10 +54,10 @@ looked-up g ws c h = λ j. corner (steps (v .first j)) (steps (v .second j)) (st
         (List·getD-map (vertexPosition g) ws n c ∙ ap (vertexPosition g) (sym (samePoint-sound c (getD ws n c) (place-passes (samePoint c) ws c h))))
 
 module _ (g : Field) (b : Box) (z : ℕ) (low : b .low .z ≤ z) where
-  below-when : b .low .z < z → verticesBelow g b z ≡ layerVertices g b (z - 1)
+  pub below-when : b .low .z < z → verticesBelow g b z ≡ layerVertices g b (z - 1)
   below-when h = ap (λ (t : Bool). cond t (layerVertices g b (z - 1)) []) (is-true (ltb (b .low .z) z) (lt→ltb (b .low .z) z h))
 
-  below-none : z ≤ b .low .z → verticesBelow g b z ≡ []
+  pub below-none : z ≤ b .low .z → verticesBelow g b z ≡ []
   below-none h = ap (λ (t : Bool). cond t (layerVertices g b (z - 1)) []) (le-ltb (b .low .z) z h)
 
   first-split : layerFirst g b z + length (verticesBelow g b z) ≡ firstVertex g b z

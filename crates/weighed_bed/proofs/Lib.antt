@@ -7,6 +7,7 @@ pub mod Moved
 pub mod Faces
 pub mod Cut
 pub mod Layered
+pub mod LayerFits
 pub mod Outcomes
 pub mod Once
 pub mod Calls

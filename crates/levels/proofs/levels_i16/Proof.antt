@@ -1,0 +1,31 @@
+-- At width 16 the grid is the list's numbers as floats. Assumes nothing.
+use Rattle.grid.specs.Values.{gridOf}
+use borrow.Author.Needs.{needs}
+use Rattle.levels.proofs.levels_i16.Statement.{statement}
+use Rattle.levels.proofs.levels_i16.Tie as tie
+
+slice-aggregate-measure : tie.Need-slice-aggregate-measure
+slice-aggregate-measure c = search needs
+
+slice-aggregate-measure-2 : tie.Need-slice-aggregate-measure-2
+slice-aggregate-measure-2 c = search needs
+
+measure-requires : tie.Need-measure-requires
+measure-requires c κs = search needs
+
+same-length : tie.Need-same-length
+same-length c = c .before .before .measure .kept .1 .1 .1 .1 .1 .1 .1 .0
+
+returns : tie.Need-returns
+unfolding gridOf
+returns c = c .before .before .measure .ensures
+
+pub levels-i16-spec : {M : Type 1} → statement M
+levels-i16-spec =
+    tie.close
+    (tie.spec
+    slice-aggregate-measure
+    slice-aggregate-measure-2
+    measure-requires
+    same-length
+    returns)

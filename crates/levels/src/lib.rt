@@ -5,6 +5,7 @@ mod rising;
 
 ghost use mathlib.Core.Path.{_≡_};
 ghost use lib.ListN.{length};
+ghost use Rattle.lists.specs.Floats.{Binary32};
 ghost use Rattle.grid.specs.Block.{point, boxOf};
 ghost use Rattle.grid.specs.Values.{asFloats, gridGiven, gridBefore};
 ghost use Rattle.levels.specs.Columns.{columns, layerLevel, changed};
@@ -50,6 +51,7 @@ fn measure(
 pub fn levels(sdf: &[f32], dims: Extent, low: Extent, high: Extent, out: &mut [f32]) -> u32
     ensures { λ r. ⌜ r ≡ levelsAnswer (now (sdf .entry)) (point dims) (boxFrom low high) (length (now (out .entry))) ⌝ }
     ensures { λ _. ⌜ now (out .exit) ≡ levelsAfter (now (sdf .entry)) (point dims) (boxFrom low high) (now (out .entry)) ⌝ }
+    ensures { λ _. ⌜ Binary32 (now (sdf .entry)) ⌝ }
 {
     measure(32, sdf, &[], &[], dims, low, high, out)
 }

@@ -18,7 +18,10 @@ same-length c = c .before .before .measure .kept .1 .1 .1 .1 .1 .1 .1 .0
 
 returns : tie.Need-returns
 unfolding gridOf
-returns c = c .before .before .measure .ensures
+returns c =
+    let m = c .before .before in
+    let known = m .before .before .before .before .before in
+    (m .measure .ensures .0, (m .measure .ensures .1, λ i h. known .shared-slice-known .given i))
 
 pub levels-spec : {M : Type 1} → statement M
 levels-spec =

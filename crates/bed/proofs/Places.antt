@@ -27,6 +27,9 @@ use Rattle.layers.specs.Memory.{memory, lengths, startAnswer}
 use Rattle.layers.specs.Offer.{output, left, roomIn, layerAnswer, stateAfter, leaves}
 use Rattle.layers.specs.Words.{stateOf, wordsOn}
 use Rattle.weigh.specs.Answers.{told, weight}
+
+use Rattle.levels.specs.Call as level-specs
+use Rattle.bed.specs.Words12 as words12
 use Rattle.bed.specs.Boundary.{extent, planes, roomAsked, said}
 use Rattle.bed.specs.Layered.{blockAsked, wordsStarted}
 use Rattle.bed.specs.Words12.{dimsAsked as dimsIn}
@@ -86,6 +89,19 @@ use Rattle.bed.proofs.layered.bed_layers_offer.Kinds as offer-kinds
 use Rattle.bed.proofs.layered.bed_layers_offer.Reads as offer
 use Rattle.bed.proofs.weights.bed_weigh.Kinds as weigh-kinds
 use Rattle.bed.proofs.weights.bed_weigh.Reads as weigh
+
+use Rattle.bed.proofs.levelled.bed_levels.Kinds as levels-kinds
+use Rattle.bed.proofs.levelled.bed_levels.Reads as levels
+use Rattle.bed.proofs.levelled.bed_levels_i16.Kinds as levels-i16-kinds
+use Rattle.bed.proofs.levelled.bed_levels_i16.Reads as levels-i16
+use Rattle.bed.proofs.levelled.bed_levels_i8.Kinds as levels-i8-kinds
+use Rattle.bed.proofs.levelled.bed_levels_i8.Reads as levels-i8
+use Rattle.bed.proofs.levelled.bed_levels_layer.Kinds as levels-layer-kinds
+use Rattle.bed.proofs.levelled.bed_levels_layer.Reads as levels-layer
+use Rattle.bed.proofs.levelled.bed_levels_layer_i16.Kinds as levels-layer-i16-kinds
+use Rattle.bed.proofs.levelled.bed_levels_layer_i16.Reads as levels-layer-i16
+use Rattle.bed.proofs.levelled.bed_levels_layer_i8.Kinds as levels-layer-i8-kinds
+use Rattle.bed.proofs.levelled.bed_levels_layer_i8.Reads as levels-layer-i8
 
 -- a call of a function and what it leaves: the result, and behind each `&mut` the value that it has last. `Learnt` of a function's Reads is what a
 -- caller learns from the function's own `ensures`, so this is no copy of it.
@@ -455,3 +471,68 @@ pub weigh-by-place : (u : WeighCall)
     let (_, (_, (_, (low, (high, (shadow, _)))))) = u .last in
     told (u .result) low high shadow ≡ weight (positions .now) first (indices .now))
 weigh-by-place u = u .fits
+
+-- ---- bed_levels, bed_levels_i16, bed_levels_i8: sdf, the twelve words, the levels
+
+abbrev pub LevelsCall : Type 0
+LevelsCall = Called 3 levels-kinds.ps levels-kinds.r levels.Learnt
+
+abbrev pub LevelsCall16 : Type 0
+LevelsCall16 = Called 3 levels-i16-kinds.ps levels-i16-kinds.r levels-i16.Learnt
+
+abbrev pub LevelsCall8 : Type 0
+LevelsCall8 = Called 3 levels-i8-kinds.ps levels-i8-kinds.r levels-i8.Learnt
+
+-- what the three say of a grid, the words, the list before and after, and the answer
+abbrev pub LevelledOf : List Float → List ℕ → List Float → List Float → ℕ → Type 0
+LevelledOf grid words old left' number =
+    let d = point (words12.dimsAsked words) in
+    let b = level-specs.boxFrom (words12.lowAsked words) (words12.highAsked words) in
+    (number ≡ level-specs.levelsAnswer grid d b (length old)) × (left' ≡ level-specs.levelsAfter grid d b old)
+
+pub levels-by-place : (u : LevelsCall)
+    → (let (sdf, (words, (out, _))) = u .args in let (_, (_, (left', _))) = u .last in LevelledOf (sdf .now) (words .now) (out .now) left' (u .result))
+levels-by-place u = (u .fits .0, u .fits .1 .0)
+
+pub levels-i16-by-place : (u : LevelsCall16)
+    → (let (sdf, (words, (out, _))) = u .args in let (_, (_, (left', _))) = u .last in LevelledOf (asFloats (sdf .now)) (words .now) (out .now) left' (u .result))
+levels-i16-by-place u = u .fits
+
+pub levels-i8-by-place : (u : LevelsCall8)
+    → (let (sdf, (words, (out, _))) = u .args in let (_, (_, (left', _))) = u .last in LevelledOf (asFloats (sdf .now)) (words .now) (out .now) left' (u .result))
+levels-i8-by-place u = u .fits
+
+-- ---- bed_levels_layer, bed_levels_layer_i16, bed_levels_layer_i8: the layer below, the layer, the twelve words, z, the levels
+
+abbrev pub LevelsLayerCall : Type 0
+LevelsLayerCall = Called 4 levels-layer-kinds.ps levels-layer-kinds.r levels-layer.Learnt
+
+abbrev pub LevelsLayerCall16 : Type 0
+LevelsLayerCall16 = Called 4 levels-layer-i16-kinds.ps levels-layer-i16-kinds.r levels-layer-i16.Learnt
+
+abbrev pub LevelsLayerCall8 : Type 0
+LevelsLayerCall8 = Called 4 levels-layer-i8-kinds.ps levels-layer-i8-kinds.r levels-layer-i8.Learnt
+
+abbrev pub LayerLevelledOf : List Float → List Float → List ℕ → ℕ → List Float → List Float → ℕ → Type 0
+LayerLevelledOf below layer words z old left' number =
+    let d = point (words12.dimsAsked words) in
+    let b = level-specs.boxFrom (words12.lowAsked words) (words12.highAsked words) in
+    (number ≡ level-specs.layerAnswer below layer d b z (length old)) × (left' ≡ level-specs.layerAfter below layer d b z old)
+
+pub levels-layer-by-place : (u : LevelsLayerCall)
+    → (let (below, (layer, (words, (z, (out, _))))) = u .args in
+    let (_, (_, (_, (_, (left', _))))) = u .last in
+    LayerLevelledOf (below .now) (layer .now) (words .now) z (out .now) left' (u .result))
+levels-layer-by-place u = u .fits
+
+pub levels-layer-i16-by-place : (u : LevelsLayerCall16)
+    → (let (below, (layer, (words, (z, (out, _))))) = u .args in
+    let (_, (_, (_, (_, (left', _))))) = u .last in
+    LayerLevelledOf (asFloats (below .now)) (asFloats (layer .now)) (words .now) z (out .now) left' (u .result))
+levels-layer-i16-by-place u = u .fits
+
+pub levels-layer-i8-by-place : (u : LevelsLayerCall8)
+    → (let (below, (layer, (words, (z, (out, _))))) = u .args in
+    let (_, (_, (_, (_, (left', _))))) = u .last in
+    LayerLevelledOf (asFloats (below .now)) (asFloats (layer .now)) (words .now) z (out .now) left' (u .result))
+levels-layer-i8-by-place u = u .fits

@@ -5,6 +5,7 @@ pub mod cut;
 pub mod enclosed;
 pub mod files;
 pub mod layered;
+pub mod levelled;
 pub mod plans;
 pub mod weighing;
 pub mod weights;

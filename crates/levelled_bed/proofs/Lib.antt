@@ -1,0 +1,4 @@
+-- Theorems on the levels. Assumes nothing.
+pub mod Columns
+pub mod Bounds
+pub mod Told

@@ -27,7 +27,6 @@ use Rattle.layers.specs.Memory.{memory, lengths, startAnswer}
 use Rattle.layers.specs.Offer.{output, left, roomIn, layerAnswer, stateAfter, leaves}
 use Rattle.layers.specs.Words.{stateOf, wordsOn}
 use Rattle.weigh.specs.Answers.{told, weight}
-
 use Rattle.levels.specs.Call as level-specs
 use Rattle.bed.specs.Words12 as words12
 use Rattle.bed.specs.Boundary.{extent, planes, roomAsked, said}
@@ -89,7 +88,6 @@ use Rattle.bed.proofs.layered.bed_layers_offer.Kinds as offer-kinds
 use Rattle.bed.proofs.layered.bed_layers_offer.Reads as offer
 use Rattle.bed.proofs.weights.bed_weigh.Kinds as weigh-kinds
 use Rattle.bed.proofs.weights.bed_weigh.Reads as weigh
-
 use Rattle.bed.proofs.levelled.bed_levels.Kinds as levels-kinds
 use Rattle.bed.proofs.levelled.bed_levels.Reads as levels
 use Rattle.bed.proofs.levelled.bed_levels_i16.Kinds as levels-i16-kinds

@@ -446,6 +446,86 @@ float bed_deepest_i8(float so_far, const int8_t *sdf, size_t sdf_len);
  * deepest, and 2^124 where that is too small; 1.0 where deepest is not above zero. */
 float bed_wall_for(float deepest);
 
+/* What the levels of a bed are answered with. The conditions are tried in this order, and the first that holds
+ * answers: 1, 2, 77, 3, 5, 78. BED_LEVELS_HEIGHT is of a layer alone. */
+enum bed_levels_answer {
+    /* The levels were written. */
+    BED_LEVELS_DONE = 0,
+    /* A dimension is 0 or above 16,777,217, or their product is above 1,073,741,824. */
+    BED_LEVELS_DIMENSIONS = 1,
+    /* min is above max on an axis, or max is not below its dimension. */
+    BED_LEVELS_BOX = 2,
+    /* z is not from min[2] to max[2]. */
+    BED_LEVELS_HEIGHT = 77,
+    /* The grid is not as long as the product of the dimensions; or a layer not as long as it should be. */
+    BED_LEVELS_LENGTH = 3,
+    /* A distance in the box is not finite or is above 2^124 in magnitude. Never of whole numbers. */
+    BED_LEVELS_DISTANCE = 5,
+    /* levels is shorter than the columns. */
+    BED_LEVELS_ROOM = 78
+};
+
+/* The level of the bed in each column of a box, in grid steps from z = 0.
+ *
+ * In:
+ *   sdf              the distances, x innermost, exactly dims[0] * dims[1] * dims[2] of them.
+ *   box              dimensions, min and max. box->max_plane is not read.
+ *
+ * Lent for writing:
+ *   levels           on BED_LEVELS_DONE its first (max[0] - min[0] + 1) * (max[1] - min[1] + 1) numbers are
+ *                    the levels of the columns, x innermost: -1.0 where no point of the column is below zero;
+ *                    max[2] where the point there is; and else z + f, rounded once, where z is the highest
+ *                    point below zero and f is d / (d - e), d its distance and e that of the point above it.
+ *                    What stands past them is kept. On every other answer nothing changes.
+ *
+ * The lists may not overlap. Pointers are aligned for their type; box is never null, and another pointer may be
+ * null only where its length is 0.
+ */
+uint32_t bed_levels(
+    const float *sdf, size_t sdf_len,
+    const struct bed_box *box,
+    float *levels, size_t levels_len);
+
+/* bed_levels of signed 16-bit and of signed 8-bit distances, each number meaning the float of the same value. */
+uint32_t bed_levels_i16(
+    const int16_t *sdf, size_t sdf_len,
+    const struct bed_box *box,
+    float *levels, size_t levels_len);
+
+uint32_t bed_levels_i8(
+    const int8_t *sdf, size_t sdf_len,
+    const struct bed_box *box,
+    float *levels, size_t levels_len);
+
+/* The levels after one more layer, for who has the bed one layer at a time: offered from z = min[2] to max[2],
+ * each time with the levels as the last call left them, the layers leave what bed_levels writes.
+ *
+ * In:
+ *   below            the layer z - 1, dims[0] * dims[1] distances; and at z = min[2] no number at all.
+ *   layer            the layer z, dims[0] * dims[1] distances.
+ *   box              as in bed_levels.
+ *
+ * Lent for reading and writing:
+ *   levels           at z = min[2] what stands there does not matter.
+ */
+uint32_t bed_levels_layer(
+    const float *below, size_t below_len,
+    const float *layer, size_t layer_len,
+    const struct bed_box *box, uint32_t z,
+    float *levels, size_t levels_len);
+
+uint32_t bed_levels_layer_i16(
+    const int16_t *below, size_t below_len,
+    const int16_t *layer, size_t layer_len,
+    const struct bed_box *box, uint32_t z,
+    float *levels, size_t levels_len);
+
+uint32_t bed_levels_layer_i8(
+    const int8_t *below, size_t below_len,
+    const int8_t *layer, size_t layer_len,
+    const struct bed_box *box, uint32_t z,
+    float *levels, size_t levels_len);
+
 /* A tank's block plan: the blocks that a tank's box is meshed in, each by a call of its own. */
 
 /* What checking a plan answers. BED_PLAN_LIST is tried before BED_PLAN_BOX. */

@@ -16,30 +16,52 @@ impl Distance for i8 {}
 
 /// Public for the trait above and not reachable from outside: so it is sealed.
 pub(crate) mod functions {
-    use crate::raw::{self, Answer, IsEnclosed, SurfaceNets};
+    use crate::raw::{
+        self, Answer, Close, CloseLayer, Deepest, IsEnclosed, Levels, LevelsLayer, SurfaceNets,
+    };
 
     /// The library's functions over a kind of distance.
     pub trait Functions: Sized {
         const SURFACE_NETS: SurfaceNets<Self>;
         const IS_ENCLOSED: IsEnclosed<Self>;
         const ANSWER: Answer<Self>;
+        const CLOSE: Close<Self>;
+        const CLOSE_LAYER: CloseLayer<Self>;
+        const DEEPEST: Deepest<Self>;
+        const LEVELS: Levels<Self>;
+        const LEVELS_LAYER: LevelsLayer<Self>;
     }
 
     impl Functions for f32 {
         const SURFACE_NETS: SurfaceNets<Self> = raw::bed_surface_nets;
         const IS_ENCLOSED: IsEnclosed<Self> = raw::bed_is_enclosed;
         const ANSWER: Answer<Self> = raw::bed_answer;
+        const CLOSE: Close<Self> = raw::bed_close;
+        const CLOSE_LAYER: CloseLayer<Self> = raw::bed_close_layer;
+        const DEEPEST: Deepest<Self> = raw::bed_deepest;
+        const LEVELS: Levels<Self> = raw::bed_levels;
+        const LEVELS_LAYER: LevelsLayer<Self> = raw::bed_levels_layer;
     }
 
     impl Functions for i16 {
         const SURFACE_NETS: SurfaceNets<Self> = raw::bed_surface_nets_i16;
         const IS_ENCLOSED: IsEnclosed<Self> = raw::bed_is_enclosed_i16;
         const ANSWER: Answer<Self> = raw::bed_answer_i16;
+        const CLOSE: Close<Self> = raw::bed_close_i16;
+        const CLOSE_LAYER: CloseLayer<Self> = raw::bed_close_layer_i16;
+        const DEEPEST: Deepest<Self> = raw::bed_deepest_i16;
+        const LEVELS: Levels<Self> = raw::bed_levels_i16;
+        const LEVELS_LAYER: LevelsLayer<Self> = raw::bed_levels_layer_i16;
     }
 
     impl Functions for i8 {
         const SURFACE_NETS: SurfaceNets<Self> = raw::bed_surface_nets_i8;
         const IS_ENCLOSED: IsEnclosed<Self> = raw::bed_is_enclosed_i8;
         const ANSWER: Answer<Self> = raw::bed_answer_i8;
+        const CLOSE: Close<Self> = raw::bed_close_i8;
+        const CLOSE_LAYER: CloseLayer<Self> = raw::bed_close_layer_i8;
+        const DEEPEST: Deepest<Self> = raw::bed_deepest_i8;
+        const LEVELS: Levels<Self> = raw::bed_levels_i8;
+        const LEVELS_LAYER: LevelsLayer<Self> = raw::bed_levels_layer_i8;
     }
 }

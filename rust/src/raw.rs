@@ -4,6 +4,39 @@
 use crate::layers::Layers;
 use crate::plan::Block;
 
+/// Dimensions, a box and its max plane as twelve words, as C's `struct bed_box` lies in memory. A flag is set by any word but 0.
+#[repr(C)]
+#[derive(Clone, Copy, Debug, Default, PartialEq, Eq)]
+pub struct BedBox {
+    /// The grid's dimensions.
+    pub dims: [u32; 3],
+    /// The box's lowest corner.
+    pub min: [u32; 3],
+    /// The box's highest corner.
+    pub max: [u32; 3],
+    /// The max plane on each axis.
+    pub max_plane: [u32; 3],
+}
+
+impl BedBox {
+    /// Dimensions alone.
+    pub fn of(dims: [u32; 3]) -> Self {
+        Self {
+            dims,
+            ..Self::default()
+        }
+    }
+
+    /// Dimensions and a box.
+    pub fn with(dims: [u32; 3], min: [u32; 3], max: [u32; 3]) -> Self {
+        Self {
+            min,
+            max,
+            ..Self::of(dims)
+        }
+    }
+}
+
 extern "C" {
     /// Meshes the box min..=max of a grid into lent buffers and returns the answer number, 0 to 7.
     ///
@@ -404,6 +437,208 @@ extern "C" {
         shadow: *mut i64,
     ) -> u32;
 
+    /// Closes a grid by a border of the wall's value, and returns the answer number: 0, 1, 3, 72, 73 or 74.
+    ///
+    /// # Safety
+    ///
+    /// As for [`bed_surface_nets`]; of `block` only the dimensions are read.
+    pub fn bed_close(
+        sdf: *const f32,
+        sdf_len: usize,
+        block: *const BedBox,
+        wall: f32,
+        closed: *mut f32,
+        closed_len: usize,
+    ) -> u32;
+
+    /// [`bed_close`] of signed 16-bit distances, into floats.
+    ///
+    /// # Safety
+    ///
+    /// As for [`bed_close`].
+    pub fn bed_close_i16(
+        sdf: *const i16,
+        sdf_len: usize,
+        block: *const BedBox,
+        wall: f32,
+        closed: *mut f32,
+        closed_len: usize,
+    ) -> u32;
+
+    /// [`bed_close`] of signed 8-bit distances, into floats.
+    ///
+    /// # Safety
+    ///
+    /// As for [`bed_close`].
+    pub fn bed_close_i8(
+        sdf: *const i8,
+        sdf_len: usize,
+        block: *const BedBox,
+        wall: f32,
+        closed: *mut f32,
+        closed_len: usize,
+    ) -> u32;
+
+    /// One layer of the closed grid; the answer number is 0, 1, 71, 3, 72, 73 or 74.
+    ///
+    /// # Safety
+    ///
+    /// As for [`bed_close`].
+    pub fn bed_close_layer(
+        layer: *const f32,
+        layer_len: usize,
+        block: *const BedBox,
+        z: u32,
+        wall: f32,
+        closed: *mut f32,
+        closed_len: usize,
+    ) -> u32;
+
+    /// [`bed_close_layer`] of signed 16-bit distances, into floats.
+    ///
+    /// # Safety
+    ///
+    /// As for [`bed_close`].
+    pub fn bed_close_layer_i16(
+        layer: *const i16,
+        layer_len: usize,
+        block: *const BedBox,
+        z: u32,
+        wall: f32,
+        closed: *mut f32,
+        closed_len: usize,
+    ) -> u32;
+
+    /// [`bed_close_layer`] of signed 8-bit distances, into floats.
+    ///
+    /// # Safety
+    ///
+    /// As for [`bed_close`].
+    pub fn bed_close_layer_i8(
+        layer: *const i8,
+        layer_len: usize,
+        block: *const BedBox,
+        z: u32,
+        wall: f32,
+        closed: *mut f32,
+        closed_len: usize,
+    ) -> u32;
+
+    /// The largest magnitude below zero of some distances, or what was found so far.
+    ///
+    /// # Safety
+    ///
+    /// As for [`bed_surface_nets`].
+    pub fn bed_deepest(so_far: f32, sdf: *const f32, sdf_len: usize) -> f32;
+
+    /// [`bed_deepest`] of signed 16-bit distances.
+    ///
+    /// # Safety
+    ///
+    /// As for [`bed_deepest`].
+    pub fn bed_deepest_i16(so_far: f32, sdf: *const i16, sdf_len: usize) -> f32;
+
+    /// [`bed_deepest`] of signed 8-bit distances.
+    ///
+    /// # Safety
+    ///
+    /// As for [`bed_deepest`].
+    pub fn bed_deepest_i8(so_far: f32, sdf: *const i8, sdf_len: usize) -> f32;
+
+    /// A wall that is far enough for a bed that lies so deep.
+    ///
+    /// # Safety
+    ///
+    /// Nothing is lent.
+    pub fn bed_wall_for(deepest: f32) -> f32;
+
+    /// The level of each column of a box, and the answer number: 0, 1, 2, 3, 5 or 78.
+    ///
+    /// # Safety
+    ///
+    /// As for [`bed_surface_nets`]; the flags of `block` are not read.
+    pub fn bed_levels(
+        sdf: *const f32,
+        sdf_len: usize,
+        block: *const BedBox,
+        levels: *mut f32,
+        levels_len: usize,
+    ) -> u32;
+
+    /// [`bed_levels`] of signed 16-bit distances.
+    ///
+    /// # Safety
+    ///
+    /// As for [`bed_levels`].
+    pub fn bed_levels_i16(
+        sdf: *const i16,
+        sdf_len: usize,
+        block: *const BedBox,
+        levels: *mut f32,
+        levels_len: usize,
+    ) -> u32;
+
+    /// [`bed_levels`] of signed 8-bit distances.
+    ///
+    /// # Safety
+    ///
+    /// As for [`bed_levels`].
+    pub fn bed_levels_i8(
+        sdf: *const i8,
+        sdf_len: usize,
+        block: *const BedBox,
+        levels: *mut f32,
+        levels_len: usize,
+    ) -> u32;
+
+    /// The levels after one more layer, and the answer number: 0, 1, 2, 77, 3, 5 or 78.
+    ///
+    /// # Safety
+    ///
+    /// As for [`bed_levels`].
+    pub fn bed_levels_layer(
+        below: *const f32,
+        below_len: usize,
+        layer: *const f32,
+        layer_len: usize,
+        block: *const BedBox,
+        z: u32,
+        levels: *mut f32,
+        levels_len: usize,
+    ) -> u32;
+
+    /// [`bed_levels_layer`] of signed 16-bit distances.
+    ///
+    /// # Safety
+    ///
+    /// As for [`bed_levels`].
+    pub fn bed_levels_layer_i16(
+        below: *const i16,
+        below_len: usize,
+        layer: *const i16,
+        layer_len: usize,
+        block: *const BedBox,
+        z: u32,
+        levels: *mut f32,
+        levels_len: usize,
+    ) -> u32;
+
+    /// [`bed_levels_layer`] of signed 8-bit distances.
+    ///
+    /// # Safety
+    ///
+    /// As for [`bed_levels`].
+    pub fn bed_levels_layer_i8(
+        below: *const i8,
+        below_len: usize,
+        layer: *const i8,
+        layer_len: usize,
+        block: *const BedBox,
+        z: u32,
+        levels: *mut f32,
+        levels_len: usize,
+    ) -> u32;
+
     /// Begins a bed that is taken layer by layer, and returns the answer number, 0, 1, 2 or 4.
     ///
     /// # Safety
@@ -538,4 +773,30 @@ pub type IsEnclosed<D> = unsafe extern "C" fn(
     u32,
     u32,
     *mut bool,
+) -> u32;
+
+/// The type of [`bed_close`], and of the same function over other distances.
+pub type Close<D> =
+    unsafe extern "C" fn(*const D, usize, *const BedBox, f32, *mut f32, usize) -> u32;
+
+/// The type of [`bed_close_layer`], and of the same function over other distances.
+pub type CloseLayer<D> =
+    unsafe extern "C" fn(*const D, usize, *const BedBox, u32, f32, *mut f32, usize) -> u32;
+
+/// The type of [`bed_deepest`], and of the same function over other distances.
+pub type Deepest<D> = unsafe extern "C" fn(f32, *const D, usize) -> f32;
+
+/// The type of [`bed_levels`], and of the same function over other distances.
+pub type Levels<D> = unsafe extern "C" fn(*const D, usize, *const BedBox, *mut f32, usize) -> u32;
+
+/// The type of [`bed_levels_layer`], and of the same function over other distances.
+pub type LevelsLayer<D> = unsafe extern "C" fn(
+    *const D,
+    usize,
+    *const D,
+    usize,
+    *const BedBox,
+    u32,
+    *mut f32,
+    usize,
 ) -> u32;

@@ -131,7 +131,17 @@ mod tests {
     #[test]
     fn more_than_64_bits() {
         // 0 and 2^24 in z, 512 steps in x and y: 2^33 · 2^18 a triangle, 2^14 of them
-        let high = [0.0, 0.0, 16_777_216.0, 2.0, 0.0, 16_777_216.0, 0.0, 2.0, 0.0];
+        let high = [
+            0.0,
+            0.0,
+            16_777_216.0,
+            2.0,
+            0.0,
+            16_777_216.0,
+            0.0,
+            2.0,
+            0.0,
+        ];
         let weight = weigh(&high, 0, &[0, 1, 2].repeat(1 << 14)).unwrap();
         assert_eq!((weight.sum, weight.shadow), (1 << 65, 1 << 32));
         let turned = weigh(&high, 0, &[0, 2, 1].repeat(1 << 14)).unwrap();
@@ -141,11 +151,20 @@ mod tests {
     #[test]
     fn refusals() {
         assert_eq!(weigh(&ONE[1..], 0, &[0, 1, 9]), Err(WeighError::Threes));
-        assert_eq!(weigh(&[-1.0, 0.0, 0.0], 0, &[9, 9, 9]), Err(WeighError::Outside));
+        assert_eq!(
+            weigh(&[-1.0, 0.0, 0.0], 0, &[9, 9, 9]),
+            Err(WeighError::Outside)
+        );
         assert_eq!(weigh(&ONE, 1, &[0, 1, 2]), Err(WeighError::NoVertex));
         assert_eq!(weigh(&ONE, 0, &[0, 1, 3]), Err(WeighError::NoVertex));
         let wide = [0.0, 0.0, 0.0, 2.0, 2.0, 0.0, 0.0, 2.00390625, 0.0];
         assert_eq!(weigh(&wide, 0, &[0, 1, 2]), Err(WeighError::Wide));
-        assert_eq!(weigh(&wide, 0, &[1, 0, 2]), Ok(Weight { sum: 0, shadow: -512 * 513 }));
+        assert_eq!(
+            weigh(&wide, 0, &[1, 0, 2]),
+            Ok(Weight {
+                sum: 0,
+                shadow: -512 * 513
+            })
+        );
     }
 }

@@ -1,7 +1,8 @@
 // A state as the fifteen numbers that C keeps of it, so that whatever stands in its memory is a state.
 ghost use mathlib.Core.Path.{_≡_};
 ghost use Rattle.lists.specs.Lists.{one};
-ghost use Rattle.layers.specs.Words.{stateOf, wordsOf, wordsOn};
+ghost use Prim.Native.Nat.{_<_};
+ghost use Rattle.layers.specs.Words.{extentAt, stateOf, wordsOf, wordsOn};
 use crate::State;
 use grid::Block;
 use grid::EachAxis;
@@ -42,25 +43,25 @@ pub fn words(s: State) -> [u32; 15]
     ]
 }
 
+// Three of the numbers, by their places.
+fn extent(w: &[u32; 15], x: usize, y: usize, z: usize) -> Extent
+    requires { ⌜ (x < 15) × (y < 15) × (z < 15) ⌝ }
+    ensures { λ r. ⌜ r ≡ extentAt (now (w .entry)) x y z ⌝ }
+{
+    Extent {
+        x: w[x],
+        y: w[y],
+        z: w[z],
+    }
+}
+
 // A flag is set where its number is not 0.
 pub fn state(w: &[u32; 15]) -> State
     ensures { λ r. ⌜ r ≡ stateOf (now (w .entry)) ⌝ }
 {
-    let dims = Extent {
-        x: w[0],
-        y: w[1],
-        z: w[2],
-    };
-    let low = Extent {
-        x: w[3],
-        y: w[4],
-        z: w[5],
-    };
-    let high = Extent {
-        x: w[6],
-        y: w[7],
-        z: w[8],
-    };
+    let dims = extent(w, 0, 1, 2);
+    let low = extent(w, 3, 4, 5);
+    let high = extent(w, 6, 7, 8);
     let max_plane = EachAxis {
         x: w[9] != 0,
         y: w[10] != 0,

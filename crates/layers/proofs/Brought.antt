@@ -83,6 +83,11 @@ module _ {s : State} {layer distances : List Float} (r : Ready s layer distances
       ≡ length (layerVertices (twoLayers (take (at + length layer - at) (drop at distances)) layer (s .block) (cellsAt s)) (boxOf (s .block)) (cellsAt s))
   vertices-lent = ap length (vertices-later s layer distances later) ∙ ap (λ (lower : List Float). length (layerVertices (twoLayers lower layer k z) b z)) (sym lower-is)
 
+  pub count-lent : {count : ℕ}
+      → count ≡ length (layerVertices (twoLayers (take (at + length layer - at) (drop at distances)) layer (s .block) (cellsAt s)) (boxOf (s .block)) (cellsAt s))
+      → count ≡ length (newVertices s layer distances)
+  count-lent e = e ∙ sym vertices-lent
+
   pub marked-put : (p₀ n₀ : List Float) (c₀ st₀ cr₀ mp : List ℕ) {number : ℕ} → number ≡ newFirst s layer distances → 2 * plane (s .block) ≤ length mp
       → {p n : List Float} {c st cr q : List ℕ}
       → lists p n c st cr q ≡ marked (twoLayers (take (at + length layer - at) (drop at distances)) layer (s .block) (cellsAt s)) (boxOf (s .block)) (cellsAt s)

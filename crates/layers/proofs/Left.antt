@@ -111,6 +111,11 @@ module _ (s : State) (layer : List Float) (m : Memory) (o : Output) (e : layerAn
   unfolding stateAfter
   done-state = rw (eq-eqb (layerAnswer s layer m (roomIn m o) .number) 0 e)
 
+  -- by the code's first number and count
+  pub state-next : {first count : ℕ} → first ≡ newFirst s layer (m .distances) → count ≡ length (newVertices s layer (m .distances))
+      → advanced s first count ≡ stateAfter s layer m o
+  state-next f n = ap₂ (advanced s) f n ∙ sym done-state
+
   pub done-left : leaves s layer m o ≡ left (layerKept s layer (broughtOut s layer m o .memory)) (broughtOut s layer m o .output)
   unfolding leaves
   done-left = rw (eq-eqb (layerAnswer s layer m (roomIn m o) .number) 0 e)

@@ -105,6 +105,10 @@ module _ (sdf : List Float) (k : Block) (i : Inside sdf k) where
     pub layer-same : {lower upper : List Float} → Lends sdf k z lower upper → layerVertices (twoLayers lower upper k z) (boxOf k) z ≡ layerVertices (fieldOf sdf k) (boxOf k) z
     layer-same {lower} {upper} t = layer-alike (point (k .dims)) (two lower upper) (g .dist) b z (lent-agree sdf k i z zs t)
 
+    pub count-same : {lower upper : List Float} → Lends sdf k z lower upper → {count : ℕ} → count ≡ length (layerVertices (twoLayers lower upper k z) (boxOf k) z)
+        → count ≡ length (layerVertices (fieldOf sdf k) (boxOf k) z)
+    count-same t e = e ∙ ap length (layer-same t)
+
     -- the room of the whole lists is that of what is lent
     pub room-lent : {lower upper : List Float} {next : Next} {p n : List Float} {cs st xs mp mp' : List ℕ} → Lends sdf k z lower upper
         → Room next (length (layerVertices (fieldOf sdf k) (boxOf k) z)) (lists p n cs st xs mp)

@@ -10,7 +10,7 @@ use lib.Dec.{T}
 use lib.Ieee.{Float}
 use lib.Ieee.Bits.{is-true}
 use lib.ListN.{length, getD, take, drop, length-append, length-drop}
-use lib.Seq.{getD-take, getD-drop, length-take-le, take-all}
+use lib.Seq.{getD-take, getD-drop, length-take-le, take-all, sets}
 use Rattle.lists.specs.Lists.{over}
 use Rattle.rules.specs.Grid.{GridPoint, Box, Field, index, inBox, isCell, value}
 use Rattle.rules.specs.Cell.{Vector}
@@ -239,11 +239,21 @@ module _ (sdf : List Float) (k : Block) (i : Inside sdf k) (z : ℕ) (zs : (k .l
         before y l e = omega (arith, s .here, s .before ∙ ap (firstVertex g b) (pred y e), firstVertex-next g b y l, ap (firstVertex g b) e)
 
     -- the indices that are put are the rules'
-    pub faces-are : indicesOver (twoLayers lower upper k z) (boxOf k) (flagsOf k) first z
+    faces-are : indicesOver (twoLayers lower upper k z) (boxOf k) (flagsOf k) first z
         (record { map = take (k .dims .x * k .dims .y * z - under) (drop under mp); positions = take (3 * first - 3 * below) (drop (3 * below) ps); first = below })
         ≡ layerIndices (fieldOf sdf k) (boxOf k) (flagsOf k) first z
     faces-are = indices-are d two whole b m first z agree kept right
 
+    pub faces-put : (is : List ℕ) (at : ℕ) {ix : List ℕ}
+        → ix ≡ sets is at (indicesOver (twoLayers lower upper k z) (boxOf k) (flagsOf k) first z
+        (record { map = take (k .dims .x * k .dims .y * z - under) (drop under mp); positions = take (3 * first - 3 * below) (drop (3 * below) ps); first = below }))
+        → ix ≡ sets is at (layerIndices (fieldOf sdf k) (boxOf k) (flagsOf k) first z)
+    faces-put is at e = e ∙ ap (sets is at) faces-are
+
   pub edges-count : 6 * length (layerEdges (twoLayers lower upper k z) (boxOf k) (flagsOf k) z)
       ≡ length (layerIndices (fieldOf sdf k) (boxOf k) (flagsOf k) first z)
   edges-count = ap (λ (n : ℕ). 6 * n) (ap length (edges-alike d two whole b z agree m)) ∙ sym (layer-index-count g b m first z)
+
+  pub count-put : {used : ℕ} → used ≡ 6 * length (layerEdges (twoLayers lower upper k z) (boxOf k) (flagsOf k) z)
+      → used ≡ length (layerIndices (fieldOf sdf k) (boxOf k) (flagsOf k) first z)
+  count-put e = e ∙ edges-count

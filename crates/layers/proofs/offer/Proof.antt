@@ -8,7 +8,7 @@ use Rattle.layers.specs.Memory.{Memory, memory}
 use Rattle.layers.specs.Offer.{Output, output, roomIn, layerAnswer, newVertices, newFirst, runsOn}
 use Rattle.layers.specs.Ready.{Roomy}
 use Rattle.layers.proofs.Cells.{vertices-few, plane-small, runs-short}
-use Rattle.layers.proofs.Left.{done-roomy, done-vertices, done-state, refused-state, refused-left, kept-whole, advances}
+use Rattle.layers.proofs.Left.{done-roomy, done-vertices, state-next, refused-state, refused-left, kept-whole, advances}
 use borrow.Author.Needs.{needs}
 use Rattle.layers.proofs.offer.Statement.{statement}
 use Rattle.layers.proofs.offer.Tie as tie
@@ -146,8 +146,7 @@ returns-2 c =
     let d = done q in (
       q .before .layer-answer .ensures,
       (
-        (λ j. record { block = a .s .block; taken = a .s .taken + 1; next = first f j + count q j; first = first f j })
-            ∙ sym (done-state (a .s) (a .layer .now) (memory-of s) (output-of s) d),
+        state-next (a .s) (a .layer .now) (memory-of s) (output-of s) d (first f) (count q),
         kept-whole (a .s) (a .layer .now) (memory-of s) (output-of s) d (b .bring-out .ensures) (k .keep-layer .ensures .0) (k .keep-layer .ensures .1),
       ),
     )

@@ -1,20 +1,18 @@
 -- The parts that are lent hold the layer's vertices and those below, so that the indices are the rules'. Assumes nothing.
 use Prim.Native.Nat.{ℕ, _+_, _*_, _≤_}
 use mathlib.Core.List.{List}
-use mathlib.Core.Path.{ap, _∙_}
 use native.Mathlib.Nat.{le-refl}
 use native.Mathlib.Omega.{arith}
 use mir.Syntax.{w64}
 use mir.Val.{Fits}
 use lib.Ieee.{Float}
 use lib.ListN.{length}
-use lib.Seq.{sets}
 use Rattle.grid.specs.Block.{boxOf, flagsOf, fieldOf}
 use Rattle.grid.specs.Values.{gridOf}
 use Rattle.whole_box.specs.Layers.{Stands}
 use Rattle.grid.proofs.Places.{Place, Range}
 use Rattle.whole_box.proofs.Lent.{layer-range, lent-layers, lent-ranges, lent-parts}
-use Rattle.whole_box.proofs.Looks.{standing, below-long, faces-are, edges-count}
+use Rattle.whole_box.proofs.Looks.{standing, below-long, faces-put, edges-count, count-put}
 use Rattle.whole_box.proofs.Layer.{below-first, first-few, plane-under}
 use Rattle.whole_box.proofs.Ranges.{
   from-fits,
@@ -360,11 +358,10 @@ returns c =
     let i = s .pre .0 in
     let zs = s .pre .1 .0 in
     let t = lent-parts (a .width) (a .sdf .now) (a .sdf16 .now) (a .sdf8 .now) (a .k) (s .pre .0) (a .z) (s .pre .1 .0) (firsts p) (lasts p) in (
-      f .face-layer .ensures .0 ∙ ap (sets (a .indices .now) (a .made .indices))
-          (faces-are (grid-of s) (a .k) i (a .z) zs t (a .made .vertices) (a .made .below) (a .cells .now) (a .map .now) (a .positions .now) (stood s) (s .pre .1 .1 .0)
-          (u .part-below .result) (u .part-below .ensures .0)),
-      f .face-layer .ensures .1 ∙ edges-count (grid-of s) (a .k) i (a .z) zs t (a .made .vertices) (a .made .below) (a .cells .now) (a .map .now) (a .positions .now) (stood s)
-          (s .pre .1 .1 .0),
+      faces-put (grid-of s) (a .k) i (a .z) zs t (a .made .vertices) (a .made .below) (a .cells .now) (a .map .now) (a .positions .now) (stood s) (s .pre .1 .1 .0)
+          (u .part-below .result) (u .part-below .ensures .0) (a .indices .now) (a .made .indices) (f .face-layer .ensures .0),
+      count-put (grid-of s) (a .k) i (a .z) zs t (a .made .vertices) (a .made .below) (a .cells .now) (a .map .now) (a .positions .now) (stood s) (s .pre .1 .1 .0)
+          (f .face-layer .ensures .1),
     )
 
 pub face-part-spec : {M : Type 1} → statement M

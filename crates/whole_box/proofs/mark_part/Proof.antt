@@ -1,7 +1,6 @@
 -- The parts that are lent are the layer's, and what comes back is the layer in the whole lists. Assumes nothing.
 use Prim.Native.Nat.{ℕ, _+_, _*_, _≤_}
 use mathlib.Core.List.{List}
-use mathlib.Core.Path.{ap, _∙_}
 use native.Mathlib.Nat.{le-refl}
 use mir.Syntax.{w64}
 use mir.Val.{Fits}
@@ -10,7 +9,7 @@ use lib.ListN.{length}
 use Rattle.grid.specs.Values.{gridOf}
 use Rattle.grid.proofs.Parts.{corner-lent}
 use Rattle.grid.proofs.Places.{Place, Range}
-use Rattle.whole_box.proofs.Lent.{layer-range, lent-layers, lent-ranges, lent-parts, layer-same, room-lent, marked-back}
+use Rattle.whole_box.proofs.Lent.{layer-range, lent-layers, lent-ranges, lent-parts, count-same, room-lent, marked-back}
 use Rattle.whole_box.proofs.Ranges.{from-fits, to-fits, from-twos, to-twos, from-fours, to-fours, length-fits, number-fits}
 use borrow.Author.Needs.{needs}
 use Rattle.whole_box.proofs.mark_part.Statement.{statement}
@@ -235,7 +234,7 @@ returns c =
     let t = lent-parts (a .width) (a .sdf .now) (a .sdf16 .now) (a .sdf8 .now) (a .k) (s .pre .0) (a .z) (s .pre .1 .0) (firsts p) (lasts p) in (
       marked-back (grid-of s) (a .k) i (a .z) zs t (a .first) (a .positions .now) (a .normals .now) (a .cells .now) (a .strides .now) (a .crossings .now) (a .map .now)
           (s .pre .1 .1 .0) (m .mark-layer .ensures .0),
-      m .mark-layer .ensures .1 ∙ ap length (layer-same (grid-of s) (a .k) i (a .z) zs t),
+      count-same (grid-of s) (a .k) i (a .z) zs t (m .mark-layer .ensures .1),
     )
 
 pub mark-part-spec : {M : Type 1} → statement M

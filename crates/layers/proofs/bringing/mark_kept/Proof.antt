@@ -1,11 +1,11 @@
 -- The half of the map is lent and put back. Assumes nothing.
 use native.Mathlib.Nat.{le-trans}
-use mathlib.Core.Path.{refl, sym, _∙_}
+use mathlib.Core.Path.{refl}
 use lib.ListN.{length}
 use Rattle.grid.specs.Values.{gridOf}
 use Rattle.layers.specs.Offer.{before}
 use Rattle.layers.proofs.Cells.{Within, within-half, cells-word}
-use Rattle.layers.proofs.Brought.{room-of, lower-layers, map-corner, vertices-lent, marked-put}
+use Rattle.layers.proofs.Brought.{room-of, lower-layers, map-corner, vertices-lent, count-lent, marked-put}
 use borrow.Author.Needs.{needs}
 use Rattle.layers.proofs.bringing.mark_kept.Statement.{statement}
 use Rattle.layers.proofs.bringing.mark_kept.Tie as tie
@@ -113,7 +113,7 @@ returns c =
     let e = h .half .ensures in (
       marked-put (p .0) (p .1 .0) e (a .positions .now) (a .normals .now) (a .cells .now) (a .strides .now) (a .crossings .now) (a .map .now) (p .1 .1 .1 .0) (p .1 .1 .0)
           (m .mark-layer .ensures .0),
-      m .mark-layer .ensures .1 ∙ sym (vertices-lent (p .0) (p .1 .0) e),
+      count-lent (p .0) (p .1 .0) e (m .mark-layer .ensures .1),
     )
 
 pub mark-kept-spec : {M : Type 1} → statement M

@@ -1,0 +1,47 @@
+-- The call made, its answer and the lists that it leaves are those of crate surface_nets' function; a list keeps its length. Assumes nothing.
+use Rattle.bed.proofs.wholes.bed_surface_nets_i8.Statement.{statement}
+use Rattle.bed.proofs.wholes.bed_surface_nets_i8.Tie as tie
+
+abbrev call-of : tie.After-slice-known14 → tie.After-surface-nets-i8
+call-of c = c .before .before .before .before .before .before .before .before .before .before .before .before .before .before
+
+surface-nets-i8-requires : tie.Need-surface-nets-i8-requires
+surface-nets-i8-requires c κs = tt
+
+same-length : tie.Need-same-length
+same-length c = call-of c .surface-nets-i8 .kept .1 .1 .1 .1 .1 .0
+
+same-length-2 : tie.Need-same-length-2
+same-length-2 c = call-of c .surface-nets-i8 .kept .1 .1 .1 .1 .1 .1 .0
+
+same-length-3 : tie.Need-same-length-3
+same-length-3 c = call-of c .surface-nets-i8 .kept .1 .1 .1 .1 .1 .1 .1 .0
+
+same-length-4 : tie.Need-same-length-4
+same-length-4 c = call-of c .surface-nets-i8 .kept .1 .1 .1 .1 .1 .1 .1 .1 .0
+
+same-length-5 : tie.Need-same-length-5
+same-length-5 c = call-of c .surface-nets-i8 .kept .1 .1 .1 .1 .1 .1 .1 .1 .1 .0
+
+same-length-6 : tie.Need-same-length-6
+same-length-6 c = call-of c .surface-nets-i8 .kept .1 .1 .1 .1 .1 .1 .1 .1 .1 .1 .0
+
+same-length-7 : tie.Need-same-length-7
+same-length-7 c = call-of c .surface-nets-i8 .kept .1 .1 .1 .1 .1 .1 .1 .1 .1 .1 .1 .0
+
+returns : tie.Need-returns
+returns c = call-of c .surface-nets-i8 .ensures
+
+pub bed-surface-nets-i8-spec : {M : Type 1} → statement M
+bed-surface-nets-i8-spec =
+    tie.close
+    (tie.spec
+    surface-nets-i8-requires
+    same-length
+    same-length-2
+    same-length-3
+    same-length-4
+    same-length-5
+    same-length-6
+    same-length-7
+    returns)

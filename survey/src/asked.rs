@@ -2,9 +2,10 @@
 
 use crate::arguments::Arguments;
 use crate::failure::Failure;
-use crate::grid::{self, Source};
+use crate::grid::{self, Source, Stored};
 use crate::names;
 use crate::numbers::{Header, Numbers};
+use std::fs;
 use std::path::Path;
 
 pub const GRID_OPTIONS: [&str; 2] = ["--dims", "--type"];
@@ -28,6 +29,15 @@ pub fn open_grid(arguments: &Arguments, place: usize, hashed: bool) -> Result<So
         dims.map(|dims| Header { dims, numbers }),
         hashed,
     )
+}
+
+/// Opens the grid that stands at this place once more, to be read from its file. A pipe would wait for another writer.
+pub fn open_stored(arguments: &Arguments, place: usize) -> Result<Stored, Failure> {
+    let path = arguments.file(place);
+    if !fs::metadata(path).is_ok_and(|found| found.is_file()) {
+        return Err(Failure::file(path, grid::ONCE));
+    }
+    open_grid(arguments, place, false)?.stored()
 }
 
 /// A file that is written is none that is read and no other that is written.

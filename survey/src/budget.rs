@@ -3,7 +3,7 @@
 
 use crate::blocks::cores;
 use crate::numbers::{Header, Numbers};
-use bed::Counts;
+use bed::{Block, Counts};
 
 /// What the command takes whatever the grid: its code, its threads, what is read at a time.
 const OWN: u128 = 4 << 20;
@@ -54,12 +54,31 @@ impl InMemory {
         OWN + self.grid() + self.worker(Counts::default()) <= memory
     }
 
-    /// How many workers fit beside the grid, none where not one does. A block of a plan has no more vertices and indices than
-    /// the whole.
-    pub fn workers(&self, memory: u128, whole: Counts) -> usize {
+    /// How many workers fit beside the grid, none where not one does, where no block has more vertices and indices.
+    pub fn workers(&self, memory: u128, most: Counts) -> usize {
         let left = memory.saturating_sub(OWN + self.grid());
-        let fit = left / self.worker(whole);
+        let fit = left / self.worker(most);
         cores().min(usize::try_from(fit).unwrap_or(usize::MAX))
+    }
+}
+
+/// The most vertices and indices of a block of a plan, by what the whole has. A block that owns an edge lies in the whole, and has
+/// no more than it. One that owns none, which is a single cell thick or flat, may stand anywhere: it has no triangle, and a vertex
+/// a cell at most.
+pub fn most(whole: Counts, blocks: &[Block]) -> Counts {
+    let thin = blocks.iter().filter_map(|block| {
+        let cells: [u64; 3] =
+            std::array::from_fn(|axis| u64::from(block.max[axis].saturating_sub(block.min[axis])));
+        let thin = cells.iter().any(|&count| count <= 1);
+        thin.then(|| {
+            cells
+                .iter()
+                .fold(1, |product: u64, &count| product.saturating_mul(count))
+        })
+    });
+    Counts {
+        vertices: thin.max().unwrap_or(0).max(whole.vertices),
+        indices: whole.indices,
     }
 }
 

@@ -70,6 +70,8 @@ pub fn open(path: &Path, raw: Option<Header>, hashed: bool) -> Result<Source, Fa
 }
 
 const HALF_A_NUMBER: &str = "ends inside a number";
+pub const ONCE: &str =
+    "is no plain file and cannot be read twice, as a grid larger than --memory is";
 /// Bytes that are read at a time: whole numbers of each kind.
 const AT_A_TIME: usize = 1 << 18;
 
@@ -126,9 +128,7 @@ impl Source {
         let file = self.file.into_inner().file;
         let found = file.metadata().map_err(|error| fail(&error.to_string()))?;
         if !found.is_file() {
-            return Err(fail(
-                "is no plain file and cannot be read twice, as a grid larger than --memory is",
-            ));
+            return Err(fail(ONCE));
         }
         let bytes = found.len().saturating_sub(start);
         let each = self.header.numbers.bytes() as u64;

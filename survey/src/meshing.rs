@@ -1,7 +1,7 @@
 //! `bed mesh`: one box of a grid, in memory or layer by layer.
 
 use crate::arguments::Arguments;
-use crate::asked::{apart, open_grid, options};
+use crate::asked::{apart, open_grid, open_stored, options};
 use crate::budget::InMemory;
 use crate::failure::Failure;
 use crate::grid::{Grid, Stored};
@@ -59,7 +59,7 @@ pub fn mesh(words: &[OsString]) -> Result<String, Failure> {
         return meshed.in_memory(&grid);
     }
     drop(grid);
-    meshed.by_layers(&open_grid(&arguments, 0, false)?.stored()?)
+    meshed.by_layers(&open_stored(&arguments, 0)?)
 }
 
 pub fn counted(vertices: u64, triangles: u64) -> String {

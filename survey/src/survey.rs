@@ -1,8 +1,8 @@
 //! The survey: a grid in memory, or one that stays in its file; as a whole, or in the blocks of a plan.
 
 use crate::arguments::Arguments;
-use crate::asked::{apart, open_grid, options, step};
-use crate::budget::{layered_workers, InMemory};
+use crate::asked::{apart, open_grid, open_stored, options, step};
+use crate::budget::{self, layered_workers, InMemory};
 use crate::enclosing::Enclosing;
 use crate::failure::Failure;
 use crate::grid::{Grid, Source, Stored};
@@ -57,7 +57,7 @@ pub fn survey(words: &[OsString]) -> Result<String, Failure> {
             cut_out(fixtures, name, &mut grid)?;
         }
         let needed = accepted(&grid, &survey.whole, || survey.whole_in_words())?;
-        match in_memory.workers(memory, needed) {
+        match in_memory.workers(memory, budget::most(needed, &survey.blocks)) {
             0 => None,
             workers => Some(survey.in_memory(&grid, needed, workers)?),
         }
@@ -74,7 +74,7 @@ pub fn survey(words: &[OsString]) -> Result<String, Failure> {
             )))
         }
         None => {
-            let stored = open_grid(&arguments, 0, false)?.stored()?;
+            let stored = open_stored(&arguments, 0)?;
             survey.by_layers(&stored, layered_workers(memory, &header))?
         }
     };

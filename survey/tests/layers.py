@@ -155,6 +155,20 @@ def uses():
         feeding.join()
         expect(f"a pipe {way}: {end}", end[0] == status and (status == 0 or "pipe: is no plain file and cannot be read twice" in end[2]))
     expect("the pipe's mesh", got("out.mesh") == wanted)
+    # in memory the grid would fit, its mesh not: the pipe is read, and cannot be read again
+    put("noise.npy", npy(random.randbytes(40 ** 3), (40,) * 3, "|i1"))
+    for command in ("mesh", "survey"):
+        feeding = threading.Thread(target=fed, args=(got("noise.npy"),))
+        feeding.start()
+        status, _, errors = bed(command, "pipe", "-o", "out.mesh", "--memory", "5M")
+        feeding.join()
+        expect(f"a pipe with a large mesh, {command}: {errors}", status == 2 and "cannot be read twice" in errors)
+        status, output, _ = bed(command, "noise.npy", "-o", "noise.mesh", "--memory", "5M")
+        in_layers = got("noise.mesh")
+        expect(f"a large mesh, {command}", status == 0 and bed(command, "noise.npy", "-o", "noise.mesh", "--memory", "4G")[0] == 0
+               and got("noise.mesh") == in_layers and (command == "mesh" or "\nlayers: " in output))
+    for name in ("noise.npy", "noise.mesh"):
+        os.remove(name)
     os.remove("pipe")
     os.remove("out.mesh")
 

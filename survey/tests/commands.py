@@ -39,6 +39,9 @@ def helps():
     expect("one version", version == f"bed {re.search('BED_VERSION .(.*).$', source, re.M)[1]}\n")
     expect("python's version", f'VERSION = "{version[4:-1]}"' in open(f"{HERE}/../../python/bed.py").read())
     expect("rust's version", f'version = "{version[4:-1]}"' in open(f"{HERE}/../../rust/Cargo.toml").read())
+    expect("the package's version", f'version = "{version[4:-1]}"' in open(f"{HERE}/../../python/pyproject.toml").read())
+    parts = [re.search(f"BED_VERSION_{part} (.*)$", source, re.M)[1] for part in ("MAJOR", "MINOR", "PATCH")]
+    expect("the header's numbers", ".".join(parts) == version[4:-1])
     expect("help", bed("--help")[0] == 0)
     for command in "survey mesh info volume ply plan cut fixtures".split():
         status, output, errors = bed(command, "--help")

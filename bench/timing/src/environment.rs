@@ -12,7 +12,7 @@ pub fn print() {
     let (mut guarded, mut bare) = (Vec::new(), Vec::new());
     for _ in 0..ROUNDS {
         guarded.push(nanoseconds(|| {
-            is_enclosed(black_box(&[]), [0; 3], [0; 3], [0; 3]).is_err()
+            is_enclosed::<f32>(black_box(&[]), [0; 3], [0; 3], [0; 3]).is_err()
         }));
         bare.push(nanoseconds(refused_without_guard));
     }

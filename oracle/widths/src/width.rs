@@ -47,7 +47,7 @@ impl Whole for i16 {
     const LEAST: i32 = i16::MIN as i32;
     const MOST: i32 = i16::MAX as i32;
     const ZERO: Self = 0;
-    const WRAPPED: Wrapped<Self> = bed::surface_nets_i16;
+    const WRAPPED: Wrapped<Self> = bed::surface_nets::<i16>;
     const SOME: [i32; 256] = some(Self::LEAST, Self::MOST);
 
     fn of(distance: f32) -> Self {
@@ -60,7 +60,7 @@ impl Whole for i8 {
     const LEAST: i32 = i8::MIN as i32;
     const MOST: i32 = i8::MAX as i32;
     const ZERO: Self = 0;
-    const WRAPPED: Wrapped<Self> = bed::surface_nets_i8;
+    const WRAPPED: Wrapped<Self> = bed::surface_nets::<i8>;
     const SOME: [i32; 256] = some(Self::LEAST, Self::MOST);
 
     fn of(distance: f32) -> Self {

@@ -78,7 +78,7 @@ fn view(words: &[OsString]) -> Result<String, Failure> {
 fn plan(words: &[OsString]) -> Result<String, Failure> {
     // With --make there is one file, the grid; else the plan stands before it.
     let options = options(["--make", "-o", "--max-plane"]);
-    let making = words
+    let making = before_files(words)
         .iter()
         .any(|word| word.as_encoded_bytes().starts_with(b"--make"));
     let arguments = Arguments::read("plan", words, if making { 1 } else { 2 }, &options)?;

@@ -19,7 +19,7 @@ use crate::kept;
 use crate::names::folder_of;
 use crate::page::Weighed;
 use crate::sha256::Digest;
-use crate::words::letters;
+use crate::words::{self, letters};
 use bed::{Block, VolumeError};
 use std::collections::BTreeMap;
 use std::ffi::{OsStr, OsString};
@@ -29,6 +29,9 @@ use std::os::unix::ffi::{OsStrExt, OsStringExt};
 use std::path::{Path, PathBuf};
 
 const FIRST: &str = "bed manifest 1\n";
+
+/// The most blocks of a plan: the library refuses more.
+const BLOCKS: usize = 200;
 
 /// BED.mesh becomes BED.001.mesh.
 pub fn numbered(output: &Path, number: usize) -> PathBuf {
@@ -246,14 +249,19 @@ fn standing(output: &Path, plain: bool) -> Result<Vec<OsString>, Failure> {
             .as_bytes()
             .strip_prefix(before.as_bytes())
             .and_then(|rest| rest.strip_suffix(after.as_bytes()));
-        let with_number =
-            number.is_some_and(|word| word.len() >= 3 && word.iter().all(u8::is_ascii_digit));
+        let with_number = number.is_some_and(of_a_block);
         if with_number || plain && Some(last.as_os_str()) == output.file_name() {
             found.push(last);
         }
     }
     found.sort();
     Ok(found)
+}
+
+/// Whether this is the number of a block, as [`numbered`] writes it. Any other, a year for one, is in nobody's way.
+fn of_a_block(word: &[u8]) -> bool {
+    let number = std::str::from_utf8(word).ok().and_then(words::number);
+    word.len() == 3 && number.is_some_and(|number: usize| (1..=BLOCKS).contains(&number))
 }
 
 #[cfg(test)]

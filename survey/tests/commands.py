@@ -248,6 +248,7 @@ def made_plans():
     wrong("plan", "--make", "1,0,1", "odd.npy", says="1 to 9 blocks on y")
     wrong("plan", "--make", "1,1", "odd.npy", says="--make")
     wrong("plan", "made.plan", "odd.npy", "-o", "never.plan", says="-o is for --make")
+    wrong("plan", "--", "--make", "odd.npy", says="--make: No such file")
     put("marked.plan", b"\xef\xbb\xbf" + got("made.plan"))
     expect("a mark at the head", bed("plan", "marked.plan", "odd.npy") == bed("plan", "made.plan", "odd.npy"))
 

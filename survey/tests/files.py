@@ -149,10 +149,11 @@ def manifests():
     before = all_files()
     expect("refused", bed("survey", "bad.npy", "--plan", "halves.plan", "-o", "bed.mesh")[0] == 1 and all_files() == before)
     # other names in the folder are nobody's
-    for name in ("bed.01.mesh", "bed.0000.ply", "bed.abc.mesh", "other.001.mesh", "bed.001.mesh.txt"):
+    others = "bed.01.mesh", "bed.0000.ply", "bed.abc.mesh", "other.001.mesh", "bed.001.mesh.txt", "bed.2024.mesh", "bed.000.mesh", "bed.201.mesh", "bed.+01.mesh"
+    for name in others:
         put(name, b"other")
     expect("others stay", bed("survey", "ball.npy", "--plan", "halves.plan", "-o", "bed.mesh")[0] == 0 and
-           sum(content == b"other" for content in all_files().values()) == 5 and not os.path.exists("bed.003.mesh"))
+           sum(content == b"other" for content in all_files().values()) == len(others) and not os.path.exists("bed.003.mesh"))
     clear()
 
 

@@ -18,7 +18,7 @@ use Rattle.lists.proofs.Runs.{upTo-none, joined-last}
 use Rattle.rules.specs.Grid.{GridPoint, Field, index, pointAt, between, value}
 use Rattle.closing.specs.Closed.{closedDims, pointCount, layerCount, inOpen, openPoint, openField, closedValue, closedField, closedList, layerField, closedLayer}
 use Rattle.closing.specs.Runs.{spread}
-use Rattle.closing.proofs.Spread.{spread-none, spread-join, spread-same}
+use Rattle.closing.proofs.Spread.{length-spread, spread-none, spread-join, spread-same}
 use Rattle.closed_bed.proofs.Values.{value-open, value-wall}
 use Rattle.closed_bed.proofs.Enclosing.{OpenPoint, open-point}
 
@@ -92,3 +92,7 @@ module _ (d : GridPoint) (sdf : List Float) (wall : Float) where
   pub layers-joined : joined (λ z. closedLayer d wall z (layerOf d sdf z)) (upTo 0 (d .z + 3)) ≡ closedList whole wall
   unfolding closedList spread
   layers-joined = layers-to (d .z + 3)
+
+pub closed-layer-long : (d : GridPoint) (wall : Float) (z : ℕ) (layer : List Float) → length (closedLayer d wall z layer) ≡ layerCount (closedDims d)
+unfolding closedLayer spread
+closed-layer-long d wall z layer = length-spread (λ i. closedField (layerField d (z - 1) layer) wall .dist (layerCount (closedDims d) * z + i)) (layerCount (closedDims d))

@@ -4,3 +4,5 @@ pub mod Values
 pub mod Enclosing
 pub mod Passing
 pub mod Joining
+pub mod Outcome
+pub mod Calls

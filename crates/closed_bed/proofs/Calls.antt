@@ -28,11 +28,13 @@ use Rattle.closing.proofs.Answers.{layer-done}
 use Rattle.closed_mesh.proofs.Outcome.{Input, Mesh, meshInput, meshAnswer, meshExit, Test, testInput}
 use Rattle.closed_mesh.proofs.Closed.{Even, mesh-closed-yes}
 use Rattle.closed_mesh.proofs.Calls.{mesh-is}
-use Rattle.closed_bed.proofs.Values.{wholeBox, Closes, call-accepted, call-closed}
+use Rattle.closed_bed.specs.Standing.{wholeBox}
+use Rattle.closed_bed.specs.Layers.{layerOf}
+use Rattle.closed_bed.proofs.Values.{Closes, call-accepted, call-closed}
 use Rattle.closed_bed.proofs.Enclosing.{closed-judged}
 use Rattle.closed_bed.proofs.Passing.{closed-passes}
 use Rattle.closed_bed.proofs.Outcome.{closedExtent, origin, farCorner, closedInput, Close, closeDims, closeExit, close-is, Close16, closeDims16, closeExit16, close-is-16, Close8, closeDims8, closeExit8, close-is-8, CloseLayer, layerExit}
-use Rattle.closed_bed.proofs.Joining.{layerOf, closed-layer-long, layers-joined}
+use Rattle.closed_bed.proofs.Joining.{closed-layer-long, layers-joined}
 
 -- the test and the mesh of the same input
 tested : (t : Test) {i : Input} → testInput t ≡ i → examined (i .sdf) (i .dims) (i .low) (i .high) ≡ answers 0 true → t .result ≡ answers 0 true

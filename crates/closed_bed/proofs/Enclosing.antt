@@ -23,7 +23,8 @@ use Rattle.skin.specs.Scan.{answers, judged}
 use Rattle.skin.proofs.Premise.{enclosed-if}
 use Rattle.closing.specs.Closed.{closedDims, pointCount, inOpen, openPoint, openField, closedValue, closedList}
 use Rattle.closing.specs.Answers.{badWall, badClosed}
-use Rattle.closed_bed.proofs.Values.{wholeBox, closed-long, closed-point, value-open, value-wall, wall-above}
+use Rattle.closed_bed.specs.Standing.{wholeBox}
+use Rattle.closed_bed.proofs.Values.{closed-long, closed-point, value-open, value-wall, wall-above}
 
 -- ---- what is above zero is not below it
 

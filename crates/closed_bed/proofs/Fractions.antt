@@ -44,6 +44,7 @@ use Rattle.rounding.proofs.Sign.{round-neg}
 use Rattle.rounding.proofs.Bounds.{at-most, at-least, rounds-below, holds-steps, holds-held}
 use Rattle.rounding.proofs.Operations.{gap-up, gap-down, div-at, div-is}
 use Rattle.closing.specs.Wall.{wallAt}
+use Rattle.closed_bed.specs.Standing.{Deep}
 use Rattle.closed_bed.proofs.Tiny.{Tiny}
 
 -- ---- a power of two, and 2 ^ -24 of it more, is a tie that goes to the power: by computing, for each power that a wall can be
@@ -109,10 +110,6 @@ wall-held k h = (is-test (fits binary32 (wallAt k)) (all-below wallFits 249 fits
 
 -- ---- the sum of the two sizes
 
--- 2 ^ 25 times the size of d is at most the wall
-abbrev pub Deep : Float → Float → Type 0
-Deep wall d = num d * 2 ^ 25 * den wall ≤ num wall * den d
-
 -- U / D is the wall, n / e the distance
 under : (U D n e A : ℕ) → n * (A * 2) * D ≤ U * e → (U * e + n * D) * (A * D) ≤ (A + 1) * U * (D * e)
 under U D n e A h =
@@ -156,12 +153,12 @@ module _ (k : ℕ) (few : k < 249) (held : Held binary32 (wallAt k)) where
       let C0 : 0 < C = subst (λ (z : ℕ). 0 < z) (sym c) (mul-pos (den-pos wall) (den-pos d)) in
       let u : num wall ≡ U = one-mul U in
       let most =
-          rounds-below binary32 N C ((2 ^ 24 + 1) * U) (2 ^ 24 * D) U D C0 (mul-pos (pow-pos 24) (down-pos (exponent k))) (down-pos (exponent k)) (ties k few)
-          (subst (λ (z : ℕ). z * (2 ^ 24 * D) ≤ (2 ^ 24 + 1) * U * C) (sym (n ∙ ap (λ (z : ℕ). z * den d + num d * D) u))
-          (subst (λ (z : ℕ). (U * den d + num d * D) * (2 ^ 24 * D) ≤ (2 ^ 24 + 1) * U * z) (sym c) (under U D (num d) (den d) (2 ^ 24) (subst (λ (z : ℕ). num d * 2 ^ 25 * D ≤ z * den d) u h)))) in
+      rounds-below binary32 N C ((2 ^ 24 + 1) * U) (2 ^ 24 * D) U D C0 (mul-pos (pow-pos 24) (down-pos (exponent k))) (down-pos (exponent k)) (ties k few)
+      (subst (λ (z : ℕ). z * (2 ^ 24 * D) ≤ (2 ^ 24 + 1) * U * C) (sym (n ∙ ap (λ (z : ℕ). z * den d + num d * D) u))
+      (subst (λ (z : ℕ). (U * den d + num d * D) * (2 ^ 24 * D) ≤ (2 ^ 24 + 1) * U * z) (sym c) (under U D (num d) (den d) (2 ^ 24) (subst (λ (z : ℕ). num d * 2 ^ 25 * D ≤ z * den d) u h)))) in
       let least =
-          at-least binary32 (num wall) D N C (holds-held binary32 wall held) (down-pos (exponent k)) C0
-          (subst (λ (z : ℕ). num wall * z ≤ N * D) (sym c) (subst (λ (z : ℕ). num wall * (D * den d) ≤ z * D) (sym n) (over (num wall) D (num d) (den d)))) (most .0) in
+      at-least binary32 (num wall) D N C (holds-held binary32 wall held) (down-pos (exponent k)) C0
+      (subst (λ (z : ℕ). num wall * z ≤ N * D) (sym c) (subst (λ (z : ℕ). num wall * (D * den d) ≤ z * D) (sym n) (over (num wall) D (num d) (den d)))) (most .0) in
       record { clear = most .0; size = le-antisymm (subst (λ (z : ℕ). num (round binary32 false N C) * D ≤ z * den (round binary32 false N C)) (sym u) (most .1)) least }
 
   wall-some : 0 < num wall

@@ -19,12 +19,9 @@ use Rattle.rules.specs.Grid.{GridPoint, Field, index, pointAt, between, value}
 use Rattle.closing.specs.Closed.{closedDims, pointCount, layerCount, inOpen, openPoint, openField, closedValue, closedField, closedList, layerField, closedLayer}
 use Rattle.closing.specs.Runs.{spread}
 use Rattle.closing.proofs.Spread.{length-spread, spread-none, spread-join, spread-same}
+use Rattle.closed_bed.specs.Layers.{layerOf}
 use Rattle.closed_bed.proofs.Values.{value-open, value-wall}
 use Rattle.closed_bed.proofs.Enclosing.{OpenPoint, open-point}
-
--- what the closed layer z is made from: the layer z - 1 of the open grid, and nothing where it is wall
-abbrev pub layerOf : GridPoint → List Float → ℕ → List Float
-layerOf d sdf z = cond (between 1 (d .z) z) (take (layerCount d) (drop (layerCount d * (z - 1)) sdf)) []
 
 in-between : (n k : ℕ) → 1 ≤ k → k ≤ n → T (between 1 n k)
 in-between n k h i = and-i (leb 1 k) (leb k n) (le→leb 1 k h) (le→leb k n i)

@@ -84,7 +84,7 @@ near-value X D G L a c P L0 e g =
 few-digits : (a c : ℕ) → 0 < c → a < c → drop 24 (a * 2 ^ 149) c + 24 ≤ 149
 few-digits a c C h =
     let s : size (a * 2 ^ 149 / c) ≤ 149 =
-        size-le (a * 2 ^ 149 / c) 149 (div-lt-iff-lt-mul C .1 (lt-of-lt-of-le (mul-lt-mul-of-pos-right h (pow-pos 149)) (le-of-eq (mul-comm c (2 ^ 149))))) in
+    size-le (a * 2 ^ 149 / c) 149 (div-lt-iff-lt-mul C .1 (lt-of-lt-of-le (mul-lt-mul-of-pos-right h (pow-pos 149)) (le-of-eq (mul-comm c (2 ^ 149))))) in
     omega arith
 
 under-one : (a c : ℕ) → 0 < c → a < c → a * 2 ^ 25 * den (round binary32 false a c) ≤ (num (round binary32 false a c) * 2 ^ 25 + den (round binary32 false a c)) * c
@@ -94,7 +94,7 @@ under-one a c C h =
     let k = drop 24 n c in
     let small : a ≤ 1 * c = le-trans (omega arith) (le-of-eq (sym (one-mul c))) in
     let v : num x * 2 ^ 149 ≡ grid binary32 a c * den x =
-        value→cross x (grid binary32 a c) (2 ^ 149) (round-val binary32 a c (round-under binary32 a c (plain-finite x (up-to binary32 1 a c (holds-whole binary32 1 (lit≤ tt)) C small .0)))) in
+    value→cross x (grid binary32 a c) (2 ^ 149) (round-val binary32 a c (round-under binary32 a c (plain-finite x (up-to binary32 1 a c (holds-whole binary32 1 (lit≤ tt)) C small .0)))) in
     let t : 2 ^ k * 2 ^ 24 ≤ 2 ^ 149 = le-trans (le-of-eq (sym (pow-add 2 k 24))) (pow-mono (few-digits a c C h)) in
     near-value (num x) (den x) (grid binary32 a c) (2 ^ 149) a c (2 ^ 25) (pow-pos 149) v
     (near-units (kept 24 n c) c (2 ^ k) n (2 ^ 24) (2 ^ 149) t (half-below n (c * 2 ^ k) (mul-pos C (pow-pos k))))
@@ -138,7 +138,7 @@ mul-one-least (fin false m e) h w =
     let is : mul binary32 x one32 ≡ round binary32 false N C = mul-is binary32 x one32 tt tt in
     let v = exact binary32 false (num x) (den x) (holds-held binary32 x h) in
     let same : round binary32 false N C ≡ round binary32 false (num x) (den x) =
-        round-same binary32 false N C (num x) (den x) (mul-pos (den-pos x) (lit< tt)) (den-pos x) (ap (λ (z : ℕ). z * den x) (mul-one (num x)) ∙ ap (λ (z : ℕ). num x * z) (sym (mul-one (den x)))) in
+    round-same binary32 false N C (num x) (den x) (mul-pos (den-pos x) (lit< tt)) (den-pos x) (ap (λ (z : ℕ). z * den x) (mul-one (num x)) ∙ ap (λ (z : ℕ). num x * z) (sym (mul-one (den x)))) in
     subst (λ (y : Float). num x * den y ≤ num y * den x) (sym (is ∙ same)) (le-of-eq (sym (value→cross (round binary32 false (num x) (den x)) (num x) (den x) v)))
 
 pub one-kept : (t : Float) → Held binary32 t → Share t → add binary32 (mul binary32 (sub binary32 one32 t) one32) (mul binary32 t one32) ≡ one32
@@ -156,13 +156,13 @@ one-kept t k h =
     let C = den p * den q in
     let is : S ≡ round binary32 false N C = add-is binary32 p q pu qw in
     let near : (den t - num t) * 2 ^ 25 * den g ≤ (num g * 2 ^ 25 + den g) * den t =
-        subst (λ (x : Float). (den t - num t) * 2 ^ 25 * den x ≤ (num x * 2 ^ 25 + den x) * den t) (sym (one-less binary32 t h)) (near-below (den t - num t) (den t) (den-pos t) (sub-le (den t) (num t))) in
+    subst (λ (x : Float). (den t - num t) * 2 ^ 25 * den x ≤ (num x * 2 ^ 25 + den x) * den t) (sym (one-less binary32 t h)) (near-below (den t - num t) (den t) (den-pos t) (sub-le (den t) (num t))) in
     let least : (2 ^ 25 - 1) * C ≤ N * 2 ^ 25 =
-        enough (num p) (den p) (num q) (den q) (num g) (den g) (num t) (den t) (2 ^ 25) (den-pos g) (den-pos t) (h .1)
-        (mul-one-least g gh (plain-weak g (gu .0))) (mul-one-least t k (h .0)) near in
+    enough (num p) (den p) (num q) (den q) (num g) (den g) (num t) (den t) (2 ^ 25) (den-pos g) (den-pos t) (h .1)
+    (mul-one-least g gh (plain-weak g (gu .0))) (mul-one-least t k (h .0)) near in
     let low : 1 * den S ≤ num S * 1 =
-        subst (λ (x : Float). 1 * den x ≤ num x * 1) (sym is)
-        (rounds-above binary32 N C (2 ^ 25 - 1) (2 ^ 25) 1 1 (mul-pos (den-pos p) (den-pos q)) (pow-pos 25) (lit< tt) tie-below least (subst (λ (x : Float). T (plain x)) is (most .0))) in
+    subst (λ (x : Float). 1 * den x ≤ num x * 1) (sym is)
+    (rounds-above binary32 N C (2 ^ 25 - 1) (2 ^ 25) 1 1 (mul-pos (den-pos p) (den-pos q)) (pow-pos 25) (lit< tt) tie-below least (subst (λ (x : Float). T (plain x)) is (most .0))) in
     let same : num S ≡ 1 * den S = le-antisymm (most .1) (le-trans low (le-of-eq (mul-one (num S)))) in
     whole-unique binary32 S one32 false 1 (add-fits binary32 p q) one-fits (size-value 1 S (most .0) same) (refl, refl)
   where
@@ -208,11 +208,11 @@ ones-over k x K h v =
     let d : num x * 1 ≡ k * den x = value→cross x k 1 v in
     let y0 : 0 < num y = subst (λ (z : ℕ). 0 < z) (sym e ∙ mul-one (num y)) (mul-pos K (den-pos y)) in
     let s : num x * den y * 1 ≡ 1 * (num y * den x) =
-        mul-one (num x * den y)
-        ∙ ap (λ (z : ℕ). z * den y) (sym (mul-one (num x)) ∙ d)
-        ∙ mul-right-comm k (den x) (den y)
-        ∙ ap (λ (z : ℕ). z * den x) (sym e ∙ mul-one (num y))
-        ∙ sym (one-mul (num y * den x)) in
+    mul-one (num x * den y)
+    ∙ ap (λ (z : ℕ). z * den y) (sym (mul-one (num x)) ∙ d)
+    ∙ mul-right-comm k (den x) (den y)
+    ∙ ap (λ (z : ℕ). z * den x) (sym e ∙ mul-one (num y))
+    ∙ sym (one-mul (num y * den x)) in
     div-is binary32 x y (value-plain x k 1 v) (value-plain y k 1 w) y0
     ∙ round-same binary32 false (num x * den y) (num y * den x) 1 1 (mul-pos y0 (den-pos x)) (lit< tt) s
     ∙ single

@@ -16,7 +16,8 @@ use Rattle.rules.proofs.Indexes.{in-box}
 use Rattle.rules.proofs.Accepted.{Accepted, distances-ok, ok-distances}
 use Rattle.closing.specs.Closed.{closedDims, pointCount, inOpen, openPoint, openField, closedValue, closedList}
 use Rattle.closing.specs.Answers.{badWall, badClosed}
-use Rattle.closed_bed.proofs.Values.{wholeBox, closed-long, closed-point, value-open, value-wall, wall-within}
+use Rattle.closed_bed.specs.Standing.{wholeBox}
+use Rattle.closed_bed.proofs.Values.{closed-long, closed-point, value-open, value-wall, wall-within}
 use Rattle.closed_bed.proofs.Enclosing.{OpenPoint, open-point, closed-box, closed-length}
 
 module _ (d : GridPoint) (sdf : List Float) (wall : Float) (far : badWall wall ≡ false) where

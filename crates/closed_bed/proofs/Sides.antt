@@ -57,16 +57,12 @@ use Rattle.rounding.proofs.Mixing.{mul-part, nothing-weak, rest-up}
 use Rattle.cube.proofs.Corners.{Cell}
 use Rattle.cube.proofs.Fraction.{Ends, cube-ends, share-of-edge, fraction-held}
 use Rattle.closing.specs.Wall.{wallAt}
+use Rattle.closed_bed.specs.Standing.{Deep, component}
 use Rattle.closed_bed.proofs.Tiny.{Tiny, tiny-add, tiny-div, tiny-shift}
 use Rattle.closed_bed.proofs.Ones.{one-kept, ones-add, ones-over}
-use Rattle.closed_bed.proofs.Fractions.{Deep, from-wall, to-wall}
+use Rattle.closed_bed.proofs.Fractions.{from-wall, to-wall}
 
 -- ---- one axis of a vector, and of a corner
-
-abbrev pub component : Axis → Vector → Float
-component axisX v = v .x
-component axisY v = v .y
-component axisZ v = v .z
 
 -- the corner's side: 0 the lower, 1 the upper
 abbrev pub sideOf : Axis → ℕ → ℕ
@@ -261,8 +257,8 @@ module _ (k : ℕ) (few : k < 249) (held : Held binary32 (wallAt k)) (above : ne
           | inl w ↦ absurd (not-wall (e .a) (shut (e .a) (n .0) p) (w .0))
           | inr w ↦
               let one' : f ≡ one32 =
-                  ap (λ (x : Float). fraction x (corner d (e .b))) (shut (e .a) (n .0) p)
-                  ∙ from-wall k few held (corner d (e .b)) (below (e .b) (n .1) (w .1)) (deep (e .b) (n .1) (w .1)) in
+              ap (λ (x : Float). fraction x (corner d (e .b))) (shut (e .a) (n .0) p)
+              ∙ from-wall k few held (corner d (e .b)) (below (e .b) (n .1) (w .1)) (deep (e .b) (n .1) (w .1)) in
               between-is a f (e .a) (e .b) ∙ (λ j. (one32 ⊖ one' j) ⊗ bit (p j) ⊕ one' j ⊗ bit (q j)) ∙ unit-end
         ]
 
@@ -305,8 +301,8 @@ module _ (k : ℕ) (few : k < 249) (held : Held binary32 (wallAt k)) (above : ne
         elim (crossing-ends e t) [
           | inl w ↦
               let tiny : Tiny 1 f =
-                  subst (λ (x : Float). Tiny 1 (fraction (corner d (e .a)) x)) (sym (shut (e .b) (n .1) q))
-                  (to-wall k few held (corner d (e .a)) (below (e .a) (n .0) (w .0)) (deep (e .a) (n .0) (w .0))) in
+              subst (λ (x : Float). Tiny 1 (fraction (corner d (e .a)) x)) (sym (shut (e .b) (n .1) q))
+              (to-wall k few held (corner d (e .a)) (below (e .a) (n .0) (w .0)) (deep (e .a) (n .0) (w .0))) in
               subst (Tiny 1) (sym (between-is a f (e .a) (e .b) ∙ (λ j. (one32 ⊖ f) ⊗ bit (p j) ⊕ f ⊗ bit (q j))))
               (tiny-mixed f s (fraction-held (corner d (e .a)) (corner d (e .b)) s) tiny)
           | inr w ↦ absurd (not-wall (e .b) (shut (e .b) (n .1) q) (w .1))

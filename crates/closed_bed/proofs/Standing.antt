@@ -28,23 +28,12 @@ use Rattle.cube.proofs.UnderCaps.{capped-corners}
 use Rattle.closing.specs.Closed.{closedDims, pointCount, inOpen, openPoint, openField, closedValue, closedList}
 use Rattle.closing.specs.Wall.{wallAt}
 use Rattle.closing.proofs.Answers.{Accepted}
-use Rattle.closed_bed.proofs.Values.{wholeBox, closed-long, closed-point, value-open, value-wall, wall-above}
+use Rattle.closed_bed.specs.Standing.{wholeBox, Deep, FarWall, Stands}
+use Rattle.closed_bed.proofs.Values.{closed-long, closed-point, value-open, value-wall, wall-above}
 use Rattle.closed_bed.proofs.Enclosing.{OpenPoint, open-point, negative-open, not-negative, closed-box, closed-length}
 use Rattle.closed_bed.proofs.Passing.{closed-distances}
-use Rattle.closed_bed.proofs.Fractions.{Deep, wall-held}
-use Rattle.closed_bed.proofs.Sides.{component, sideOf, low-position, high-position}
-
--- a power of two from 2 ^ -124 to 2 ^ 124, and 2 ^ 25 times the magnitude of each distance below zero is at most that
-pub record FarWall (wall : Float) (sdf : List Float) : Type 0 where
-  pub exponent : ℕ
-  pub few : exponent < 249
-  pub power : wall ≡ wallAt exponent
-  pub deep : (i : ℕ) → i < length sdf → T (negative (getD sdf i nan)) → Deep wall (getD sdf i nan)
-
--- the vertex of a cell of the closed grid stands on the outermost points of the open one, on each axis on which the cell is one of the border
-pub record Stands (d : GridPoint) (g : Field) (c : GridPoint) : Type 0 where
-  pub low : (a : Axis) → along a c ≡ 0 → component a (vertexPosition g c) ≡ float 1
-  pub high : (a : Axis) → along a c ≡ along a d → component a (vertexPosition g c) ≡ float (along a d)
+use Rattle.closed_bed.proofs.Fractions.{wall-held}
+use Rattle.closed_bed.proofs.Sides.{sideOf, low-position, high-position}
 
 -- ---- corners
 
@@ -122,7 +111,7 @@ module _ (d : GridPoint) (sdf : List Float) (wall : Float) (room : ℕ) (ok : Ac
       let o = open-point d p open' in
       let here : value closed p ≡ value (openField d sdf) (openPoint p) = at p t ∙ value-open (openField d sdf) wall p (is-true (inOpen d p) open') in
       let inside : index d (openPoint p) < length sdf =
-          le-trans (volume d (openPoint p) (omega arith) (omega arith) (omega arith)) (le-of-eq (sym (right-length d (length sdf) (failed refl (ok .sized))))) in
+      le-trans (volume d (openPoint p) (omega arith) (omega arith) (omega arith)) (le-of-eq (sym (right-length d (length sdf) (failed refl (ok .sized))))) in
       subst (λ (w : Float). Deep w (value closed p)) (far .power)
       (subst (Deep wall) (sym here) (far .deep (index d (openPoint p)) inside (subst (λ (v : Float). T (negative v)) here n)))
 

@@ -109,7 +109,7 @@ few-units K t w L C N a c B C0 t0 b0 l h n s r =
     let more : a * B * (L * 2) + C * (t * B) ≤ (c * B + 1) * C * (L * 2) + C * (t * B) = add-le-add (mul-le-mul-right (L * 2) s) (le-refl (C * (t * B))) in
     let shape : (c * B + 1) * C * (L * 2) + C * (t * B) ≡ C * (c * L * B * 2 + L * 2 + t * B) = simp (add-mul, mul-add, one-mul, mul-assoc, mul-comm, mul-left-comm) in
     let all : K * t * B * 2 ≤ c * L * B * 2 + L * 2 + t * B =
-        le-of-mul-le-mul-left (le-trans (le-of-eq (sym left)) (le-trans first (le-trans (le-of-eq right) (le-trans more (le-of-eq shape))))) C0 in
+    le-of-mul-le-mul-left (le-trans (le-of-eq (sym left)) (le-trans first (le-trans (le-of-eq right) (le-trans more (le-of-eq shape))))) C0 in
     let unit : 0 < t * B = mul-pos t0 b0 in
     let less : K * t * B < c * L * B + t * B = omega arith in
     let x : t * B * K ≡ K * t * B = simp (mul-assoc, mul-comm, mul-left-comm) in
@@ -149,14 +149,14 @@ rounds-whole a C c C0 c1 c2 h s =
     let n = a * 2 ^ 149 in
     let k = drop 24 n C in
     let next : a ≤ (c + 1) * C =
-        le-of-mul-le-mul-right (le-trans s (le-trans (mul-le-mul-right C (room (2 ^ 25) (pow-pos 25))) (le-of-eq (mul-right-comm (c + 1) (2 ^ 25) C)))) (pow-pos 25) in
+    le-of-mul-le-mul-right (le-trans s (le-trans (mul-le-mul-right C (room (2 ^ 25) (pow-pos 25))) (le-of-eq (mul-right-comm (c + 1) (2 ^ 25) C)))) (pow-pos 25) in
     let p : T (plain x) = up-to binary32 (c + 1) a C (holds-whole binary32 (c + 1) c2) C0 next .0 in
     let low : C ≤ a = le-trans (le-trans (le-of-eq (sym (one-mul C))) (mul-le-mul-right C c1)) h in
     let d = dropped a C C0 low (lt-of-lt-of-le strict (mul-le-mul-right C c2)) in
     let e : 2 ^ 149 ≡ 2 ^ k * 2 ^ (149 - k) = let q : k + (149 - k) ≡ 149 = omega arith in ap (λ (z : ℕ). 2 ^ z) (sym q) ∙ pow-add 2 k (149 - k) in
     let r : 2 ^ 149 * 2 * 2 ≤ 2 ^ k * 2 ^ 25 = le-trans (le-of-eq refl) (mul-le-mul-right (2 ^ 25) (pow-mono (d .0))) in
     let g : grid binary32 a C ≤ c * 2 ^ 149 =
-        few-units (kept 24 n C) (2 ^ k) (2 ^ (149 - k)) (2 ^ 149) C n a c (2 ^ 25) C0 (pow-pos k) (pow-pos 25) e (half-above n (C * 2 ^ k)) refl s r in
+    few-units (kept 24 n C) (2 ^ k) (2 ^ (149 - k)) (2 ^ 149) C n a c (2 ^ 25) C0 (pow-pos k) (pow-pos 25) e (half-above n (C * 2 ^ k)) refl s r in
     let v : num x * 2 ^ 149 ≡ grid binary32 a C * den x = value→cross x (grid binary32 a C) (2 ^ 149) (round-val binary32 a C (round-under binary32 a C (plain-finite x p))) in
     (p, le-of-mul-le-mul-right (le-trans (le-of-eq v) (le-trans (mul-le-mul-right (den x) g) (le-of-eq (mul-right-comm c (2 ^ 149) (den x))))) (pow-pos 149))
   where

@@ -20,11 +20,8 @@ use Rattle.closing.specs.Closed.{closedDims, pointCount, inOpen, openPoint, ope
 use Rattle.closing.specs.Answers.{badWall, closeAnswer, closedRoom}
 use Rattle.closing.specs.Runs.{spread}
 use Rattle.closing.proofs.Spread.{length-spread, getD-spread}
+use Rattle.closed_bed.specs.Standing.{wholeBox}
 use Rattle.closing.proofs.Answers.{Accepted, accepted, room-closed}
-
--- the whole box of a grid: from 0, 0, 0 to the dimensions less 1
-abbrev pub wholeBox : GridPoint → Box
-wholeBox d = record { low = record { x = 0; y = 0; z = 0 }; high = record { x = d .x - 1; y = d .y - 1; z = d .z - 1 } }
 
 -- a call that closed a grid: what its contract says, with the answer 0
 pub record Closes (d : GridPoint) (wall : Float) (sdf old : List Float) (answer : ℕ) (exit : List Float) : Type 0 where

@@ -1,0 +1,3 @@
+-- What the theorems on a closed bed are stated with. Assumes nothing.
+pub mod Standing
+pub mod Layers

@@ -69,11 +69,11 @@ exponent k = minus k 124
 tiesDown : ℕ → Bool
 tiesDown k = isFraction (up (exponent k)) (down (exponent k)) (round binary32 false ((2 ^ 24 + 1) * up (exponent k)) (2 ^ 24 * down (exponent k)))
 
-allBelow : (ℕ → Bool) → ℕ → Bool
+unfoldable pub allBelow : (ℕ → Bool) → ℕ → Bool
 allBelow t zero = true
 allBelow t (suc n) = allBelow t n && t n
 
-all-below : (t : ℕ → Bool) (n : ℕ) → allBelow t n ≡ true → (k : ℕ) → k < n → t k ≡ true
+pub all-below : (t : ℕ → Bool) (n : ℕ) → allBelow t n ≡ true → (k : ℕ) → k < n → t k ≡ true
 unfolding allBelow
 all-below t zero h k l = absurd (omega arith)
 all-below t (suc n) h k l = go (allBelow t n) (t n) refl refl h (less-or-not k n) (all-below t n)

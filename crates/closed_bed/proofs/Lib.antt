@@ -11,3 +11,5 @@ pub mod Ones
 pub mod Fractions
 pub mod Sides
 pub mod Standing
+pub mod Meshed
+pub mod Deepest

@@ -198,7 +198,7 @@ both-all none none = none
 both-all (more p ps) (more q qs) = more (p, q) (both-all ps qs)
 
 -- below zero, as a test
-negative-below : (x : Float) → T (finite x) → T (negative x) → T (belowZero x)
+pub negative-below : (x : Float) → T (finite x) → T (negative x) → T (belowZero x)
 unfolding lt
 negative-below nan h n = absurd h
 negative-below (inf s) h n = absurd h

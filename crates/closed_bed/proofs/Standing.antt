@@ -31,7 +31,6 @@ use Rattle.closing.proofs.Answers.{Accepted}
 use Rattle.closed_bed.specs.Standing.{wholeBox, Deep, FarWall, Stands}
 use Rattle.closed_bed.proofs.Values.{closed-long, closed-point, value-open, value-wall, wall-above}
 use Rattle.closed_bed.proofs.Enclosing.{OpenPoint, open-point, negative-open, not-negative, closed-box, closed-length}
-use Rattle.closed_bed.proofs.Passing.{closed-distances}
 use Rattle.closed_bed.proofs.Fractions.{wall-held}
 use Rattle.closed_bed.proofs.Sides.{sideOf, low-position, high-position}
 
@@ -94,7 +93,8 @@ module _ (a : Axis) (d : GridPoint) where
 -- ---- the closed grid
 
 module _ (d : GridPoint) (sdf : List Float) (wall : Float) (room : ℕ) (ok : Accepted d (length sdf) wall room) (far : FarWall wall sdf)
-    (fine : T (not (badDistance (openField d sdf) (wholeBox d)))) (numbers : Binary32 (closedList (openField d sdf) wall)) where
+    (fine : T (not (badDistance (openField (closedDims d) (closedList (openField d sdf) wall)) (wholeBox (closedDims d)))))
+    (numbers : Binary32 (closedList (openField d sdf) wall)) where
   abbrev closed : Field
   closed = openField (closedDims d) (closedList (openField d sdf) wall)
 
@@ -126,7 +126,7 @@ module _ (d : GridPoint) (sdf : List Float) (wall : Float) (room : ℕ) (ok : Ac
     in-box i h = corner-in-box (wholeBox (closedDims d)) c i is-cell h
 
     cell : Cell (values closed c)
-    cell = capped-cell (values closed c) refl (capped-corners closed (wholeBox (closedDims d)) c values32 (closed-distances d sdf wall (ok .far) fine) is-cell)
+    cell = capped-cell (values closed c) refl (capped-corners closed (wholeBox (closedDims d)) c values32 fine is-cell)
 
     above : negative (wallAt (far .exponent)) ≡ false
     above = ap negative (sym (far .power)) ∙ not-negative wall (wall-above wall (ok .far))

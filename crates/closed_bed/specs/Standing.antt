@@ -36,3 +36,16 @@ component axisZ v = v .z
 pub record Stands (d : GridPoint) (g : Field) (c : GridPoint) : Type 0 where
   pub low : (a : Axis) → along a c ≡ 0 → component a (vertexPosition g c) ≡ float 1
   pub high : (a : Axis) → along a c ≡ along a d → component a (vertexPosition g c) ≡ float (along a d)
+
+-- ---- the same of the lists that a mesh call wrote, three numbers a vertex
+
+-- which of the three is the axis's
+abbrev pub axisPlace : Axis → ℕ
+axisPlace axisX = 0
+axisPlace axisY = 1
+axisPlace axisZ = 2
+
+-- n is the cell's coordinate and x the position on an axis of `last` open points
+pub record StandsAt (last n : ℕ) (x : Float) : Type 0 where
+  pub low : n ≡ 0 → x ≡ float 1
+  pub high : n ≡ last → x ≡ float last

@@ -55,12 +55,7 @@ struct Tally {
 
 impl Tally {
     /// One list, by both; what the library says.
-    fn compare(
-        &mut self,
-        positions: &[f32],
-        first: u32,
-        indices: &[u32],
-    ) -> Option<(i128, i128)> {
+    fn compare(&mut self, positions: &[f32], first: u32, indices: &[u32]) -> Option<(i128, i128)> {
         let (mut low, mut high, mut shadow) = (0x5555, 0x5555, 0x5555);
         // SAFETY: the pointers and lengths come from slices, and the last three are variables of their own.
         let answer = unsafe {
@@ -201,7 +196,9 @@ fn each_end() -> Tally {
     let mut tally = Tally::default();
     for end in ENDS {
         for at in 0..12 {
-            let mut positions = [0.5, 1.5, 2.5, 1.25, 0.75, 3.0, 1.0, 2.0, 64.0, 0.0, 1.0, 11.0];
+            let mut positions = [
+                0.5, 1.5, 2.5, 1.25, 0.75, 3.0, 1.0, 2.0, 64.0, 0.0, 1.0, 11.0,
+            ];
             positions[at] = f32::from_bits(end);
             for first in [0, 5] {
                 for indices in [
@@ -243,7 +240,17 @@ fn widths() -> Tally {
 fn largest(faults: &mut u64) -> Tally {
     let mut tally = Tally::default();
     let top = 16_777_216.0;
-    let corners = [top - 2.0, top, top, top - 2.0, top - 2.0, top, top, top, top];
+    let corners = [
+        top - 2.0,
+        top,
+        top,
+        top - 2.0,
+        top - 2.0,
+        top,
+        top,
+        top,
+        top,
+    ];
     // in steps 512 by 512 in x and y: 2^18, and 3 · 2^32 in z
     for (turn, sign) in [([0, 1, 2], 1), ([0, 2, 1], -1)] {
         for triangles in [1, 4_095, 16_385, 100_000] {
@@ -308,7 +315,8 @@ fn meshes(random: &mut Random, faults: &mut u64) -> Tally {
         let first = random.between(0, 1 << 31) as u32;
         let later: Vec<u32> = indices.iter().map(|i| i + first).collect();
         let at = 3 * random.between(0, indices.len() as u64 / 3) as usize;
-        let halves = [&later[..at], &later[at..]].map(|half| tally.compare(&positions, first, half));
+        let halves =
+            [&later[..at], &later[at..]].map(|half| tally.compare(&positions, first, half));
         parts += 1;
         *faults += u64::from(halves[0].zip(halves[1]).map(|(a, b)| plus(a, b)) != Some(whole));
         if bed::is_enclosed(&sdf, dims, [0; 3], high) == Ok(true) {

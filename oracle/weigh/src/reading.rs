@@ -7,10 +7,7 @@ pub fn weigh(positions: &[f32], first: u32, indices: &[u32]) -> (u32, i128, i128
     if positions.len() % 3 != 0 || indices.len() % 3 != 0 {
         return (61, 0, 0);
     }
-    if positions
-        .iter()
-        .any(|x| !(0.0..=16_777_216.0).contains(x))
-    {
+    if positions.iter().any(|x| !(0.0..=16_777_216.0).contains(x)) {
         return (63, 0, 0);
     }
     let vertices = positions.len() as u64 / 3;

@@ -175,7 +175,8 @@ fn distance(random: &mut Random, kind: u64) -> f32 {
 }
 
 fn compare(tally: &mut Tally, random: &mut Random) {
-    let dims = [0; 3].map(|_| random.coordinate(if random.one_in(40) { 0 } else { 1 }, 5));
+    let least = if random.one_in(40) { 0 } else { 1 };
+    let dims = [0; 3].map(|_| random.coordinate(least, 5));
     let points: usize = dims.iter().map(|&n| n as usize).product();
     let kind = random.between(0, 3);
     let length = if random.one_in(12) {

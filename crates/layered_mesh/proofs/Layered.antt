@@ -145,12 +145,17 @@ pub layered : (sdf : List Float) (k : Block) (t : Buffers) → answer (callOf sd
     → out ≡ firstOf (answer (callOf sdf k) (room t) .vertices) (answer (callOf sdf k) (room t) .indices) (mapApart (afterwards (callOf sdf k) t))
 layered sdf k t e f all-in = all sdf k (inside-of sdf k t e) (progress sdf k (inside-of sdf k t e) f) all-in .0 ∙ sym (whole-mesh sdf k t e)
 
--- a grid all of whose layers were answered 0 passes condition 5 as a whole: a call on it with a map as long asks for room alone
-pub whole-accepted : (sdf : List Float) (k : Block) → Inside sdf k → {n : ℕ} {s : State} {m : Memory} {out : Output} → Fed sdf k n s m out → n ≡ pointsInZ k
-    → (r : Room) → length sdf ≤ r .map → answer (callOf sdf k) r ≡ roomAnswer r (vertexCount (callOf sdf k)) (indexCount (callOf sdf k))
-whole-accepted sdf k i f all-in r long =
-    accepted-answer (callOf sdf k) r
-    (record { dims = i .dims; box = i .box; length = i .size; map = failed refl (le-ltb (r .map) (length sdf) long); distance = go (progress sdf k i f) all-in })
+-- what came out after some layers of points: the mesh of the layers of cells between them
+pub mesh-so-far : (sdf : List Float) (k : Block) → Inside sdf k → {n : ℕ} {s : State} {m : Memory} {out : Output} → Fed sdf k (suc n) s m out → out ≡ meshTo sdf k (k .low .z + n)
+mesh-so-far sdf k i {n} {s} {m} {out} f = go (progress sdf k i f)
+  where
+    go : Progress sdf k (suc n) s m out → out ≡ meshTo sdf k (k .low .z + n)
+    go (some eb et h) = h .mesh ∙ ap₂ (meshTo sdf) eb (ap (λ (b : Block). b .low .z + (s .taken - 1)) eb ∙ omega arith)
+
+-- a grid all of whose layers were answered 0 passes condition 5 as a whole
+pub all-distances : (sdf : List Float) (k : Block) → Inside sdf k → {n : ℕ} {s : State} {m : Memory} {out : Output} → Fed sdf k n s m out → n ≡ pointsInZ k
+    → T (not (badDistance (fieldOf sdf k) (boxOf k)))
+all-distances sdf k i f all-in = go (progress sdf k i f) all-in
   where
     go : {n : ℕ} {s : State} {m : Memory} {out : Output} → Progress sdf k n s m out → n ≡ pointsInZ k → T (not (badDistance (fieldOf sdf k) (boxOf k)))
     go none a = absurd (omega arith)
@@ -158,6 +163,13 @@ whole-accepted sdf k i f all-in r long =
         let l = low-high sdf k i in
         let all-good : Good sdf k (k .low .z + (s .taken - 1)) = subst (λ (b : Block). Good sdf b (b .low .z + (s .taken - 1))) eb (held .good) in
         ok-distances (fieldOf sdf k) (boxOf k) (λ p t. let w = within (boxOf k) p t in all-good .good p t (omega arith))
+
+-- so a call on it with a map as long asks for room alone
+pub whole-accepted : (sdf : List Float) (k : Block) → Inside sdf k → {n : ℕ} {s : State} {m : Memory} {out : Output} → Fed sdf k n s m out → n ≡ pointsInZ k
+    → (r : Room) → length sdf ≤ r .map → answer (callOf sdf k) r ≡ roomAnswer r (vertexCount (callOf sdf k)) (indexCount (callOf sdf k))
+whole-accepted sdf k i f all-in r long =
+    accepted-answer (callOf sdf k) r
+    (record { dims = i .dims; box = i .box; length = i .size; map = failed refl (le-ltb (r .map) (length sdf) long); distance = all-distances sdf k i f all-in })
 
 -- "a further layer gets 8 with 0, 0", whatever it is and whatever is lent
 pub one-more : (sdf : List Float) (k : Block) → Inside sdf k → {n : ℕ} {s : State} {m : Memory} {out : Output} → Fed sdf k n s m out → n ≡ pointsInZ k

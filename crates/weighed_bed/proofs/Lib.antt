@@ -8,6 +8,7 @@ pub mod Faces
 pub mod Cut
 pub mod Layered
 pub mod LayerFits
+pub mod Offers
 pub mod Outcomes
 pub mod Once
 pub mod Calls

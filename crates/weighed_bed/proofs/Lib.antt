@@ -12,3 +12,4 @@ pub mod Offers
 pub mod Outcomes
 pub mod Once
 pub mod Calls
+pub mod Instances

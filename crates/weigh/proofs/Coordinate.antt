@@ -15,11 +15,13 @@ use native.Mathlib.Nat.{
   mul-le-mul-right,
   le-of-mul-le-mul-right,
   mul-pos,
+  div-eq-of-lt,
 }
 use native.Mathlib.Omega.{arith}
 use mathlib.Core.Bool.{Bool, true, false, not, _&&_, cond, true≢false}
-use mathlib.Core.Logic.{inl, inr}
+use mathlib.Core.Logic.{_⊎_, inl, inr}
 use mathlib.Core.Path.{_≡_, refl, sym, ap, subst, _∙_}
+use borrow.Author.Tests.{le-ltb, lt-ltb}
 use lib.Dec.{T, leb, ltb, eqb, nltb→le, eqb→eq, lit≤, lit<}
 use lib.IntN.{pos}
 use lib.Pow.{pow-pos, pow-mono, pow-add}
@@ -30,8 +32,9 @@ use lib.Ieee.Fits.{up-pos, down-pos}
 use lib.Ieee.Nearest.{div-mono, div-same}
 use Rattle.lists.proofs.Tests.{less-or-not}
 use Rattle.volume.specs.Steps.{steps}
-use Rattle.volume.proofs.Coordinate.{zero32, below-nothing, scaled-zero, from-nothing, at-most, not-not, steps-odd}
+use Rattle.volume.proofs.Coordinate.{zero32, below-nothing, scaled-zero, from-nothing, at-most, not-not, steps-odd, bits-small}
 use Rattle.weigh.specs.Answers.{beyond}
+use Rattle.weigh.specs.Biased.{placesOf}
 
 -- ---- permitted: 0 ≤ x and x ≤ 2^24, as floats compare
 
@@ -134,7 +137,7 @@ large-fields s (suc k) t h p = go (eqb (suc k) 255) p
 
 -- ---- and so by the bits
 
-pub bits-large : (x : Float) → T (fits binary32 x) → T (not (beyond x)) → 119 ≤ toBits binary32 x % 2147483648 / 8388608
+bits-large : (x : Float) → T (fits binary32 x) → T (not (beyond x)) → 119 ≤ toBits binary32 x % 2147483648 / 8388608
     → (toBits binary32 x % 2147483648 / 8388608 ≤ 151)
     × (steps x ≡ 512 * (8388608 + toBits binary32 x % 8388608) / 2 ^ (151 - toBits binary32 x % 2147483648 / 8388608))
 unfolding ofBits
@@ -142,3 +145,30 @@ bits-large x f p h =
     let b = toBits binary32 x in
     let r = large-fields (leb 2147483648 b) (b % 2147483648 / 8388608) (b % 8388608) h (subst (λ (y : Float). T (not (beyond y))) (sym (ofBits-toBits binary32 x f)) p) in
     (r .0, ap steps (sym (ofBits-toBits binary32 x f)) ∙ r .1)
+
+-- the shift without a branch
+pub bits-steps : (x : Float) → T (fits binary32 x) → T (not (beyond x))
+    → (toBits binary32 x % 2147483648 / 8388608 ≤ 151)
+    × (steps x ≡ 512 * (8388608 + toBits binary32 x % 8388608) / 2 ^ placesOf (toBits binary32 x % 2147483648 / 8388608))
+bits-steps x f p = go (less-or-not (toBits binary32 x % 2147483648 / 8388608) 119)
+  where
+    nothing : (e t : ℕ) → t < 8388608 → e < 119 → 512 * (8388608 + t) / 2 ^ placesOf e ≡ 0
+    nothing e t h l = ap (λ (n : ℕ). 512 * (8388608 + t) / 2 ^ n) (short e l) ∙ div-eq-of-lt (omega arith)
+      where
+        short : (e : ℕ) → e < 119 → placesOf e ≡ 33
+        short e l =
+            elim (less-or-not e 118) [
+              | inl k ↦ ap (λ (t : Bool). cond t 33 (151 - e)) (lt-ltb e 118 k)
+              | inr k ↦ ap (λ (t : Bool). cond t 33 (151 - e)) (le-ltb e 118 k) ∙ omega arith
+            ]
+
+    go : (toBits binary32 x % 2147483648 / 8388608 < 119) ⊎ (119 ≤ toBits binary32 x % 2147483648 / 8388608)
+        → (toBits binary32 x % 2147483648 / 8388608 ≤ 151)
+        × (steps x ≡ 512 * (8388608 + toBits binary32 x % 8388608) / 2 ^ placesOf (toBits binary32 x % 2147483648 / 8388608))
+    go (inl l) =
+        let z : toBits binary32 x % 8388608 < 8388608 = omega arith in
+        (omega arith, bits-small x f l ∙ sym (nothing (toBits binary32 x % 2147483648 / 8388608) (toBits binary32 x % 8388608) z l))
+    go (inr l) =
+        let r = bits-large x f p l in
+        let e : ltb (toBits binary32 x % 2147483648 / 8388608) 118 ≡ false = le-ltb (toBits binary32 x % 2147483648 / 8388608) 118 (omega arith) in
+        (r .0, r .1 ∙ ap (λ (t : Bool). 512 * (8388608 + toBits binary32 x % 8388608) / 2 ^ cond t 33 (151 - toBits binary32 x % 2147483648 / 8388608)) (sym e))

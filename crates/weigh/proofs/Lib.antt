@@ -1,5 +1,6 @@
 -- Laws that the proofs of the code lean on, and those of the definitions. Assumes nothing.
 pub mod Coordinate
+pub mod Search
 pub mod Whole
 pub mod Words
 pub mod Terms

@@ -1,6 +1,8 @@
 -- How the code keeps its numbers without a sign: within which bounds, and with which bias. Nothing here is in a public contract. Definitions only.
 -- Assumes nothing.
-use Prim.Native.Nat.{ℕ, _+_, _*_, _^_, _≤_, _<_}
+use Prim.Native.Nat.{ℕ, _+_, _-_, _*_, _^_, _≤_, _<_}
+use mathlib.Core.Bool.{cond}
+use lib.Dec.{ltb}
 use mathlib.Core.Path.{_≡_}
 use lib.IntN.{pos, _-ℤ_}
 use Rattle.volume.specs.declared.Corner.{Corner}
@@ -12,6 +14,10 @@ pub record Low (a : Corner) : Type 0 where
   pub x : a .x ≤ 2 ^ 32
   pub y : a .y ≤ 2 ^ 32
   pub z : a .z ≤ 2 ^ 32
+
+-- by how many places the digits of a float with this exponent field are shifted
+abbrev pub placesOf : ℕ → ℕ
+placesOf e = cond (ltb e 118) 33 (151 - e)
 
 -- at most 512 steps apart
 pub record Close (m n : ℕ) : Type 0 where

@@ -25,14 +25,13 @@ pub(crate) fn some_without_vertex(positions: &[f32], first: u32, indices: &[u32]
     ensures { λ r. ⌜ r ≡ someWithout (now (positions .entry)) first (now (indices .entry)) ⌝ }
 {
     let end = first as usize + positions.len() / 3;
+    let mut found = false;
     let mut i = 0;
     while i < indices.len() {
-        if lacks_vertex(indices[i], first, end) {
-            return true;
-        }
+        found = found | lacks_vertex(indices[i], first, end);
         i += 1;
     }
-    false
+    found
 }
 
 // The vertex v, where the positions begin with those of the vertex `first`.

@@ -13,7 +13,8 @@ fn is_apart(m: u64, n: u64) -> bool
     requires { ⌜ n ≤ 2 ^ 32 ⌝ }
     ensures { λ r. ⌜ r ≡ apart m n ⌝ }
 {
-    (m + 512 < n) | (n + 512 < m)
+    // n + 512 - m wraps round where m is larger, and is then above 2^63
+    1024 < std::num::wrapping_sub_u64(n + 512, m)
 }
 
 pub(crate) fn is_wide(a: Corner, b: Corner, c: Corner) -> bool

@@ -149,7 +149,7 @@ pub record Levelled (sdf : List Float) (d : GridPoint) (b : Box) (entry exit : L
   pub left : exit ≡ levelsAfter sdf d b entry
   pub numbers : Binary32 sdf
 
-when-levelled : (sdf : List Float) (d : GridPoint) (b : Box) (old : List Float) → levelsAnswer sdf d b (length old) ≡ 0
+pub when-levelled : (sdf : List Float) (d : GridPoint) (b : Box) (old : List Float) → levelsAnswer sdf d b (length old) ≡ 0
     → levelsAfter sdf d b old ≡ changed (λ j _. levelOf (gridOf sdf d) b j) 0 (columns b) old
 unfolding levelsAfter
 when-levelled sdf d b old e = rw (eq-eqb (levelsAnswer sdf d b (length old)) 0 e)

@@ -3,3 +3,4 @@ pub mod Columns
 pub mod Bounds
 pub mod Told
 pub mod Layered
+pub mod Mesh

@@ -1,0 +1,4 @@
+-- The volume bounded from the distances alone. Assumes nothing.
+pub mod Pyramid
+pub mod Face
+pub mod Sums

@@ -1,0 +1,3 @@
+-- The volume bounded from the distances alone: what is counted, and the points that the proof sees.
+pub mod Cells
+pub mod Round

@@ -1,4 +1,6 @@
 -- The volume bounded from the distances alone. Assumes nothing.
 pub mod Pyramid
 pub mod Face
+pub mod Edge
 pub mod Sums
+pub mod Squares

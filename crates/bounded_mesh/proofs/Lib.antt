@@ -4,3 +4,4 @@ pub mod Face
 pub mod Edge
 pub mod Sums
 pub mod Squares
+pub mod Around

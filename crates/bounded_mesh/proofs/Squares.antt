@@ -12,7 +12,7 @@ use Rattle.rules.specs.Faces.{Edge, edge, axisB, axisC, cell1, cell2, cell3, ce
 use Rattle.volume.specs.declared.Corner.{Corner}
 use Rattle.weighed_mesh.specs.Facing.{onAxis}
 use Rattle.bounded_mesh.specs.Round.{away, distance, turning, areaRound, Placing, InCells, round}
-use Rattle.bounded_mesh.proofs.Sums.{shifted}
+use Rattle.bounded_mesh.proofs.Sums.{shifted, total-most}
 
 -- ---- steps up and down
 
@@ -113,6 +113,28 @@ module _ (b : Box) where
   by-axes f =
       total-plus (λ (p : GridPoint). f axisX p + f axisY p) (f axisZ) (points b)
       ∙ ap (λ (n : ℕ). n + total (f axisZ) (points b)) (total-plus (f axisX) (f axisY) (points b))
+
+  three-pairs : (x y z x' y' z' : ℕ) → (x + x') + (y + y') + (z + z') ≡ (x + y + z) + (x' + y' + z')
+  three-pairs x y z x' y' z' = omega arith
+
+  pub whole-plus : (f h : Axis → GridPoint → ℕ) → whole (λ (a : Axis) (p : GridPoint). f a p + h a p) ≡ whole f + whole h
+  whole-plus f h =
+      total-same (all-each (λ (p : GridPoint). three-pairs (f axisX p) (f axisY p) (f axisZ p) (h axisX p) (h axisY p) (h axisZ p)) (points b))
+      ∙ total-plus (λ (p : GridPoint). axes (λ (a : Axis). f a p)) (λ (p : GridPoint). axes (λ (a : Axis). h a p)) (points b)
+
+  three-times : (k x y z : ℕ) → k * x + k * y + k * z ≡ k * (x + y + z)
+  three-times k x y z = omega arith
+
+  pub whole-scaled : (k : ℕ) (f : Axis → GridPoint → ℕ) → whole (λ (a : Axis) (p : GridPoint). k * f a p) ≡ k * whole f
+  whole-scaled k f =
+      total-same (all-each (λ (p : GridPoint). three-times k (f axisX p) (f axisY p) (f axisZ p)) (points b)) ∙ total-scaled k (λ (p : GridPoint). axes (λ (a : Axis). f a p)) (points b)
+
+  three-most : (x y z x' y' z' : ℕ) → x ≤ x' → y ≤ y' → z ≤ z' → x + y + z ≤ x' + y' + z'
+  three-most x y z x' y' z' h k l = omega arith
+
+  pub whole-most : {f h : Axis → GridPoint → ℕ} → ((a : Axis) (p : GridPoint) → f a p ≤ h a p) → whole f ≤ whole h
+  whole-most {f} {h} c =
+      total-most (all-each (λ (p : GridPoint). three-most (f axisX p) (f axisY p) (f axisZ p) (h axisX p) (h axisY p) (h axisZ p) (c axisX p) (c axisY p) (c axisZ p)) (points b))
 
   -- where a number for each axis and point is nothing on the two end planes of an axis
   abbrev pub Ends : (Axis → Axis) → (Axis → GridPoint → ℕ) → Type 0

@@ -5,3 +5,4 @@ pub mod Edge
 pub mod Sums
 pub mod Squares
 pub mod Around
+pub mod Weights

@@ -6,3 +6,4 @@ pub mod Sums
 pub mod Squares
 pub mod Around
 pub mod Weights
+pub mod Meshed

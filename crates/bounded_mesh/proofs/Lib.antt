@@ -7,3 +7,5 @@ pub mod Squares
 pub mod Around
 pub mod Weights
 pub mod Meshed
+pub mod Counts
+pub mod Bounds

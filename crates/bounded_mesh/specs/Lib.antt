@@ -2,3 +2,4 @@
 pub mod Cells
 pub mod Round
 pub mod Placed
+pub mod Bounded

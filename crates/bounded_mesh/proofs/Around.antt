@@ -1,26 +1,24 @@
 -- The sum over the faces, with a weight of 0 or 1 at each grid point: by the pyramids from the points, since the sides of the six faces round a point cancel. It lies
 -- between the areas of the edges with two weighed ends and of those with one at least, give or take 256³ for each edge with just one.
 -- Assumes nothing.
-use Prim.Native.Nat.{ℕ, _+_, _-_, _*_, _≤_, _<_}
+use Prim.Native.Nat.{ℕ, _+_, _*_, _≤_, _<_}
 use native.Mathlib.Omega.{arith}
 use mathlib.Core.Bool.{Bool, true, false, _&&_, _||_}
-use mathlib.Core.Logic.{_⊎_, inl, inr}
-use mathlib.Core.Path.{_≡_, refl, sym, ap, ap₂, subst, _∙_}
+use mathlib.Core.Path.{_≡_, sym, ap, _∙_}
 use lib.Dec.{T}
 use lib.Ieee.{unlike}
 use Rattle.lists.specs.Lists.{one}
-use Rattle.lists.proofs.Lists.{All, all-each, total, total-same, total-plus}
+use Rattle.lists.proofs.Lists.{all-each, total, total-same, total-plus}
 use Rattle.lists.proofs.Tests.{one-not}
 use Rattle.rules.specs.Grid.{GridPoint, Axis, axisX, axisY, axisZ, Box, along, stepUp, stepDown}
-use Rattle.rules.specs.Faces.{Edge, edge, axisB, axisC, cell1, cell2, cell3, cell4, points}
+use Rattle.rules.specs.Faces.{Edge, edge, axisB, axisC, points}
 use Rattle.volume.specs.declared.Corner.{Corner}
 use Rattle.volume.specs.Volume.{falling}
 use Rattle.skin.specs.Enclosed.{Inner}
 use Rattle.bounded_mesh.specs.Round.{quadFall, quadRise, sides, sidesBack, inSteps, areaRound, Placing, InCells, round}
-use Rattle.bounded_mesh.proofs.Face.{Weighs}
 use Rattle.bounded_mesh.proofs.Edge.{edge-weighs}
-use Rattle.bounded_mesh.proofs.Sums.{shifted}
-use Rattle.bounded_mesh.proofs.Squares.{axes, whole, by-axes, whole-plus, whole-scaled, whole-most, down-up}
+use Rattle.bounded_mesh.proofs.Sums.{zero-times, shifted}
+use Rattle.bounded_mesh.proofs.Squares.{axes, whole, by-axes, whole-plus, whole-scaled, whole-most, down-up, up-b, up-c}
 
 -- ---- round a point
 
@@ -40,6 +38,11 @@ module _ (v : Placing) (p : GridPoint) where
       cancel (falling (inSteps p)) (v p) (v (stepDown axisX p)) (v (stepDown axisY p)) (v (stepDown axisZ p)) (v (stepDown axisX (stepDown axisY p)))
       (v (stepDown axisY (stepDown axisZ p))) (v (stepDown axisX (stepDown axisZ p))) (v (stepDown axisX (stepDown axisY (stepDown axisZ p))))
 
+-- what follows from each of two tests follows from either
+pub or-then : {A : Type 0} (s t : Bool) → (T s → A) → (T t → A) → T (s || t) → A
+or-then true t f g h = f tt
+or-then false t f g h = g h
+
 -- ---- over the box
 
 -- the points with a weight lie inside the box
@@ -53,16 +56,13 @@ module _ (b : Box) (n : GridPoint → Bool) (inner : (p : GridPoint) → T (n p)
   high-none : (a : Axis) (p : GridPoint) → along a p ≡ along a (b .high) + 1 → i p ≡ 0
   high-none a p e = one-not (n p) (λ t. omega (arith, inner p t a .1))
 
-  nothing : (m k : ℕ) → m ≡ 0 → m * k ≡ 0
-  nothing m k e = rw e (omega arith)
-
   -- what stands at an edge's upper end, said at that point
   at-upper : (h : GridPoint → GridPoint → ℕ) (a : Axis)
       → total (λ (p : GridPoint). i (stepUp a p) * h (stepUp a p) p) (points b) ≡ total (λ (p : GridPoint). i p * h p (stepDown a p)) (points b)
   at-upper h a =
       sym
-      (shifted b a (λ (p : GridPoint). i p * h p (stepDown a p)) (λ (p : GridPoint) e. nothing (i p) (h p (stepDown a p)) (low-none a p e))
-      (λ (p : GridPoint) e. nothing (i p) (h p (stepDown a p)) (high-none a p e))
+      (shifted b a (λ (p : GridPoint). i p * h p (stepDown a p)) (λ (p : GridPoint) e. zero-times (i p) (h p (stepDown a p)) (low-none a p e))
+      (λ (p : GridPoint) e. zero-times (i p) (h p (stepDown a p)) (high-none a p e))
       ∙ total-same (all-each (λ (p : GridPoint). ap (λ (q : GridPoint). i (stepUp a p) * h (stepUp a p) q) (down-up a p)) (points b)))
 
   both-ends : (f : Axis → GridPoint → ℕ) (h : Axis → GridPoint → GridPoint → ℕ)
@@ -103,26 +103,12 @@ module _ (b : Box) (n : GridPoint → Bool) (inner : (p : GridPoint) → T (n p)
 
   -- ---- one edge
 
-  up-b : (a : Axis) (p : GridPoint) → along (axisB a) (stepUp a p) ≡ along (axisB a) p
-  up-b axisX p = refl
-  up-b axisY p = refl
-  up-b axisZ p = refl
-
-  up-c : (a : Axis) (p : GridPoint) → along (axisC a) (stepUp a p) ≡ along (axisC a) p
-  up-c axisX p = refl
-  up-c axisY p = refl
-  up-c axisZ p = refl
-
-  or-else : (s t : Bool) → T (s || t) → T s ⊎ T t
-  or-else true t h = inl tt
-  or-else false t h = inr h
-
   -- an edge with a weighed end is inside on both other axes
   inside-b : (a : Axis) (p : GridPoint) → T (n p || n (stepUp a p)) → 0 < along (axisB a) p
-  inside-b a p t = elim (or-else (n p) (n (stepUp a p)) t) [ inl h ↦ omega (arith, inner p h (axisB a) .0) | inr h ↦ omega (arith, inner (stepUp a p) h (axisB a) .0, up-b a p) ]
+  inside-b a p = or-then (n p) (n (stepUp a p)) (λ h. omega (arith, inner p h (axisB a) .0)) (λ h. omega (arith, inner (stepUp a p) h (axisB a) .0, up-b a p))
 
   inside-c : (a : Axis) (p : GridPoint) → T (n p || n (stepUp a p)) → 0 < along (axisC a) p
-  inside-c a p t = elim (or-else (n p) (n (stepUp a p)) t) [ inl h ↦ omega (arith, inner p h (axisC a) .0) | inr h ↦ omega (arith, inner (stepUp a p) h (axisC a) .0, up-c a p) ]
+  inside-c a p = or-then (n p) (n (stepUp a p)) (λ h. omega (arith, inner p h (axisC a) .0)) (λ h. omega (arith, inner (stepUp a p) h (axisC a) .0, up-c a p))
 
   -- what falls, f, and what rises, r, with the sides from the two ends, l and l', and the sides turned back, k and k'
   record Lies (s t : Bool) (f r l k l' k' area : ℕ) : Type 0 where

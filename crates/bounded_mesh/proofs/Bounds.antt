@@ -4,8 +4,8 @@ use Prim.Native.Nat.{ℕ, zero, suc, _+_, _-_, _*_, _^_, _≤_, _<_}
 use native.Mathlib.Nat.{zero-mul, suc-mul, add-zero}
 use native.Mathlib.Omega.{arith}
 use mathlib.Core.Bool.{Bool}
-use mathlib.Core.Logic.{_⊎_, inl, inr}
-use mathlib.Core.Path.{_≡_, refl, sym, ap, ap₂, subst, _∙_}
+use mathlib.Core.Logic.{inl, inr}
+use mathlib.Core.Path.{_≡_, sym, ap, ap₂, subst, _∙_}
 use lib.Dec.{T, le→leb}
 use lib.IntN.{ℤ, pos, negsuc, negℤ, _+ℤ_, _-ℤ_, _*ℤ_, sucℤ-*ℤ, zero-*ℤ, +ℤ-negℤ-cancel}
 use lib.Signed.{_≤ℤ_}
@@ -17,7 +17,7 @@ use Rattle.lists.proofs.Tests.{less-or-not}
 use Rattle.rules.specs.Grid.{GridPoint, Axis, Box, Field, index, inBox, value}
 use Rattle.rules.specs.Vertices.{vertices}
 use Rattle.rules.specs.Faces.{Flags, shorter, points, changingEdges, edges}
-use Rattle.rules.specs.Call.{Call, room}
+use Rattle.rules.specs.Call.{room}
 use Rattle.rules.proofs.Accepted.{Accepted}
 use Rattle.rules.proofs.Indexes.{index-below}
 use Rattle.rules.proofs.Edges.{index-count}
@@ -32,7 +32,7 @@ use Rattle.weighed_mesh.specs.Told.{weightOf}
 use Rattle.bounded_mesh.specs.Cells.{wholeCells}
 use Rattle.bounded_mesh.specs.Round.{InCells}
 use Rattle.bounded_mesh.specs.Placed.{inSludge, placed}
-use Rattle.bounded_mesh.specs.Bounded.{wholeOf, Bounded}
+use Rattle.bounded_mesh.specs.Bounded.{Bounded}
 use Rattle.bounded_mesh.proofs.Squares.{whole}
 use Rattle.bounded_mesh.proofs.Around.{gains, loses, bothEnds, eitherEnd, oneEnd, areaOf, at-least, at-most}
 use Rattle.bounded_mesh.proofs.Weights.{allCorners, someCorner, areas-least, areas-most}

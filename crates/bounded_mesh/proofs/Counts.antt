@@ -1,20 +1,19 @@
 -- The cells with all their corners in the sludge, and those with one at least, counted over the points of the box: the whole cells, and with them the surface cells.
 -- Assumes nothing.
-use Prim.Native.Nat.{ℕ, _+_, _*_, _≤_, _<_}
+use Prim.Native.Nat.{ℕ, _+_, _≤_, _<_}
 use native.Mathlib.Omega.{arith}
 use mathlib.Core.Bool.{Bool, true, false, _&&_}
-use mathlib.Core.List.{List, [], _∷_, map}
-use mathlib.Core.Logic.{_⊎_, inl, inr}
-use mathlib.Core.Path.{_≡_, refl, sym, ap, ap₂, subst, _∙_}
-use lib.Dec.{T, leb, eqb, leb→le, le→leb, eqb-refl}
+use mathlib.Core.Logic.{inl, inr}
+use mathlib.Core.Path.{_≡_, sym, ap, subst, _∙_}
+use lib.Dec.{T, leb, eqb, leb→le, le→leb}
 use lib.Ieee.Fits.{and-i, and-l, and-r}
 use lib.ListN.{length, getD}
 use Rattle.lists.specs.Lists.{one, many, keep, place}
 use Rattle.lists.proofs.Lists.{All, none, more, all-at, all-each, all-then, total, total-plus, many-map, many-same, many-keep, many-total, many-most, place-below, place-passes}
 use Rattle.lists.proofs.Permutation.{Perm, perm-many, perm-counts}
 use Rattle.lists.proofs.Tests.{one-of, same-test, less-or-not}
-use Rattle.rules.specs.Grid.{GridPoint, Axis, axisX, axisY, axisZ, Box, Field, samePoint, isCell, inBox, value}
-use Rattle.rules.specs.Cell.{negative, negatives, values, surface, cornerOf, eight}
+use Rattle.rules.specs.Grid.{GridPoint, axisX, axisY, axisZ, Box, Field, samePoint, isCell, inBox, value}
+use Rattle.rules.specs.Cell.{negative, negatives, values, cornerOf, eight}
 use Rattle.rules.specs.Vertices.{cells, vertices, surfaceCell}
 use Rattle.rules.specs.Faces.{points}
 use Rattle.rules.proofs.Indexes.{is-cell, cell-in-box, corner-in-box}
@@ -23,6 +22,7 @@ use Rattle.skin.specs.Enclosed.{Inner, Enclosed}
 use Rattle.bounded_mesh.specs.Cells.{allNegative, wholeCells}
 use Rattle.bounded_mesh.specs.Placed.{inSludge}
 use Rattle.bounded_mesh.proofs.Sums.{total-most}
+use Rattle.bounded_mesh.proofs.Meshed.{true-and}
 use Rattle.bounded_mesh.proofs.Weights.{cornersIn, allCorners, someCorner, one-under}
 
 -- the cells of a box, found among its points
@@ -51,10 +51,6 @@ eight-or-fewer true k t h l = elim (less-or-not k 8) [
 module _ (g : Field) (b : Box) where
   abbrev n : GridPoint → Bool
   n = inSludge g b
-
-  true-and : (s t : Bool) → T s → (s && t) ≡ t
-  true-and true t h = refl
-  true-and false t h = absurd h
 
   -- the corners of a cell of the box are points of the box
   corners-are : (c : GridPoint) → T (isCell b c) → cornersIn n c ≡ negatives (values g c)

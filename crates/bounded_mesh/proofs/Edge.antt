@@ -2,14 +2,14 @@
 use Prim.Native.Nat.{ℕ, _+_, _-_, _*_, _≤_, _<_}
 use native.Mathlib.Omega.{arith}
 use mathlib.Core.Bool.{Bool, true, false}
-use mathlib.Core.Path.{_≡_, refl, sym, ap, ap₂, subst, subst₂, _∙_}
-use Rattle.rules.specs.Grid.{GridPoint, Axis, axisX, axisY, axisZ, along, stepUp, stepDown}
+use mathlib.Core.Path.{_≡_, refl, sym, ap₂, subst, subst₂}
+use Rattle.rules.specs.Grid.{GridPoint, Axis, axisX, axisY, axisZ, along, stepUp}
 use Rattle.rules.specs.Faces.{Edge, edge, axisB, axisC, cell1, cell2, cell3, cell4}
 use Rattle.volume.specs.declared.Corner.{Corner}
 use Rattle.volume.specs.Volume.{corner, falling}
 use Rattle.weighed_mesh.specs.Facing.{onAxis}
 use Rattle.bounded_mesh.specs.Round.{quadFall, quadRise, sides, sidesBack, inSteps, turning, areaRound, Placing, InCells, round}
-use Rattle.bounded_mesh.proofs.Face.{Above, Below, Cells, areaSeen, Weighs, face-weighs}
+use Rattle.bounded_mesh.proofs.Face.{Above, Below, Cells, Weighs, face-weighs}
 
 -- ---- seen along an axis
 

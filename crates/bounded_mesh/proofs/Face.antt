@@ -1,10 +1,10 @@
 -- The face of a grid edge with the edge's two ends, in coordinates that begin along the edge: the pyramid from the low end lies between -256³ and 256 times
 -- twice the face's area, 256³ more; and the pyramids from the two ends make 256 times twice the area together. Assumes nothing.
-use Prim.Native.Nat.{ℕ, _+_, _-_, _*_, _≤_}
+use Prim.Native.Nat.{ℕ, _+_, _*_, _≤_}
 use native.Mathlib.Nat.{mul-add, mul-le-mul}
 use native.Mathlib.Omega.{arith}
 use mathlib.Core.Bool.{Bool, true, false}
-use mathlib.Core.Path.{_≡_, refl, sym, ap, ap₂, subst, _∙_}
+use mathlib.Core.Path.{_≡_, sym, ap, ap₂, subst, _∙_}
 use Rattle.volume.specs.declared.Corner.{Corner}
 use Rattle.volume.specs.Volume.{corner, falling}
 use Rattle.bounded_mesh.specs.Round.{away, quadFall, quadRise, sides, sidesBack}

@@ -3,7 +3,7 @@
 use Prim.Native.Nat.{ℕ, _+_, _*_, _≤_}
 use native.Mathlib.Omega.{arith}
 use mathlib.Core.Bool.{Bool, true, false, not, _&&_, cond}
-use mathlib.Core.List.{List, [], _∷_, map}
+use mathlib.Core.List.{List, [], _∷_}
 use mathlib.Core.Logic.{_⊎_, inl, inr}
 use mathlib.Core.Path.{_≡_, refl, sym, ap, ap₂, subst, subst₂, _∙_}
 use lib.Dec.{T}
@@ -11,17 +11,17 @@ use lib.IntN.{ℤ, pos, _+ℤ_, _-ℤ_, +ℤ-comm, +ℤ-idl}
 use lib.Ieee.{binary32, fits, unlike}
 use lib.Ieee.Bits.{is-true}
 use lib.Ieee.Fits.{and-i, and-l, and-r}
-use Rattle.lists.specs.Lists.{one, many, keep, joined}
-use Rattle.lists.proofs.Lists.{All, none, more, all-each, all-then, total, total-same, total-plus, many-total}
-use Rattle.lists.proofs.Tests.{same-test, is-false}
+use Rattle.lists.specs.Lists.{one, many, keep}
+use Rattle.lists.proofs.Lists.{All, none, more, all-each, all-then, total, total-same, many-total}
+use Rattle.lists.proofs.Tests.{same-test}
 use Rattle.rules.specs.Grid.{GridPoint, Axis, axisX, axisY, axisZ, Box, Field, along, stepUp, isCell, inBox, value}
 use Rattle.rules.specs.Cell.{Vector, negative}
 use Rattle.rules.specs.Vertices.{surfaceCell, vertexPosition}
 use Rattle.rules.specs.Faces.{Edge, edge, edgesAt, Flags, gives, owned, changes, edges, points, six, shorter, faceCells, cell1, cell2, cell3, cell4, changingEdges}
 use Rattle.rules.specs.Call.{badDimensions, badBox, badDistance}
 use Rattle.rules.proofs.Indexes.{in-box}
-use Rattle.rules.proofs.FourCells.{Four, gives-owned, gives-cell}
-use Rattle.rules.proofs.Edges.{edges-all, edges-found, foundEdges, map-six}
+use Rattle.rules.proofs.FourCells.{Four, gives-cell}
+use Rattle.rules.proofs.Edges.{edges-all, edges-found, map-six}
 use Rattle.rules.proofs.Numbers.{four-each}
 use Rattle.rules.proofs.Inside.{points-all}
 use Rattle.cube.proofs.ClosedCell.{InCell, OnAxes}
@@ -38,7 +38,7 @@ use Rattle.weighed_mesh.proofs.Facing.{steps-within}
 use Rattle.bounded_mesh.specs.Round.{quadFall, quadRise, inSteps, Placing, InCells, round}
 use Rattle.bounded_mesh.specs.Placed.{inSludge, placed}
 use Rattle.bounded_mesh.proofs.Sums.{total-kept, total-joined}
-use Rattle.bounded_mesh.proofs.Squares.{axes, whole, by-axes, whole-plus}
+use Rattle.bounded_mesh.proofs.Squares.{whole, by-axes, whole-plus}
 
 -- ---- each vertex in its cell
 
@@ -93,7 +93,7 @@ sum-parts h f r (more {x = x} {xs = l} p q) = ap₂ _+ℤ_ p (sum-parts h f r q)
 
 -- ---- all faces
 
-true-and : (s t : Bool) → T s → (s && t) ≡ t
+pub true-and : (s t : Bool) → T s → (s && t) ≡ t
 true-and true t h = refl
 true-and false t h = absurd h
 

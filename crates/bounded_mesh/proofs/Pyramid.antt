@@ -1,10 +1,10 @@
 -- A pyramid over the face of a grid edge, from the edge's low end, as bare numbers: a whole that is never below zero, give or take 256³.
 -- Each number with a sign is said as the products that count plus and those that count minus. Assumes nothing.
 use Prim.Native.Nat.{ℕ, _+_, _-_, _*_, _≤_}
-use native.Mathlib.Nat.{mul-le-mul, mul-le-mul-left, mul-le-mul-right}
+use native.Mathlib.Nat.{mul-le-mul, mul-le-mul-right}
 use native.Mathlib.Omega.{arith}
-use mathlib.Core.Logic.{_⊎_, inl, inr}
-use mathlib.Core.Path.{_≡_, refl, sym, ap, ap₂, _∙_}
+use mathlib.Core.Logic.{inl, inr}
+use mathlib.Core.Path.{_≡_, sym, ap, ap₂, _∙_}
 use Rattle.lists.proofs.Tests.{less-or-not}
 
 -- ---- products of two distances from a point

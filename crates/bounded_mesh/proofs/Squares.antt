@@ -6,13 +6,12 @@ use native.Mathlib.Omega.{arith}
 use mathlib.Core.List.{List, [], _∷_}
 use mathlib.Core.Logic.{_⊎_, inl, inr}
 use mathlib.Core.Path.{_≡_, refl, sym, ap, ap₂, subst, subst₂, _∙_}
-use Rattle.lists.proofs.Lists.{All, none, more, all-each, total, total-same, total-plus, total-scaled}
+use Rattle.lists.proofs.Lists.{all-each, total, total-same, total-plus, total-scaled}
 use Rattle.rules.specs.Grid.{GridPoint, Axis, axisX, axisY, axisZ, Box, along, stepUp, stepDown, turned}
-use Rattle.rules.specs.Faces.{Edge, edge, axisB, axisC, cell1, cell2, cell3, cell4, points}
-use Rattle.volume.specs.declared.Corner.{Corner}
+use Rattle.rules.specs.Faces.{edge, axisB, axisC, cell1, cell2, cell3, cell4, points}
 use Rattle.weighed_mesh.specs.Facing.{onAxis}
 use Rattle.bounded_mesh.specs.Round.{away, distance, turning, areaRound, Placing, InCells, round}
-use Rattle.bounded_mesh.proofs.Sums.{shifted, total-most}
+use Rattle.bounded_mesh.proofs.Sums.{zero-times, shifted, total-most}
 
 -- ---- steps up and down
 
@@ -23,6 +22,17 @@ pub down-up : (a : Axis) (p : GridPoint) → stepDown a (stepUp a p) ≡ p
 down-up axisX p = λ i. record { x = back-down (p .x) i; y = p .y; z = p .z }
 down-up axisY p = λ i. record { x = p .x; y = back-down (p .y) i; z = p .z }
 down-up axisZ p = λ i. record { x = p .x; y = p .y; z = back-down (p .z) i }
+
+-- a step along an edge leaves the two other axes
+pub up-b : (a : Axis) (p : GridPoint) → along (axisB a) (stepUp a p) ≡ along (axisB a) p
+up-b axisX p = refl
+up-b axisY p = refl
+up-b axisZ p = refl
+
+pub up-c : (a : Axis) (p : GridPoint) → along (axisC a) (stepUp a p) ≡ along (axisC a) p
+up-c axisX p = refl
+up-c axisY p = refl
+up-c axisZ p = refl
 
 -- ---- one square
 
@@ -139,9 +149,6 @@ module _ (b : Box) where
   -- where a number for each axis and point is nothing on the two end planes of an axis
   abbrev pub Ends : (Axis → Axis) → (Axis → GridPoint → ℕ) → Type 0
   Ends t k = (a : Axis) (p : GridPoint) → (along (t a) p ≡ along (t a) (b .low)) ⊎ (along (t a) p ≡ along (t a) (b .high) + 1) → k a p ≡ 0
-
-  zero-times : (m n : ℕ) → m ≡ 0 → m * n ≡ 0
-  zero-times m n e = rw e (omega arith)
 
   moved : (k : Axis → GridPoint → ℕ) (t : Axis → Axis) → Ends t k → (f : Axis → GridPoint → ℕ) (a : Axis)
       → total (λ (p : GridPoint). k a p * f a p) (points b) ≡ total (λ (p : GridPoint). k a (stepUp (t a) p) * f a (stepUp (t a) p)) (points b)

@@ -1,18 +1,18 @@
 -- Sums over the points of a box: by rows, joined and compared term by term, and moved by one step along an axis where what is summed vanishes on the
 -- planes at both ends. Assumes nothing.
-use Prim.Native.Nat.{ℕ, zero, suc, _+_, _-_, _*_, _≤_, _<_}
+use Prim.Native.Nat.{ℕ, zero, suc, _+_, _-_, _*_, _≤_}
 use native.Mathlib.Nat.{add-zero}
 use native.Mathlib.Omega.{arith}
 use mathlib.Core.Bool.{Bool, true, false, cond}
 use mathlib.Core.List.{List, [], _∷_, _++_, map}
-use mathlib.Core.Logic.{_⊎_, inl, inr}
-use mathlib.Core.Path.{_≡_, refl, sym, ap, ap₂, _∙_}
+use mathlib.Core.Logic.{inl, inr}
+use mathlib.Core.Path.{_≡_, refl, sym, ap, _∙_}
 use Rattle.lists.specs.Lists.{run, upTo, keep, joined}
-use Rattle.lists.proofs.Lists.{All, none, more, all-each, all-then, total, total-same}
+use Rattle.lists.proofs.Lists.{All, none, more, all-each, total, total-same}
 use Rattle.lists.proofs.Runs.{upTo-none}
 use Rattle.lists.proofs.Tests.{less-or-not}
 use Rattle.rules.specs.Grid.{GridPoint, Axis, axisX, axisY, axisZ, Box, along, stepUp}
-use Rattle.rules.specs.Faces.{layerPoints, pointLayers, points}
+use Rattle.rules.specs.Faces.{layerPoints, points}
 
 -- ---- totals over lists
 
@@ -51,6 +51,9 @@ module _ {A B : Type 0} where
   unfolding total joined
   total-joined f h [] = refl
   total-joined f h (x ∷ l) = total-append f (h x) (joined h l) ∙ ap (λ n. total f (h x) + n) (total-joined f h l)
+
+pub zero-times : (m n : ℕ) → m ≡ 0 → m * n ≡ 0
+zero-times m n e = rw e (omega arith)
 
 -- ---- a run of numbers
 

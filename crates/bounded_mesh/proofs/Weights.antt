@@ -3,21 +3,21 @@ use Prim.Native.Nat.{ℕ, zero, suc, _+_, _*_, _≤_, _<_}
 use native.Mathlib.Nat.{add-zero, le-trans, le-of-eq, add-le-add, mul-le-mul-right}
 use native.Mathlib.Omega.{arith}
 use mathlib.Core.Bool.{Bool, true, false, _&&_, _||_}
-use mathlib.Core.List.{List}
 use mathlib.Core.Logic.{_⊎_, inl, inr}
-use mathlib.Core.Path.{_≡_, refl, sym, ap, subst, _∙_}
+use mathlib.Core.Path.{_≡_, refl, sym, subst}
 use lib.Dec.{T, leb, eqb, eqb→eq, le→leb}
 use lib.Ieee.Fits.{and-i, and-l, and-r}
 use lib.ListN.{getD}
 use Rattle.lists.specs.Lists.{one, many}
-use Rattle.lists.proofs.Lists.{All, all-at, total, many-some, many-full}
-use Rattle.lists.proofs.Tests.{one-of, one-not, one-most, or-first, or-second}
+use Rattle.lists.proofs.Lists.{all-at, total, many-some, many-full}
+use Rattle.lists.proofs.Tests.{one-of, one-not, or-first, or-second}
 use Rattle.rules.specs.Grid.{GridPoint, Axis, axisX, axisY, axisZ, Box, along, stepUp, turned}
 use Rattle.rules.specs.Cell.{cornerOf, eight}
-use Rattle.rules.specs.Faces.{Edge, edge, axisB, axisC, points}
+use Rattle.rules.specs.Faces.{edge, axisB, axisC, points}
 use Rattle.skin.specs.Enclosed.{Inner}
 use Rattle.bounded_mesh.specs.Round.{areaRound, Placing, InCells, round}
-use Rattle.bounded_mesh.proofs.Squares.{whole, Ends, Order, Weights, areas-compare}
+use Rattle.bounded_mesh.proofs.Squares.{up-b, up-c, whole, Order, Weights, areas-compare}
+use Rattle.bounded_mesh.proofs.Around.{or-then}
 
 -- ---- at most and at least
 
@@ -130,10 +130,6 @@ module _ (n : GridPoint → Bool) where
       let t2 = and-r (n (stepUp (turned a) p)) _ t1 in
       record { d0 = and-l (n p) _ t; d1 = and-l (n (stepUp (turned a) p)) _ t1; d2 = and-l (n (stepUp (turned (turned a)) p)) _ t2; d3 = and-r (n (stepUp (turned (turned a)) p)) _ t2 }
 
-  or-then : {A : Type 0} (s t : Bool) → (T s → A) → (T t → A) → T (s || t) → A
-  or-then true t f g h = f tt
-  or-then false t f g h = g h
-
   -- what follows from each corner follows from some
   some-four : {A : Type 0} (a : Axis) (p : GridPoint) → Corners (λ (q : GridPoint). T (n q) → A) a p → T (someOfFour a p) → A
   some-four a p c =
@@ -177,16 +173,6 @@ module _ (n : GridPoint → Bool) where
     outside x p q e (inl h) t = omega (arith, inner q t x .0)
     outside x p q e (inr h) t = omega (arith, inner q t x .1)
 
-    level-b : (a : Axis) (p : GridPoint) → along (axisB a) (stepUp a p) ≡ along (axisB a) p
-    level-b axisX p = refl
-    level-b axisY p = refl
-    level-b axisZ p = refl
-
-    level-c : (a : Axis) (p : GridPoint) → along (axisC a) (stepUp a p) ≡ along (axisC a) p
-    level-c axisX p = refl
-    level-c axisY p = refl
-    level-c axisZ p = refl
-
     levels : (a : Axis) (p : GridPoint) → Corners (λ (q : GridPoint). along a q ≡ along a p) a p
     levels axisX p = record { d0 = refl; d1 = refl; d2 = refl; d3 = refl }
     levels axisY p = record { d0 = refl; d1 = refl; d2 = refl; d3 = refl }
@@ -199,8 +185,8 @@ module _ (n : GridPoint → Bool) where
     none-both x a p h t = outside x p p refl h (and-l (n p) (n (stepUp a p)) t)
 
     module _ (v : Placing) (w : InCells v) where
-      all-weights : Weights least b v w (λ (p : GridPoint). one (someCorner p)) (λ (a : Axis) (p : GridPoint). one (someOfFour a p)) (λ (a : Axis) (p : GridPoint). one (either a p))
-      all-weights =
+      some-weights : Weights least b v w (λ (p : GridPoint). one (someCorner p)) (λ (a : Axis) (p : GridPoint). one (someOfFour a p)) (λ (a : Axis) (p : GridPoint). one (either a p))
+      some-weights =
           record {
             low = λ a p. one-under (someOfFour a p) (someCorner p) (some-four a p (low-square a p (some-eight p)));
             high = λ a p. one-under (someOfFour a (stepUp a p)) (someCorner p) (some-four a (stepUp a p) (high-square a p (some-eight p)));
@@ -210,8 +196,8 @@ module _ (n : GridPoint → Bool) where
             left = λ a p. one-under (either (turned a) p) (someOfFour a p) (or-then (n p) (n (stepUp (turned a) p)) (four-some a p .d0) (four-some a p .d1));
             right = λ a p. one-under (either (turned a) (stepUp (turned (turned a)) p)) (someOfFour a p)
                 (or-then (n (stepUp (turned (turned a)) p)) (n (stepUp (turned a) (stepUp (turned (turned a)) p))) (four-some a p .d2) (four-some a p .d3));
-            atB = λ a p h. one-not (either a p) (none-either (axisB a) a p (level-b a p) h);
-            atC = λ a p h. one-not (either a p) (none-either (axisC a) a p (level-c a p) h);
+            atB = λ a p h. one-not (either a p) (none-either (axisB a) a p (up-b a p) h);
+            atC = λ a p h. one-not (either a p) (none-either (axisC a) a p (up-c a p) h);
             atN = λ a p h. one-not (someOfFour a p) (some-four a p (let e = levels a p in
                 record { d0 = outside a p p (e .d0) h; d1 = outside a p (stepUp (turned a) p) (e .d1) h; d2 = outside a p (stepUp (turned (turned a)) p) (e .d2) h; d3 = outside a p (stepUp (turned a) (stepUp (turned (turned a)) p)) (e .d3) h }));
           }
@@ -242,4 +228,4 @@ module _ (n : GridPoint → Bool) where
       pub areas-most : whole b (λ (a : Axis) (p : GridPoint). one (n p || n (stepUp a p)) * round v (areaRound a p) (edge a p))
           ≤ 393216 * total (λ (p : GridPoint). one (someCorner p)) (points b)
       areas-most =
-          areas-compare least b v w (λ (p : GridPoint). one (someCorner p)) (λ (a : Axis) (p : GridPoint). one (someOfFour a p)) (λ (a : Axis) (p : GridPoint). one (either a p)) all-weights
+          areas-compare least b v w (λ (p : GridPoint). one (someCorner p)) (λ (a : Axis) (p : GridPoint). one (someOfFour a p)) (λ (a : Axis) (p : GridPoint). one (either a p)) some-weights

@@ -9,3 +9,4 @@ pub mod Weights
 pub mod Meshed
 pub mod Counts
 pub mod Bounds
+pub mod Instances

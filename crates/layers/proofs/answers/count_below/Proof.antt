@@ -1,7 +1,7 @@
 -- No cells below the first layer; below any other those between its kept layer and itself. Assumes nothing.
-use Prim.Native.Nat.{ℕ, _-_, _*_, _%_}
+use native.Mathlib.Nat.{le-trans}
 use mathlib.Core.List.{List}
-use mathlib.Core.Path.{_≡_, sym, ap, subst, _∙_}
+use mathlib.Core.Path.{refl, sym, ap, subst, _∙_}
 use native.Mathlib.Omega.{arith}
 use lib.Ieee.{Float}
 use lib.ListN.{length}
@@ -13,7 +13,7 @@ use Rattle.grid.specs.Values.{gridOf}
 use Rattle.count.specs.Tally.{tallyOf}
 use Rattle.count.proofs.Tallies.{none-counted}
 use Rattle.layers.specs.Offer.{before, cellsAt, between}
-use Rattle.layers.proofs.Cells.{cells-first, cells-later, plane-small, in-layers, half-read, half-end}
+use Rattle.layers.proofs.Cells.{cells-first, cells-later, in-layers, half-read, Within, within-half, cells-word}
 use borrow.Author.Needs.{needs}
 use Rattle.layers.proofs.answers.count_below.Statement.{statement}
 use Rattle.layers.proofs.answers.count_below.Tie as tie
@@ -25,6 +25,9 @@ entry-of c = c .before .before .before .before .before
 
 abbrev half-of : tie.After-struct-known → tie.After-half
 half-of c = c .before .before .before .before .before .before
+
+ends : (c : tie.After-half) → Within (entry-of c .args .s .block) (c .half .result) (length (entry-of c .args .layer .now))
+ends c = let s = entry-of c in within-half (s .pre) (before (s .args .s)) (c .half .ensures)
 
 -- ---- the needs
 
@@ -38,48 +41,37 @@ sub-t : tie.Need-sub-t
 sub-t c = search needs
 
 half-requires : tie.Need-half-requires
-half-requires c κs = search needs
+half-requires c κs = tt
 
 add-end : tie.Need-add-end
-add-end c =
-    let s = entry-of c in
-    let e = half-end (s .args .s .block) (s .args .s .taken - 1) (s .pre .offered .long) (c .half .ensures) in
-    let p = plane-small (s .pre) in
-    record { fits = omega arith }
+add-end c = ends c .end-fits
 
 mul-count-layer : tie.Need-mul-count-layer
-mul-count-layer c =
-    let s = entry-of c in
-    let e = half-end (s .args .s .block) (s .args .s .taken - 1) (s .pre .offered .long) (c .half .ensures) in
-    let p = plane-small (s .pre) in
-    record { fits = omega arith }
+mul-count-layer c = ends c .bytes-fit
 
 sub-count-layer : tie.Need-sub-count-layer
-sub-count-layer c = search needs
+sub-count-layer c = ends c .ordered
 
 part-count-layer-start : tie.Need-part-count-layer-start
-part-count-layer-start c = search needs
+part-count-layer-start c = ends c .ordered
 
 part-count-layer-end : tie.Need-part-count-layer-end
-part-count-layer-end c =
-    let s = entry-of c in
-    let e = half-end (s .args .s .block) (s .args .s .taken - 1) (s .pre .offered .long) (c .half .ensures) in
-    omega (arith, s .pre .kept)
+part-count-layer-end c = le-trans (ends c .inside) (entry-of c .pre .kept)
 
 slice-aggregate-count-layer : tie.Need-slice-aggregate-count-layer
-slice-aggregate-count-layer c = search needs
+slice-aggregate-count-layer c = refl
 
 slice-aggregate-count-layer-2 : tie.Need-slice-aggregate-count-layer-2
-slice-aggregate-count-layer-2 c = search needs
+slice-aggregate-count-layer-2 c = refl
 
 slice-aggregate-count-layer-3 : tie.Need-slice-aggregate-count-layer-3
-slice-aggregate-count-layer-3 c = search needs
+slice-aggregate-count-layer-3 c = refl
 
 slice-aggregate-count-layer-4 : tie.Need-slice-aggregate-count-layer-4
-slice-aggregate-count-layer-4 c = search needs
+slice-aggregate-count-layer-4 c = refl
 
 add-count-layer : tie.Need-add-count-layer
-add-count-layer c = search needs
+add-count-layer c = cells-word (entry-of (half-of c) .pre)
 
 count-layer-requires : tie.Need-count-layer-requires
 unfolding gridOf

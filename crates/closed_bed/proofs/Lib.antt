@@ -13,3 +13,4 @@ pub mod Sides
 pub mod Standing
 pub mod Meshed
 pub mod Deepest
+pub mod Tank

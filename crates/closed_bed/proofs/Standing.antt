@@ -36,7 +36,7 @@ use Rattle.closed_bed.proofs.Sides.{sideOf, low-position, high-position
 
 -- ---- corners
 
-corner-along : (a : Axis) (c : GridPoint) (i : ℕ) → along a (cornerOf c i) ≡ along a c + sideOf a i
+pub corner-along : (a : Axis) (c : GridPoint) (i : ℕ) → along a (cornerOf c i) ≡ along a c + sideOf a i
 corner-along axisX c i = refl
 corner-along axisY c i = refl
 corner-along axisZ c i = refl
@@ -47,7 +47,7 @@ beyond-low axisX d p e = is-false (inOpen d p) (λ t. let o = open-point d p t .
 beyond-low axisY d p e = is-false (inOpen d p) (λ t. let o = open-point d p t .y in omega arith)
 beyond-low axisZ d p e = is-false (inOpen d p) (λ t. let o = open-point d p t .z in omega arith)
 
-beyond-high : (a : Axis) (d p : GridPoint) → along a d < along a p → inOpen d p ≡ false
+pub beyond-high : (a : Axis) (d p : GridPoint) → along a d < along a p → inOpen d p ≡ false
 beyond-high axisX d p e = is-false (inOpen d p) (λ t. let o = open-point d p t .x in omega arith)
 beyond-high axisY d p e = is-false (inOpen d p) (λ t. let o = open-point d p t .y in omega arith)
 beyond-high axisZ d p e = is-false (inOpen d p) (λ t. let o = open-point d p t .z in omega arith)

@@ -25,15 +25,15 @@ use Rattle.skin.specs.Scan.{answers, examined}
 use Rattle.closing.specs.Closed.{closedDims, pointCount, layerCount, openField, closedList, closedLayer}
 use Rattle.closing.specs.Answers.{layerAnswer, layerRoom}
 use Rattle.closing.proofs.Answers.{layer-done}
-use Rattle.closed_mesh.proofs.Outcome.{Input, Mesh, meshInput, meshAnswer, meshExit, Test, testInput}
+use Rattle.closed_mesh.proofs.Outcome.{Input, Mesh, meshInput, meshAnswer, meshExit, Test, testInput, BedMesh, bedMeshInput, bedMeshAnswer, bedMeshExit, BedTest, bedTestInput, bedTested}
 use Rattle.closed_mesh.proofs.Closed.{Even, mesh-closed-yes}
-use Rattle.closed_mesh.proofs.Calls.{mesh-is}
+use Rattle.closed_mesh.proofs.Calls.{mesh-is, bed-mesh-is}
 use Rattle.closed_bed.specs.Standing.{wholeBox}
 use Rattle.closed_bed.specs.Layers.{layerOf}
 use Rattle.closed_bed.proofs.Values.{Closes, call-accepted, call-closed}
 use Rattle.closed_bed.proofs.Enclosing.{closed-judged}
 use Rattle.closed_bed.proofs.Passing.{closed-passes}
-use Rattle.closed_bed.proofs.Outcome.{closedExtent, origin, farCorner, closedInput, Close, closeDims, closeExit, close-is, Close16, closeDims16, closeExit16, close-is-16, Close8, closeDims8, closeExit8, close-is-8, CloseLayer, layerExit}
+use Rattle.closed_bed.proofs.Outcome.{closedExtent, origin, farCorner, closedInput, Close, closeDims, closeExit, close-is, Close16, closeDims16, closeExit16, close-is-16, Close8, closeDims8, closeExit8, close-is-8, CloseLayer, layerExit, BedClose, bedCloseDims, bedCloseExit, bed-close-is, BedClose16, bedCloseDims16, bedCloseExit16, bed-close-is-16, BedClose8, bedCloseDims8, bedCloseExit8, bed-close-is-8}
 use Rattle.closed_bed.proofs.Joining.{closed-layer-long, layers-joined}
 
 -- the test and the mesh of the same input
@@ -44,6 +44,14 @@ meshed : (m : Mesh) {i : Input} → meshInput m ≡ i → examined (i .sdf) (i .
     → Even (links (take (meshAnswer m .indices) (meshExit m .indices)))
 meshed m same yes' made =
     mesh-closed-yes (mesh-is m made) (subst (λ (k : Input). examined (k .sdf) (k .dims) (k .low) (k .high) ≡ answers 0 true) (sym same) yes')
+
+bed-tested : (t : BedTest) {i : Input} → bedTestInput t ≡ i → examined (i .sdf) (i .dims) (i .low) (i .high) ≡ answers 0 true → bedTested t ≡ answers 0 true
+bed-tested t same yes' = t .learnt ∙ subst (λ (k : Input). examined (k .sdf) (k .dims) (k .low) (k .high) ≡ answers 0 true) (sym same) yes'
+
+bed-meshed : (m : BedMesh) {i : Input} → bedMeshInput m ≡ i → examined (i .sdf) (i .dims) (i .low) (i .high) ≡ answers 0 true → m .result ≡ 0
+    → Even (links (take (bedMeshAnswer m .indices) (bedMeshExit m .indices)))
+bed-meshed m same yes' made =
+    mesh-closed-yes (bed-mesh-is m made) (subst (λ (k : Input). examined (k .sdf) (k .dims) (k .low) (k .high) ≡ answers 0 true) (sym same) yes')
 
 module _ {dims : Extent} {wall : Float} {sdf old exit : List Float} {r : ℕ} (c : Closes (point dims) wall sdf old r exit) where
   -- the test says yes
@@ -88,6 +96,32 @@ module _ (o : Close8) (done : o .result ≡ 0) where
   pub no-hole-after-close-8 : (m : Mesh) → meshInput m ≡ closedInput (closeDims8 o) (closeExit8 o) → m .result .number ≡ 0
       → Even (links (take (meshAnswer m .indices) (meshExit m .indices)))
   no-hole-after-close-8 m same made = meshed m same (examined-yes (close-is-8 o done)) made
+
+-- ---- the same of the functions for C
+
+module _ (o : BedClose) (done : o .result ≡ 0) where
+  pub bed-is-enclosed-after-close : (t : BedTest) → bedTestInput t ≡ closedInput (bedCloseDims o) (bedCloseExit o) → bedTested t ≡ answers 0 true
+  bed-is-enclosed-after-close t same = bed-tested t same (examined-yes (bed-close-is o done))
+
+  pub bed-no-hole-after-close : (m : BedMesh) → bedMeshInput m ≡ closedInput (bedCloseDims o) (bedCloseExit o) → m .result ≡ 0
+      → Even (links (take (bedMeshAnswer m .indices) (bedMeshExit m .indices)))
+  bed-no-hole-after-close m same made = bed-meshed m same (examined-yes (bed-close-is o done)) made
+
+module _ (o : BedClose16) (done : o .result ≡ 0) where
+  pub bed-is-enclosed-after-close-16 : (t : BedTest) → bedTestInput t ≡ closedInput (bedCloseDims16 o) (bedCloseExit16 o) → bedTested t ≡ answers 0 true
+  bed-is-enclosed-after-close-16 t same = bed-tested t same (examined-yes (bed-close-is-16 o done))
+
+  pub bed-no-hole-after-close-16 : (m : BedMesh) → bedMeshInput m ≡ closedInput (bedCloseDims16 o) (bedCloseExit16 o) → m .result ≡ 0
+      → Even (links (take (bedMeshAnswer m .indices) (bedMeshExit m .indices)))
+  bed-no-hole-after-close-16 m same made = bed-meshed m same (examined-yes (bed-close-is-16 o done)) made
+
+module _ (o : BedClose8) (done : o .result ≡ 0) where
+  pub bed-is-enclosed-after-close-8 : (t : BedTest) → bedTestInput t ≡ closedInput (bedCloseDims8 o) (bedCloseExit8 o) → bedTested t ≡ answers 0 true
+  bed-is-enclosed-after-close-8 t same = bed-tested t same (examined-yes (bed-close-is-8 o done))
+
+  pub bed-no-hole-after-close-8 : (m : BedMesh) → bedMeshInput m ≡ closedInput (bedCloseDims8 o) (bedCloseExit8 o) → m .result ≡ 0
+      → Even (links (take (bedMeshAnswer m .indices) (bedMeshExit m .indices)))
+  bed-no-hole-after-close-8 m same made = bed-meshed m same (examined-yes (bed-close-is-8 o done)) made
 
 -- ---- layer by layer
 

@@ -26,13 +26,13 @@ use Rattle.grid.specs.Block.{point}
 use Rattle.surface_nets.specs.AsRules.{callMade}
 use Rattle.closing.specs.Closed.{closedDims, pointCount, openField, closedList}
 use Rattle.grid.specs.Values.{asFloats}
-use Rattle.closed_mesh.proofs.Outcome.{Input, Mesh, meshInput, meshPlane, meshAnswer, meshEntry, meshExit}
+use Rattle.closed_mesh.proofs.Outcome.{Input, Mesh, meshInput, meshPlane, meshAnswer, meshEntry, meshExit, BedMesh, bedMeshInput, bedMeshPlane, bedMeshAnswer, bedMeshEntry, bedMeshExit}
 use Rattle.closed_mesh.proofs.Closed.{Meshed}
-use Rattle.closed_mesh.proofs.Calls.{mesh-is}
+use Rattle.closed_mesh.proofs.Calls.{mesh-is, bed-mesh-is}
 use Rattle.closed_bed.specs.Standing.{wholeBox, FarWall, component, Stands, axisPlace, StandsAt}
 use Rattle.closed_bed.proofs.Values.{Closes, call-accepted, call-closed}
 use Rattle.closed_bed.proofs.Standing.{all-stand}
-use Rattle.closed_bed.proofs.Outcome.{closedExtent, origin, farCorner, closedInput, Close, closeDims, closeExit, close-is, Close16, closeDims16, closeExit16, close-is-16, Close8, closeDims8, closeExit8, close-is-8}
+use Rattle.closed_bed.proofs.Outcome.{closedExtent, origin, farCorner, closedInput, Close, closeDims, closeExit, close-is, Close16, closeDims16, closeExit16, close-is-16, Close8, closeDims8, closeExit8, close-is-8, BedClose, bedCloseDims, bedCloseExit, bed-close-is}
 
 -- any cell, where a list is too short
 abbrev pub zero-point : GridPoint
@@ -140,3 +140,13 @@ pub far-wall-stands-8 : (o : Close8) → o .result ≡ 0 → (let (sdf, (dims, (
     → (m : Mesh) → meshInput m ≡ closedInput (closeDims8 o) (closeExit8 o) → m .result .number ≡ 0 → (v : ℕ) → v < meshAnswer m .vertices → (a : Axis)
     → StandsAt (along a (point dims)) (getD (meshExit m .cells) (3 * v + axisPlace a) 0) (getD (meshExit m .positions) (3 * v + axisPlace a) nan))
 far-wall-stands-8 o done far m same made = let u = meshed m (closeDims8 o) (closeExit8 o) same made in mesh-stands (close-is-8 o done) far (u .0) (u .1)
+
+-- ---- bed_close, then bed_surface_nets
+
+pub bed-far-wall-stands : (o : BedClose) → o .result ≡ 0 → (let (sdf, (_, (wall, _))) = o .args in FarWall wall (now sdf)
+    → (m : BedMesh) → bedMeshInput m ≡ closedInput (bedCloseDims o) (bedCloseExit o) → m .result ≡ 0 → (v : ℕ) → v < bedMeshAnswer m .vertices → (a : Axis)
+    → StandsAt (along a (point (bedCloseDims o))) (getD (bedMeshExit m .cells) (3 * v + axisPlace a) 0) (getD (bedMeshExit m .positions) (3 * v + axisPlace a) nan))
+bed-far-wall-stands o done far m same made =
+    mesh-stands (bed-close-is o done) far
+    (subst (λ (i : Input). Meshed i (bedMeshPlane m) (bedMeshAnswer m) (bedMeshEntry m) (bedMeshExit m)) same (bed-mesh-is m made))
+    (subst (λ (i : Input). Binary32 (i .sdf)) same (m .learnt .1 .1))

@@ -19,6 +19,13 @@ use Rattle.closing.proofs.close_i8.Kinds as close-i8-kinds
 use Rattle.closing.proofs.close_i8.Reads as close-i8
 use Rattle.closing.proofs.close_layer.Kinds as layer-kinds
 use Rattle.closing.proofs.close_layer.Reads as layer
+use Rattle.bed.specs.Words12.{dimsAsked}
+use Rattle.bed.proofs.closed.bed_close.Kinds as bed-close-kinds
+use Rattle.bed.proofs.closed.bed_close.Reads as bed-close
+use Rattle.bed.proofs.closed.bed_close_i16.Kinds as bed-close-i16-kinds
+use Rattle.bed.proofs.closed.bed_close_i16.Reads as bed-close-i16
+use Rattle.bed.proofs.closed.bed_close_i8.Kinds as bed-close-i8-kinds
+use Rattle.bed.proofs.closed.bed_close_i8.Reads as bed-close-i8
 use Rattle.closed_mesh.proofs.Outcome.{Outcome, Input, input}
 use Rattle.closed_bed.proofs.Values.{Closes}
 
@@ -97,3 +104,55 @@ CloseLayer = Outcome 2 layer-kinds.ps layer-kinds.r layer.Learnt
 module _ (o : CloseLayer) where
   abbrev pub layerExit : List Float
   layerExit = let (_, (_, (_, (_, (closed, _))))) = o .exit in now closed
+
+-- ---- bed_close
+
+abbrev pub BedClose : Type 0
+BedClose = Outcome 3 bed-close-kinds.ps bed-close-kinds.r bed-close.Learnt
+
+module _ (o : BedClose) where
+  abbrev pub bedCloseDims : Extent
+  bedCloseDims = let (_, (words, _)) = o .args in dimsAsked (now words)
+
+  abbrev pub bedCloseExit : List Float
+  bedCloseExit = let (_, (_, (_, (closed, _)))) = o .exit in now closed
+
+  pub bed-close-is : o .result ≡ 0
+      → (let (sdf, (words, (wall, (closed, _)))) = o .args in Closes (point (dimsAsked (now words))) wall (now sdf) (now closed) (o .result) bedCloseExit)
+  bed-close-is done = record { said = o .learnt .0; left = o .learnt .1; done = done }
+
+-- ---- bed_close_i16
+
+abbrev pub BedClose16 : Type 0
+BedClose16 = Outcome 3 bed-close-i16-kinds.ps bed-close-i16-kinds.r bed-close-i16.Learnt
+
+module _ (o : BedClose16) where
+  abbrev pub bedCloseDims16 : Extent
+  bedCloseDims16 = let (_, (words, _)) = o .args in dimsAsked (now words)
+
+  abbrev pub bedCloseExit16 : List Float
+  bedCloseExit16 = let (_, (_, (_, (closed, _)))) = o .exit in now closed
+
+  pub bed-close-is-16 : o .result ≡ 0
+      → (let (sdf, (words, (wall, (closed, _)))) = o .args in Closes (point (dimsAsked (now words))) wall (asFloats (now sdf)) (now closed) (o .result) bedCloseExit16)
+  bed-close-is-16 done =
+      let (sdf, (words, (wall, (closed, _)))) = o .args in
+      record { said = o .learnt .0 ∙ ap (λ (n : ℕ). closeAnswer (point (dimsAsked (now words))) n wall (length (now closed))) (sym (length-map (now sdf) (ofInt binary32))); left = o .learnt .1; done = done }
+
+-- ---- bed_close_i8
+
+abbrev pub BedClose8 : Type 0
+BedClose8 = Outcome 3 bed-close-i8-kinds.ps bed-close-i8-kinds.r bed-close-i8.Learnt
+
+module _ (o : BedClose8) where
+  abbrev pub bedCloseDims8 : Extent
+  bedCloseDims8 = let (_, (words, _)) = o .args in dimsAsked (now words)
+
+  abbrev pub bedCloseExit8 : List Float
+  bedCloseExit8 = let (_, (_, (_, (closed, _)))) = o .exit in now closed
+
+  pub bed-close-is-8 : o .result ≡ 0
+      → (let (sdf, (words, (wall, (closed, _)))) = o .args in Closes (point (dimsAsked (now words))) wall (asFloats (now sdf)) (now closed) (o .result) bedCloseExit8)
+  bed-close-is-8 done =
+      let (sdf, (words, (wall, (closed, _)))) = o .args in
+      record { said = o .learnt .0 ∙ ap (λ (n : ℕ). closeAnswer (point (dimsAsked (now words))) n wall (length (now closed))) (sym (length-map (now sdf) (ofInt binary32))); left = o .learnt .1; done = done }

@@ -311,8 +311,9 @@ uint32_t bed_answer_i8(
  *
  * A bed that touches floor or walls has points below zero on the box's sides, so it is never enclosed, and
  * its mesh is an open sheet. To close it, mesh a copy of the grid with a border of points above zero: one
- * layer at min and two at max, on each axis (examples/closed_bed.c). The wall then lies between the
- * outermost point and the border, the nearer to the point the larger the border's value.
+ * layer at min and two at max, on each axis; bed_close makes it. The wall then lies between the outermost
+ * point and the border, the nearer to the point the larger the border's value, and on the point itself
+ * with the value of bed_wall_for.
  *
  * enclosed is never null, points to a bool that holds false or true, whichever, and may not overlap the grid; sdf may
  * be null only where its length is 0.
@@ -443,7 +444,12 @@ float bed_deepest_i16(float so_far, const int16_t *sdf, size_t sdf_len);
 float bed_deepest_i8(float so_far, const int8_t *sdf, size_t sdf_len);
 
 /* A wall that is far enough for a bed that lies so deep: the least power of two that is at least 2^25 times
- * deepest, and 2^124 where that is too small; 1.0 where deepest is not above zero. */
+ * deepest, and 2^124 where that is too small; 1.0 where deepest is not above zero.
+ *
+ * Proved, for distances that are finite and lie at most 2^99 below zero: with this wall the vertices of the
+ * border stand, bit for bit, on the outermost points of the open grid. On an axis of n points, in the closed
+ * grid's coordinates, the position is 1.0 where the cell's coordinate is 0, and n where it is n; and there is
+ * no vertex in a cell beyond. */
 float bed_wall_for(float deepest);
 
 /* What the levels of a bed are answered with. The conditions are tried in this order, and the first that holds

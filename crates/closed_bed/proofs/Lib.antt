@@ -14,3 +14,4 @@ pub mod Standing
 pub mod Meshed
 pub mod Deepest
 pub mod Tank
+pub mod Once

@@ -866,7 +866,7 @@ enum bed_weigh_answer {
  *
  * Each coordinate is turned into steps of 1/256, as bed_volume does. The sum goes over the triangles a, b,
  * c, each with (az + bz + cz) ((bx - ax) (cy - ay) - (by - ay) (cx - ax)), and the shadow with the second
- * factor alone. Divide the sum by 6 * 256^3 for cubed grid steps. It is below 2^92 in magnitude.
+ * factor alone. Divide the sum by 6 * 256^3 for cubed grid steps.
  *
  * Where each directed side occurs as often as its reverse (bed_is_enclosed), the sum is that of bed_volume.
  * In any case the sums of the parts of a list of triangles add up to that of the whole, and those of the

@@ -21,6 +21,9 @@ use Rattle.rules.specs.Call.{room}
 use Rattle.rules.proofs.Accepted.{Accepted}
 use Rattle.rules.proofs.Indexes.{index-below}
 use Rattle.rules.proofs.Edges.{index-count}
+use Rattle.volume.specs.declared.Weighed.{Weighed}
+use Rattle.volume.specs.Volume.{sixfold}
+use Rattle.volume.proofs.Weighing.{accepted, weighs}
 use Rattle.volume.proofs.Whole.{minus-plus, neg-minus}
 use Rattle.skin.specs.Enclosed.{Inner, Enclosed}
 use Rattle.promises.specs.Served.{Served, Done}
@@ -28,7 +31,9 @@ use Rattle.promises.proofs.Done.{done-accepts, done-counts}
 use Rattle.promises.proofs.Runs.{Run, served, BedRun, bedServed}
 use Rattle.weighed_mesh.proofs.Faces.{sumZ, faceSum}
 use Rattle.weighed_mesh.proofs.Cut.{weight-is}
-use Rattle.weighed_mesh.specs.Told.{weightOf}
+use Rattle.weighed_mesh.proofs.Mesh.{OwnMesh}
+use Rattle.weighed_mesh.proofs.Outcomes.{Weigh, told, BedWeigh, bedTold}
+use Rattle.weighed_mesh.specs.Told.{Told, weightOf}
 use Rattle.bounded_mesh.specs.Cells.{wholeCells}
 use Rattle.bounded_mesh.specs.Round.{InCells}
 use Rattle.bounded_mesh.specs.Placed.{inSludge, placed}
@@ -134,7 +139,7 @@ module _ (g : Field) (b : Box) (m : Flags) (h : Enclosed g b) (w : InCells (plac
 
 -- ---- over what is written
 
-pub volume-bounded : (u : Served) → Done u → Enclosed (u .call .grid) (u .call .box) → Bounded u
+pub volume-bounded : (u : Served) → Done u → Enclosed (u .call .grid) (u .call .box) → Bounded u (weightOf u)
 volume-bounded u done h =
     record {
       low = sum-low g b m h w (weightOf u) (weight-is u done) (u .says .indices) indices;
@@ -163,10 +168,28 @@ volume-bounded u done h =
     indices : u .says .indices ≡ 6 * changingEdges (u .call .grid) (u .call .box) (u .call .flags)
     indices = done-counts u done .1 ∙ index-count (u .call .grid) (u .call .box) (u .call .flags)
 
--- ---- of surface_nets, and of the function for C
+-- the same over the answer of the volume's call on what a mesh call wrote
+pub own-volume-bounded : (u : Served) (t : Told) → OwnMesh u t → Enclosed (u .call .grid) (u .call .box) → Bounded u (t .says .volume)
+own-volume-bounded u t o h = subst (Bounded u) (sym says-weight) (volume-bounded u (o .meshed) h)
+  where
+    says-weight : t .says .volume ≡ weightOf u
+    says-weight =
+        ap (λ (w : Weighed). w .volume) (t .told ∙ weighs (t .positions) (t .indices)
+        (accepted (t .positions) (t .indices) (ap (λ (w : Weighed). w .answer) (sym (t .told)) ∙ o .weighed)))
+        ∙ ap₂ sixfold (o .positions) (o .indices)
 
-pub surface-nets-bounded : (u : Run) → Done (served u) → Enclosed (served u .call .grid) (served u .call .box) → Bounded (served u)
+-- ---- of surface_nets and volume, and of the two functions for C
+
+pub surface-nets-bounded : (u : Run) → Done (served u) → Enclosed (served u .call .grid) (served u .call .box) → Bounded (served u) (weightOf (served u))
 surface-nets-bounded u = volume-bounded (served u)
 
-pub bed-surface-nets-bounded : (u : BedRun) → Done (bedServed u) → Enclosed (bedServed u .call .grid) (bedServed u .call .box) → Bounded (bedServed u)
+pub surface-nets-volume-bounded : (u : Run) (w : Weigh) → OwnMesh (served u) (told w) → Enclosed (served u .call .grid) (served u .call .box)
+    → Bounded (served u) (told w .says .volume)
+surface-nets-volume-bounded u w = own-volume-bounded (served u) (told w)
+
+pub bed-surface-nets-bounded : (u : BedRun) → Done (bedServed u) → Enclosed (bedServed u .call .grid) (bedServed u .call .box) → Bounded (bedServed u) (weightOf (bedServed u))
 bed-surface-nets-bounded u = volume-bounded (bedServed u)
+
+pub bed-surface-nets-volume-bounded : (u : BedRun) (w : BedWeigh) → OwnMesh (bedServed u) (bedTold w) → Enclosed (bedServed u .call .grid) (bedServed u .call .box)
+    → Bounded (bedServed u) (bedTold w .says .volume)
+bed-surface-nets-volume-bounded u w = own-volume-bounded (bedServed u) (bedTold w)

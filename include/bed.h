@@ -942,10 +942,10 @@ struct bed_layers {
  * After t + 1 layers were taken, the half t mod 2 of kept_distances is the last layer as it was offered, all of it; the same half
  * of kept_map has no vertex at any point of the box, and the other half the numbers of the cells that came out last, where
  * BED_NO_VERTEX is a point of the box without one; kept_positions begins with the positions of those vertices, the first of
- * them being the vertex number layers->first. All else in them is what stood there before.
+ * them being the vertex number layers->first. All else in them is as the offer found it.
  *
- * layers is never null, aligned, and overlaps none of the lists. The three lists are only measured here: a pointer may be null
- * where its length is 0, and no others are lent.
+ * layers is never null, aligned, and overlaps none of the lists. The three lists are only measured here, and a pointer may be
+ * null only where its length is 0.
  */
 uint32_t bed_layers_start(
     struct bed_layers *layers,

@@ -155,7 +155,7 @@ module _ (grid : List Float) (d : GridPoint) (b : Box) {room : ℕ} (a : Accepte
       (ap (λ (t : Bool). cond t false (badPoints d b lower)) other ∙ fine-layer (b .low .z + n) ls))
 
   -- and leaves the levels of the columns so far
-  abbrev levelsTo : ℕ → ℕ → Float → Float
+  abbrev pub levelsTo : ℕ → ℕ → Float → Float
   levelsTo n j _ = levelUpTo (column grid d b j) (b .low .z) n
 
   when-taken : (lower upper : List Float) (z : ℕ) (old : List Float) → length old ≡ room → layerAnswer lower upper d b z room ≡ 0

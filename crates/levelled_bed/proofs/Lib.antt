@@ -4,3 +4,6 @@ pub mod Bounds
 pub mod Told
 pub mod Layered
 pub mod Mesh
+pub mod Calls
+pub mod Beside
+pub mod Functions

@@ -452,47 +452,57 @@ float bed_deepest_i8(float so_far, const int8_t *sdf, size_t sdf_len);
  * no vertex in a cell beyond. */
 float bed_wall_for(float deepest);
 
-/* What the levels of a bed are answered with. The conditions are tried in this order, and the first that holds
- * answers: 1, 2, 77, 3, 5, 78. BED_LEVELS_HEIGHT is of a layer alone. */
+/* What the levels of the bed answer. The conditions are tried in this order, and the first that holds answers:
+ * 1, 2, 77, 3, 5, 78. BED_LEVELS_HEIGHT is of a layer alone. On every answer but BED_LEVELS_DONE nothing is
+ * changed. */
 enum bed_levels_answer {
     /* The levels were written. */
     BED_LEVELS_DONE = 0,
-    /* A dimension is 0 or above 16,777,217, or their product is above 1,073,741,824. */
+    /* A dimension is 0 or above 16,777,217, or the product of the three is above 1,073,741,824. */
     BED_LEVELS_DIMENSIONS = 1,
     /* min is above max on an axis, or max is not below its dimension. */
     BED_LEVELS_BOX = 2,
-    /* z is not from min[2] to max[2]. */
+    /* z is below min[2] or above max[2]. */
     BED_LEVELS_HEIGHT = 77,
-    /* The grid is not as long as the product of the dimensions; or a layer not as long as it should be. */
+    /* The grid's length is not the product of the dimensions; or the layer's is not dims[0] * dims[1]; or the
+     * layer below is not as long, nor 0 long where z is min[2]. */
     BED_LEVELS_LENGTH = 3,
-    /* A distance in the box is not finite or is above 2^124 in magnitude. Never of whole numbers. */
+    /* A point of the box, both corners included, is not finite or is above 2^124 in magnitude: in the grid, or in
+     * the layer or the layer below it. Of floats alone: a whole number of 16 or 8 bits is neither. */
     BED_LEVELS_DISTANCE = 5,
-    /* levels is shorter than the columns. */
+    /* There is room for fewer levels than the box has columns. */
     BED_LEVELS_ROOM = 78
 };
 
-/* The level of the bed in each column of a box, in grid steps from z = 0.
+/* The level of the bed in each column of a box: how high it stands, in grid steps.
  *
  * In:
- *   sdf              the distances, x innermost, exactly dims[0] * dims[1] * dims[2] of them.
- *   box              dimensions, min and max. box->max_plane is not read.
+ *   sdf              the distances, x innermost, as in bed_surface_nets. Only points of the box are looked at.
+ *   box              the grid's dimensions and the corners of the box. max_plane is not read.
  *
  * Lent for writing:
- *   levels           on BED_LEVELS_DONE its first (max[0] - min[0] + 1) * (max[1] - min[1] + 1) numbers are
- *                    the levels of the columns, x innermost: -1.0 where no point of the column is below zero;
- *                    max[2] where the point there is; and else z + f, rounded once, where z is the highest
- *                    point below zero and f is d / (d - e), d its distance and e that of the point above it.
- *                    What stands past them is kept. On every other answer nothing changes.
+ *   levels           one float a column, x innermost: the column at x and y stands at
+ *                    (x - min[0]) + (max[0] - min[0] + 1) * (y - min[1]). Numbers behind the columns are kept.
  *
- * The lists may not overlap. Pointers are aligned for their type; box is never null, and another pointer may be
- * null only where its length is 0.
+ * The level of a column, over its points from min[2] to max[2], is
+ *   -1.0             where none of them is below zero;
+ *   max[2]           where the point there is below zero;
+ *   z + f            else, rounded once, z being the highest point below zero and f = d / (d - e) the fraction at
+ *                    which the mesh crosses the edge from it to the next point, d and e their distances.
+ * 0.0 and -0.0 are not below zero. Where a bed has a hollow the highest of its levels is told. A level is never
+ * below its z and never above z + 1, and so is, in z, each vertex that bed_surface_nets makes in the four cells
+ * round that edge, where they lie in the box: mesh and level are never more than one step apart.
+ *
+ * The lists may not overlap. Pointers are aligned for their type; a list's pointer may be null only where its
+ * length is 0; box is never null.
  */
 uint32_t bed_levels(
     const float *sdf, size_t sdf_len,
     const struct bed_box *box,
     float *levels, size_t levels_len);
 
-/* bed_levels of signed 16-bit and of signed 8-bit distances, each number meaning the float of the same value. */
+/* bed_levels of signed 16-bit and of signed 8-bit distances: the answer and the levels are those of bed_levels on
+ * the grid of the floats of the same values. */
 uint32_t bed_levels_i16(
     const int16_t *sdf, size_t sdf_len,
     const struct bed_box *box,
@@ -503,16 +513,21 @@ uint32_t bed_levels_i8(
     const struct bed_box *box,
     float *levels, size_t levels_len);
 
-/* The levels after one more layer, for who has the bed one layer at a time: offered from z = min[2] to max[2],
- * each time with the levels as the last call left them, the layers leave what bed_levels writes.
+/* The levels layer by layer, for who cannot hold the grid: takes the layer z on the levels of the layers below it.
  *
  * In:
- *   below            the layer z - 1, dims[0] * dims[1] distances; and at z = min[2] no number at all.
- *   layer            the layer z, dims[0] * dims[1] distances.
+ *   below            the layer z - 1, dims[0] * dims[1] distances; of length 0 where z is min[2].
+ *   layer            the layer z, as long.
  *   box              as in bed_levels.
+ *   z                from min[2] to max[2].
  *
  * Lent for reading and writing:
- *   levels           at z = min[2] what stands there does not matter.
+ *   levels           as in bed_levels. At min[2] what stands there is not looked at.
+ *
+ * All layers from min[2] to max[2], one call after the other on the same list, leave there what bed_levels leaves.
+ * A call keeps nothing: each column's level becomes z where the layer's point is below zero, and else z - 1 + f
+ * where the point below is, and else stays; at min[2] it becomes -1.0 or z. Any lists may come, and below and
+ * layer may be the same or overlap; neither may overlap levels.
  */
 uint32_t bed_levels_layer(
     const float *below, size_t below_len,

@@ -1,9 +1,8 @@
-/* closed_bed.c: closes a bed that lies on the floor and against the walls of its tank, and takes its volume.
+/* closed_bed.c: closes a bed that lies on the floor and against the walls of its tank, weighs it and tells its level.
  *
  * Such a bed has points below zero on the sides of its grid, so it is not enclosed and its mesh is an open
- * sheet. Copied into a grid with a border of points above zero, one layer at min and two at max on each axis,
- * it is enclosed, and its mesh has no hole. The border's value says where the wall then lies between the
- * outermost point and the border: with as large a value as here, at the outermost point. */
+ * sheet. bed_close puts a border of far points round it, one layer at min and two at max on each axis: then it
+ * is enclosed, and its mesh has no hole. With the wall of bed_wall_for the mesh ends at the outermost points. */
 
 #include "bed.h"
 
@@ -12,8 +11,8 @@
 #include <string.h>
 
 /* The tank's grid, and the same with a border. */
-enum { X = 20, Y = 16, Z = 12, AT_MIN = 1, AT_MAX = 2 };
-enum { BX = X + AT_MIN + AT_MAX, BY = Y + AT_MIN + AT_MAX, BZ = Z + AT_MIN + AT_MAX };
+enum { X = 20, Y = 16, Z = 12 };
+enum { BX = X + 3, BY = Y + 3, BZ = Z + 3 };
 enum { POINTS = X * Y * Z, BORDERED = BX * BY * BZ };
 
 static float tank[POINTS], bordered[BORDERED];
@@ -28,29 +27,29 @@ static void fill_tank(void) {
                 tank[x + X * (y + Y * z)] = (float)z - height(x, y);
 }
 
-static void add_border(float value) {
-    for (int i = 0; i < BORDERED; i++)
-        bordered[i] = value;
-    for (int z = 0; z < Z; z++)
-        for (int y = 0; y < Y; y++)
-            memcpy(bordered + AT_MIN + BX * (y + AT_MIN + BY * (z + AT_MIN)), tank + X * (y + Y * z),
-                   X * sizeof *tank);
+static const struct bed_box whole = { { X, Y, Z }, { 0, 0, 0 }, { X - 1, Y - 1, Z - 1 }, { 0, 0, 0 } };
+
+static void expect_done(uint32_t answer) {
+    if (answer != BED_DONE) {
+        fprintf(stderr, "refused: %s\n", bed_answer_name(answer));
+        exit(1);
+    }
+}
+
+static void close_bed(void) {
+    float wall = bed_wall_for(bed_deepest(0.0f, tank, POINTS));
+    expect_done(bed_close(tank, POINTS, &whole, wall, bordered, BORDERED));
 }
 
 /* Whether the box that leaves out `less` layers at max on each axis is enclosed. */
 static bool enclosed(const float *sdf, uint32_t x, uint32_t y, uint32_t z, uint32_t less) {
     bool yes = false;
-    uint32_t answer = bed_is_enclosed(
-        sdf, (size_t)x * y * z, x, y, z, 0, 0, 0, x - 1 - less, y - 1 - less, z - 1 - less, &yes);
-    if (answer != BED_DONE) {
-        fprintf(stderr, "refused: %u\n", (unsigned)answer);
-        exit(1);
-    }
+    expect_done(bed_is_enclosed(
+        sdf, (size_t)x * y * z, x, y, z, 0, 0, 0, x - 1 - less, y - 1 - less, z - 1 - less, &yes));
     return yes;
 }
 
-/* The mesh of a grid, with room for any of these grids; then its volume, a sixth of the sum of the
- * triangles' determinants, and whether it has no hole. */
+/* The mesh of a grid, with room for any of these grids; then its volume, and whether it has no hole. */
 
 enum { CELLS = BORDERED };
 static float positions[3 * CELLS], normals[3 * CELLS];
@@ -59,27 +58,30 @@ static uint8_t crossings[CELLS];
 static uint64_t vertex_count, index_count;
 
 static void mesh(const float *sdf, uint32_t x, uint32_t y, uint32_t z) {
-    uint32_t answer = bed_surface_nets(
+    expect_done(bed_surface_nets(
         sdf, (size_t)x * y * z, x, y, z, 0, 0, 0, x - 1, y - 1, z - 1, false, false, false,
         positions, 3 * CELLS, normals, 3 * CELLS, cells, 3 * CELLS, strides, CELLS, crossings, CELLS,
-        map, BORDERED, indices, 18 * CELLS, &vertex_count, &index_count);
-    if (answer != BED_DONE) {
-        fprintf(stderr, "refused: %u\n", (unsigned)answer);
-        exit(1);
-    }
+        map, BORDERED, indices, 18 * CELLS, &vertex_count, &index_count));
 }
 
+/* In cubed grid steps: a sixth of the sum, which is in cubed steps of 1/256. */
 static double volume(void) {
-    double sum = 0;
-    for (uint64_t i = 0; i < index_count; i += 3) {
-        const float *a = positions + 3 * indices[i];
-        const float *b = positions + 3 * indices[i + 1];
-        const float *c = positions + 3 * indices[i + 2];
-        sum += (double)a[0] * ((double)b[1] * c[2] - (double)b[2] * c[1]);
-        sum += (double)a[1] * ((double)b[2] * c[0] - (double)b[0] * c[2]);
-        sum += (double)a[2] * ((double)b[0] * c[1] - (double)b[1] * c[0]);
+    uint64_t low;
+    int64_t high, shadow;
+    expect_done(bed_weigh(positions, 3 * vertex_count, 0, indices, index_count, &low, &high, &shadow));
+    return ((double)high * 18446744073709551616.0 + (double)low) / (6.0 * 256 * 256 * 256);
+}
+
+/* The largest difference between a column's level and the slope. */
+static double level_error(void) {
+    static float levels[X * Y];
+    double worst = 0;
+    expect_done(bed_levels(tank, POINTS, &whole, levels, X * Y));
+    for (int i = 0; i < X * Y; i++) {
+        double error = (double)levels[i] - height(i % X, i / X);
+        worst = error > worst ? error : -error > worst ? -error : worst;
     }
-    return sum / 6;
+    return worst;
 }
 
 static int by_number(const void *a, const void *b) {
@@ -114,19 +116,19 @@ int main(void) {
     bool open_has_hole = !no_hole();
     printf("as it is:      enclosed %s, hole %s\n", open_is_enclosed ? "yes" : "no", open_has_hole ? "yes" : "no");
 
-    add_border(1e6f);
+    close_bed();
     bool one_layer_is_enough = enclosed(bordered, BX, BY, BZ, 1);
     bool closed_is_enclosed = enclosed(bordered, BX, BY, BZ, 0);
     mesh(bordered, BX, BY, BZ);
     bool closed_has_hole = !no_hole();
-    double got = volume(), wanted = sludge();
-    printf("with a border: enclosed %s, hole %s, volume %.2f, the sludge's own %.2f\n",
-           closed_is_enclosed ? "yes" : "no", closed_has_hole ? "yes" : "no", got, wanted);
+    double got = volume(), wanted = sludge(), error = level_error();
+    printf("with a border: enclosed %s, hole %s, volume %.2f, the sludge's own %.2f, level off by %.6f\n",
+           closed_is_enclosed ? "yes" : "no", closed_has_hole ? "yes" : "no", got, wanted, error);
 
     printf("with one layer at max: enclosed %s\n", one_layer_is_enough ? "yes" : "no");
 
     bool good = !open_is_enclosed && open_has_hole && !one_layer_is_enough && closed_is_enclosed &&
-                !closed_has_hole && got > 0.99 * wanted && got < 1.01 * wanted;
+                !closed_has_hole && got > 0.995 * wanted && got < 1.005 * wanted && error < 0.00001;
     if (!good)
         fputs("that is not as it should be\n", stderr);
     return !good;

@@ -1060,6 +1060,14 @@ static inline const char *bed_answer_name(uint32_t answer)
     case BED_VOLUME_TOO_MANY: return "BED_VOLUME_TOO_MANY";
     case BED_VOLUME_OUTSIDE: return "BED_VOLUME_OUTSIDE";
     case BED_VOLUME_INDEX: return "BED_VOLUME_INDEX";
+    case BED_CLOSE_HEIGHT: return "BED_CLOSE_HEIGHT";
+    case BED_CLOSE_WALL: return "BED_CLOSE_WALL";
+    case BED_CLOSE_TOO_LARGE: return "BED_CLOSE_TOO_LARGE";
+    case BED_CLOSE_ROOM: return "BED_CLOSE_ROOM";
+    case BED_WEIGH_TOO_MANY: return "BED_WEIGH_TOO_MANY";
+    case BED_WEIGH_WIDE: return "BED_WEIGH_WIDE";
+    case BED_LEVELS_HEIGHT: return "BED_LEVELS_HEIGHT";
+    case BED_LEVELS_ROOM: return "BED_LEVELS_ROOM";
     default: return "unknown";
     }
 }

@@ -15,6 +15,7 @@ coordinate like another, and too large.
 
 The library is found by BED_SHARED, the path of libbed.so; else as libbed.so in the folder of this file; else by the
 system's own search. Every call is made in the default floating-point environment, and the caller's is set again after it."""
+import builtins
 import ctypes
 import ctypes.util
 import itertools
@@ -60,6 +61,20 @@ WORDS = {
     62: "there are more than 16384 triangles",
     63: "a coordinate is not finite or not from 0 to 128",
     64: "an index is not below the number of vertices",
+    71: "the closed grid has no such layer",
+    72: "the wall is not a number, not above zero or above 2^124",
+    73: "with a border round it the grid has too many points",
+    74: "the lent room is too short",
+    75: "there are more than 2^33 triangles",
+    76: "a triangle is wider than two grid steps",
+    77: "the box has no such layer",
+    78: "the lent room is too short",
+}
+
+# What 63 and 64 say of a mesh that is weighed.
+WEIGH_WORDS = {
+    63: "a coordinate is not finite or not from 0 to 16777216",
+    64: "an index is not that of a vertex given",
 }
 
 
@@ -180,6 +195,16 @@ class _State(ctypes.Structure):
                 ("taken", _NUMBER), ("next", _NUMBER), ("first", _NUMBER)]
 
 
+class _BedBox(ctypes.Structure):
+    """bed.h's struct bed_box"""
+
+    _fields_ = [("dims", _NUMBER * 3), ("min", _NUMBER * 3), ("max", _NUMBER * 3), ("max_plane", _NUMBER * 3)]
+
+
+def _bed_box(dims, low=(0, 0, 0), high=(0, 0, 0)):
+    return ctypes.byref(_BedBox(*(tuple(_passed(three)) for three in (dims, low, high))))
+
+
 def _lists(*kinds):
     return [part for kind in kinds for part in (ctypes.POINTER(kind), ctypes.c_size_t)]
 
@@ -204,7 +229,15 @@ def _signatures():
         "bed_layers_start": _out(_State) + dims + box + flags + _lists(*kept),
         "bed_layers_offer": _out(_State) + _lists(_FLOAT, *kept, *vertices, _NUMBER) + counts,
     }
+    all_of["bed_weigh"] = _lists(_FLOAT) + [_NUMBER] + _lists(_NUMBER) + _out(_COUNT, ctypes.c_int64, ctypes.c_int64)
+    all_of["bed_wall_for"] = [_FLOAT]
+    block = _out(_BedBox)
     for kind, ending in _DISTANCES.values():
+        all_of["bed_close" + ending] = _lists(kind) + block + [_FLOAT] + _lists(_FLOAT)
+        all_of["bed_close_layer" + ending] = _lists(kind) + block + [_NUMBER, _FLOAT] + _lists(_FLOAT)
+        all_of["bed_deepest" + ending] = [_FLOAT] + _lists(kind)
+        all_of["bed_levels" + ending] = _lists(kind) + block + _lists(_FLOAT)
+        all_of["bed_levels_layer" + ending] = _lists(kind, kind) + block + [_NUMBER] + _lists(_FLOAT)
         asked = _lists(kind) + dims + box
         all_of["bed_surface_nets" + ending] = asked + flags + _lists(*vertices, _NUMBER, _NUMBER) + counts
         all_of["bed_answer" + ending] = asked + flags + [_COUNT] * 7 + counts
@@ -218,7 +251,8 @@ def _loaded():
     library = ctypes.CDLL(named or ctypes.util.find_library("bed") or "libbed.so.0")
     for name, arguments in _signatures().items():
         function = getattr(library, name)
-        function.argtypes, function.restype = arguments, ctypes.c_uint32
+        told = _FLOAT if name.startswith(("bed_deepest", "bed_wall_for")) else ctypes.c_uint32
+        function.argtypes, function.restype = arguments, told
     return library
 
 
@@ -427,6 +461,90 @@ def volume(positions, indices):
     sixfold = ctypes.c_int64()
     _done(_call("bed_volume", *_lent(_read(_FLOAT, positions), _read(_NUMBER, indices)), ctypes.byref(sixfold)))
     return sixfold.value
+
+
+def weigh(positions, indices, first=0):
+    """Six times the volume between the triangles and the plane z = 0, in cubed steps of 1/256, and twice their area seen from above, in squared steps: of a
+    mesh of any size. `first` is the number of the first vertex given, where the triangles are those of one layer."""
+    low, high, shadow = _COUNT(), ctypes.c_int64(), ctypes.c_int64()
+    lists = _lent(_read(_FLOAT, positions)), _lent(_read(_NUMBER, indices))
+    first = _whole("first", first, _LARGEST)
+    answer = _call("bed_weigh", *lists[0], first, *lists[1], ctypes.byref(low), ctypes.byref(high), ctypes.byref(shadow))
+    _done(answer, WEIGH_WORDS)
+    return (high.value << 64) + low.value, shadow.value
+
+
+def deepest(distances, so_far=0.0, dims=None):
+    """The largest magnitude of the distances below zero, or so_far where that is larger."""
+    view, code = _view(distances)
+    grid, _, ending = _grid(distances, dims if dims is not None or view.ndim == 3 else (view.nbytes, 1, 1))
+    return _call("bed_deepest" + ending, _float("so_far", so_far), *_lent(grid))
+
+
+def wall_for(depth):
+    """A wall that is far enough for a bed that lies so deep."""
+    return _call("bed_wall_for", _float("depth", depth))
+
+
+def close(distances, wall=None, dims=None):
+    """The grid with a border round it, one layer at min and two at max on each axis, so that its mesh has no hole: float32, shape z, y, x. The wall is that
+    of wall_for where none is given. Positions of its mesh are one more on each axis than the grid's own."""
+    grid, dims, ending = _grid(distances, dims)
+    if wall is None:
+        wall = wall_for(_call("bed_deepest" + ending, 0.0, *_lent(grid)))
+    sizes = [size + 3 for size in dims]
+    points = sizes[0] * sizes[1] * sizes[2]
+    # where the closed grid is too large the library refuses before it looks at the room
+    room = _room(_FLOAT, points if points <= 2 ** 30 else 0)
+    _done(_call("bed_close" + ending, *_lent(grid), _bed_box(dims), _float("wall", wall), *_lent(room)))
+    return _shaped(room, sizes[::-1])
+
+
+def close_layer(layer, dims, z, wall):
+    """The layer z of the closed grid, from the layer z - 1 of the grid, or from an empty buffer where it is wall alone."""
+    dims, z = _three("dims", dims), _whole("z", z)
+    grid, _, ending = _grid(layer, dims)
+    points = (dims[0] + 3) * (dims[1] + 3)
+    room = _room(_FLOAT, points if points <= 2 ** 30 else 0)
+    _done(_call("bed_close_layer" + ending, *_lent(grid), _bed_box(dims), builtins.min(z, _LARGEST), _float("wall", wall), *_lent(room)))
+    return _shaped(room, (dims[1] + 3, dims[0] + 3))
+
+
+def levels(distances, dims=None, min=(0, 0, 0), max=None):
+    """The level of each column of a box in grid steps, float32, shape y, x: -1.0 where no point of the column is below zero."""
+    grid, dims, ending = _grid(distances, dims)
+    low, high = _box(dims, min, max)
+    shape = [builtins.max(top - bottom, 0) + 1 for bottom, top in zip(low, high)][1::-1]
+    room = _room(_FLOAT, shape[0] * shape[1] if shape[0] * shape[1] <= 2 ** 30 else 0)
+    _done(_call("bed_levels" + ending, *_lent(grid), _bed_box(dims, low, high), *_lent(room)))
+    return _shaped(room, shape)
+
+
+def levels_layer(below, layer, dims, z, levels, min=(0, 0, 0), max=None):
+    """The levels after one more layer, in their place: `below` is the layer before it, an empty buffer at min z."""
+    dims, z = _three("dims", dims), _whole("z", z)
+    low, high = _box(dims, min, max)
+    (lower, _, ending), (upper, _, other) = _grid(below, dims), _grid(layer, dims)
+    if ending != other:
+        raise TypeError("the two layers are of two kinds of numbers")
+    room = _written(_FLOAT, levels, "the levels are changed")
+    lists = [*_lent(_apart(lower, room)), *_lent(_apart(upper, room))]
+    _done(_call("bed_levels_layer" + ending, *lists, _bed_box(dims, low, high), builtins.min(z, _LARGEST), *_lent(room)))
+
+
+def _float(name, number):
+    try:
+        return float(number)
+    except (TypeError, ValueError, OverflowError):
+        raise ValueError(f"{name}: {number!r} is no number") from None
+
+
+def _shaped(room, shape):
+    """a list for the caller, in this shape"""
+    flat = _given(room)
+    if numpy is not None:
+        return flat.reshape(shape)
+    return flat.cast("B").cast("f", tuple(shape)) if len(room) else flat
 
 
 def write_mesh(mesh):

@@ -94,11 +94,13 @@ static int names(void)
     NAMED(BED_FIXTURE_CUT) NAMED(BED_FIXTURE_KIND) NAMED(BED_FIXTURE_DEEP) NAMED(BED_FIXTURE_WORD)
     NAMED(BED_FIXTURE_FLOAT) NAMED(BED_FIXTURE_AFTER)
     NAMED(BED_VOLUME_THREES) NAMED(BED_VOLUME_TOO_MANY) NAMED(BED_VOLUME_OUTSIDE) NAMED(BED_VOLUME_INDEX)
+    NAMED(BED_CLOSE_HEIGHT) NAMED(BED_CLOSE_WALL) NAMED(BED_CLOSE_TOO_LARGE) NAMED(BED_CLOSE_ROOM)
+    NAMED(BED_WEIGH_TOO_MANY) NAMED(BED_WEIGH_WIDE) NAMED(BED_LEVELS_HEIGHT) NAMED(BED_LEVELS_ROOM)
     unsigned known = 0;
     for (uint32_t answer = 0; answer < 1000; answer++)
         known += strcmp(bed_answer_name(answer), "unknown") != 0;
-    /* 0, 1 to 8, 21 to 30, 41, 42, 51 to 56, 61 to 64 */
-    return known == 1 + 8 + 10 + 2 + 6 + 4 ? 0 : 1;
+    /* 0, 1 to 8, 21 to 30, 41, 42, 51 to 56, 61 to 64, 71 to 78 */
+    return known == 1 + 8 + 10 + 2 + 6 + 4 + 8 ? 0 : 1;
 }
 
 static int size(void)

@@ -1,25 +1,23 @@
 -- `wall_for` of `deepest` is a far wall, for finite distances that lie at most 2 ^ 99 below zero: the deepest is no less than any magnitude below zero, and the
 -- power of two that is found is no less than the deepest. Assumes nothing.
 use Prim.Native.Nat.{ℕ, zero, suc, _+_, _*_, _^_, _≤_, _<_, zero-le}
-use native.Mathlib.Nat.{le-refl, le-trans, le-of-eq, mul-one, one-mul, zero-mul, mul-comm, mul-assoc, mul-left-comm, mul-right-comm, mul-le-mul-right, le-of-mul-le-mul-right, mul-pos, not-le-of-lt, le-of-lt, le-antisymm}
+use native.Mathlib.Nat.{le-refl, le-trans, le-of-eq, mul-one, zero-mul, mul-comm, mul-assoc, mul-left-comm, mul-right-comm, mul-le-mul-right, le-of-mul-le-mul-right, mul-pos, not-le-of-lt, le-of-lt, le-antisymm}
 use native.Mathlib.Omega.{arith}
-use mathlib.Core.Bool.{Bool, true, false, not, _&&_, cond, true≢false}
+use mathlib.Core.Bool.{Bool, true, false, not, cond, true≢false}
 use mathlib.Core.List.{List, [], _∷_}
 use mathlib.Core.Logic.{_⊎_, inl, inr}
 use mathlib.Core.Path.{_≡_, refl, sym, ap, subst, _∙_}
 use borrow.Author.Tests.{ltb-true, ltb-false, eqb-true}
 use lib.Dec.{T, eqb, ltb, lit<, ltb→lt}
-use lib.IntN.{ℤ, pos}
-use lib.Ieee.{Float, nan, inf, fin, lt, neg, minus, up, down}
+use lib.Ieee.{Float, nan, inf, fin, lt, neg, up, down}
 use lib.Ieee.Bits.{is-true}
-use lib.Ieee.Fits.{up-pos, down-pos}
+use lib.Ieee.Fits.{up-pos}
 use lib.Ieee.Positive.{num, den, den-pos}
 use lib.Ieee.Scale.{finite}
 use lib.ListN.{length, getD}
 use Rattle.lists.specs.Lists.{upTo, place}
 use Rattle.lists.proofs.Tests.{less-or-not}
 use Rattle.rounding.specs.Values.{plain, belowZero}
-use Rattle.rounding.proofs.Sign.{plain-is}
 use Rattle.rules.specs.Cell.{zero32, one32, negative}
 use Rattle.closing.specs.Wall.{deeper, deepest, depth, wallAt, farEnough, wallFor}
 use Rattle.closing.proofs.Walls.{First, place-first}

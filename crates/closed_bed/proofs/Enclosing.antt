@@ -1,30 +1,30 @@
 -- Every closed grid is enclosed in its whole box: what is negative there is a point of the open grid, and these lie "from min + 1 to max - 2 on each axis"
 -- (document 02, request 8). So the test says yes. Assumes nothing.
-use Prim.Native.Nat.{ℕ, _+_, _-_, _*_, _≤_, _<_}
+use Prim.Native.Nat.{ℕ, _+_, _-_, _*_, _≤_}
 use native.Mathlib.Nat.{zero-mul}
 use native.Mathlib.Omega.{arith}
 use mathlib.Core.Bool.{Bool, true, false, not, _&&_, cond, true≢false}
 use mathlib.Core.List.{List}
 use mathlib.Core.Path.{_≡_, refl, sym, ap, subst, _∙_}
 use borrow.Author.Tests.{eq-eqb, le-ltb}
-use lib.Dec.{T, eqb, leb, leb→le}
+use lib.Dec.{T, leb, leb→le}
 use lib.IntN.{pos}
 use lib.Ieee.{Float, nan, inf, fin, lt, up, down}
 use lib.Ieee.Bits.{is-true}
 use lib.Ieee.Fits.{and-l, and-r}
 use lib.ListN.{length}
-use Rattle.lists.proofs.Tests.{is-false, is-test, failed}
-use Rattle.rules.specs.Grid.{GridPoint, axisX, axisY, axisZ, Field, between, inBox, value}
+use Rattle.lists.proofs.Tests.{is-test}
+use Rattle.rules.specs.Grid.{GridPoint, axisX, axisY, axisZ, between}
 use Rattle.rules.specs.Cell.{zero32, negative}
-use Rattle.rules.specs.Call.{badDimensions, badBox, badLength}
+use Rattle.rules.specs.Call.{badBox, badLength}
 use Rattle.rules.proofs.Indexes.{not-bad-box}
 use Rattle.skin.specs.Enclosed.{Inner, Enclosed, enclosed}
 use Rattle.skin.specs.Scan.{answers, judged}
 use Rattle.skin.proofs.Premise.{enclosed-if}
-use Rattle.closing.specs.Closed.{closedDims, pointCount, inOpen, openPoint, openField, closedValue, closedList}
+use Rattle.closing.specs.Closed.{closedDims, pointCount, inOpen, openField, closedValue, closedList}
 use Rattle.closing.specs.Answers.{badWall, badClosed}
 use Rattle.closed_bed.specs.Standing.{wholeBox}
-use Rattle.closed_bed.proofs.Values.{closed-long, closed-point, value-open, value-wall, wall-above}
+use Rattle.closed_bed.proofs.Values.{closed-long, closed-point, value-wall, wall-above}
 
 -- ---- what is above zero is not below it
 

@@ -1,28 +1,7 @@
 -- The fraction of an edge between a wall and a distance below zero that is 2 ^ 25 times less far: from the wall it is 1, and to the wall 2 ^ -25 at most. The sum
 -- of the two sizes is rounded to the wall, which is a power of two. Assumes nothing.
-use Prim.Native.Nat.{ℕ, zero, suc, _+_, _-_, _*_, _^_, _≤_, _<_}
-use native.Mathlib.Nat.{
-  le-refl,
-  add-le-add,
-  le-trans,
-  le-of-eq,
-  le-antisymm,
-  lt-of-lt-of-le,
-  mul-one,
-  one-mul,
-  mul-comm,
-  mul-assoc,
-  mul-left-comm,
-  mul-right-comm,
-  mul-le-mul-right,
-  mul-le-mul-left,
-  le-of-mul-le-mul-right,
-  mul-pos,
-  add-mul,
-  mul-add,
-  le-add-right,
-  add-comm,
-}
+use Prim.Native.Nat.{ℕ, zero, suc, _+_, _*_, _^_, _≤_, _<_}
+use native.Mathlib.Nat.{le-refl, add-le-add, le-trans, le-of-eq, le-antisymm, mul-one, one-mul, mul-comm, mul-assoc, mul-left-comm, mul-right-comm, mul-le-mul-right, le-of-mul-le-mul-right, mul-pos, add-mul, le-add-right, add-comm}
 use native.Mathlib.Omega.{arith}
 use mathlib.Core.Bool.{Bool, true, false, _&&_, true≢false}
 use mathlib.Core.Logic.{_⊎_, inl, inr}
@@ -31,15 +10,15 @@ use borrow.Author.Tests.{eqb-true}
 use lib.Count.{trailingZeros}
 use lib.Dec.{T, eqb, lit≤, lit<, ltb→lt}
 use lib.Pow.{pow-pos}
-use lib.IntN.{ℤ, pos, negsuc}
-use lib.Ieee.{Float, nan, inf, fin, Format, binary32, minus, up, down, round, size, span, climb, units, odd, neg, sub, div, fits}
+use lib.IntN.{ℤ}
+use lib.Ieee.{Float, nan, inf, fin, binary32, minus, up, down, round, size, span, climb, units, odd, neg, div, fits}
 use lib.Ieee.Exact.{HasValue}
 use lib.Ieee.Fits.{up-pos, down-pos}
 use lib.Ieee.Scale.{round-same}
 use lib.Ieee.Positive.{num, den, den-pos, first-pos}
 use Rattle.lists.proofs.Tests.{less-or-not, is-test}
 use Rattle.rules.specs.Cell.{one32, fraction}
-use Rattle.rounding.specs.Values.{plain, weak, belowZero, Held}
+use Rattle.rounding.specs.Values.{plain, belowZero, Held}
 use Rattle.rounding.proofs.Sign.{round-neg}
 use Rattle.rounding.proofs.Bounds.{at-most, at-least, rounds-below, holds-steps, holds-held}
 use Rattle.rounding.proofs.Operations.{gap-up, gap-down, div-at, div-is}

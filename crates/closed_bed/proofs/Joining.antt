@@ -3,7 +3,7 @@
 use Prim.Native.Nat.{ℕ, zero, suc, _+_, _-_, _*_, _/_, _≤_, _<_}
 use native.Mathlib.Nat.{mul-zero, mul-suc, mul-add-div, div-eq-of-lt, add-zero, mul-pos, mul-le-mul-left}
 use native.Mathlib.Omega.{arith}
-use mathlib.Core.Bool.{Bool, true, false, _&&_, cond}
+use mathlib.Core.Bool.{Bool, true, false, cond}
 use mathlib.Core.List.{List, [], _++_}
 use mathlib.Core.Path.{_≡_, refl, sym, ap, ap₂, _∙_}
 use lib.Dec.{T, leb, le→leb}
@@ -16,12 +16,12 @@ use Rattle.lists.specs.Lists.{upTo, joined}
 use Rattle.lists.proofs.Tests.{is-test}
 use Rattle.lists.proofs.Runs.{upTo-none, joined-last}
 use Rattle.rules.specs.Grid.{GridPoint, Field, index, pointAt, between, value}
-use Rattle.closing.specs.Closed.{closedDims, pointCount, layerCount, inOpen, openPoint, openField, closedValue, closedField, closedList, layerField, closedLayer}
+use Rattle.closing.specs.Closed.{closedDims, layerCount, inOpen, openPoint, openField, closedValue, closedField, closedList, layerField, closedLayer}
 use Rattle.closing.specs.Runs.{spread}
 use Rattle.closing.proofs.Spread.{length-spread, spread-none, spread-join, spread-same}
 use Rattle.closed_bed.specs.Layers.{layerOf}
 use Rattle.closed_bed.proofs.Values.{value-open, value-wall}
-use Rattle.closed_bed.proofs.Enclosing.{OpenPoint, open-point}
+use Rattle.closed_bed.proofs.Enclosing.{open-point}
 
 in-between : (n k : ℕ) → 1 ≤ k → k ≤ n → T (between 1 n k)
 in-between n k h i = and-i (leb 1 k) (leb k n) (le→leb 1 k h) (le→leb k n i)

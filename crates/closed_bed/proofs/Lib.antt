@@ -15,3 +15,4 @@ pub mod Meshed
 pub mod Deepest
 pub mod Tank
 pub mod Once
+pub mod Instances

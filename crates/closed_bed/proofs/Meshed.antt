@@ -14,7 +14,7 @@ use Rattle.lists.specs.Floats.{Binary32}
 use Rattle.lists.specs.Lists.{over}
 use Rattle.lists.proofs.Lists.{all-at}
 use Rattle.rules.specs.Grid.{GridPoint, Axis, axisX, axisY, axisZ, along}
-use Rattle.rules.specs.Cell.{Vector, float}
+use Rattle.rules.specs.Cell.{Vector}
 use Rattle.rules.specs.Vertices.{vertices, vertexPosition}
 use Rattle.rules.specs.Call.{Call, Answer, Buffers, badDistance, room, answer, flatPoints, flatVectors, written, vertexCount}
 use Rattle.rules.proofs.Accepted.{done-accepted, done-counted}

@@ -1,32 +1,6 @@
 -- Ones: (1 - t) + t is 1 for every t from 0 to 1, after its two roundings; ones are summed exactly, and n of them over n is 1. Assumes nothing.
 use Prim.Native.Nat.{ℕ, _+_, _-_, _*_, _/_, _^_, _≤_, _<_, zero-le}
-use native.Mathlib.Nat.{
-  le-refl,
-  add-le-add,
-  le-trans,
-  le-of-eq,
-  le-antisymm,
-  lt-of-lt-of-le,
-  lt-of-le-of-lt,
-  mul-one,
-  one-mul,
-  zero-mul,
-  mul-comm,
-  mul-assoc,
-  mul-left-comm,
-  mul-right-comm,
-  mul-le-mul-right,
-  mul-le-mul-left,
-  le-of-mul-le-mul-right,
-  mul-pos,
-  add-mul,
-  mul-add,
-  sub-le,
-  mul-sub,
-  le-add-right,
-  div-lt-iff-lt-mul,
-  mul-lt-mul-of-pos-right,
-}
+use native.Mathlib.Nat.{le-refl, add-le-add, le-trans, le-of-eq, le-antisymm, lt-of-lt-of-le, mul-one, one-mul, zero-mul, mul-comm, mul-assoc, mul-left-comm, mul-right-comm, mul-le-mul-right, mul-le-mul-left, le-of-mul-le-mul-right, mul-pos, add-mul, sub-le, mul-sub, le-add-right, div-lt-iff-lt-mul, mul-lt-mul-of-pos-right}
 use native.Mathlib.Omega.{arith}
 use mathlib.Core.Bool.{true, false}
 use mathlib.Core.Logic.{inl, inr}
@@ -34,10 +8,10 @@ use mathlib.Core.Path.{_≡_, refl, sym, ap, subst, _∙_}
 use lib.Dec.{T, lit≤, lit<, eqb→eq}
 use lib.Pow.{pow-add, pow-pos, pow-mono}
 use lib.IntN.{pos}
-use lib.Ieee.{Float, nan, inf, fin, binary32, up, down, size, round, add, sub, mul, div, ofInt, fits}
+use lib.Ieee.{Float, nan, inf, fin, binary32, up, size, round, add, sub, mul, div, ofInt, fits}
 use lib.Ieee.Digits.{size-le}
 use lib.Ieee.Exact.{HasValue}
-use lib.Ieee.Fits.{add-fits, sub-fits, ofInt-fits}
+use lib.Ieee.Fits.{add-fits, sub-fits}
 use lib.Ieee.Back.{whole-unique, round-whole}
 use lib.Ieee.Order.{drop, kept}
 use lib.Ieee.Scale.{grid, round-val, round-under, round-same}
@@ -47,7 +21,7 @@ use Rattle.rules.specs.Cell.{one32}
 use Rattle.rounding.specs.Values.{plain, weak, UpTo, Share, Held}
 use Rattle.rounding.proofs.Sign.{plain-finite, plain-weak}
 use Rattle.rounding.proofs.Order.{value-plain}
-use Rattle.rounding.proofs.Bounds.{at-least, up-to, rounds-above, holds-whole, holds-held, exact}
+use Rattle.rounding.proofs.Bounds.{up-to, rounds-above, holds-whole, holds-held, exact}
 use Rattle.rounding.proofs.Error.{half-below}
 use Rattle.rounding.proofs.Operations.{add-is, mul-is, mul-up, div-is, of-whole}
 use Rattle.rounding.proofs.Mixing.{mix, mul-part, one-less, rest-up, mix-up}

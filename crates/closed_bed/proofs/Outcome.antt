@@ -10,7 +10,7 @@ use Rattle.grid.specs.declared.Extent.{Extent}
 use Rattle.grid.specs.Block.{point}
 use Rattle.grid.specs.Values.{asFloats}
 use Rattle.closing.specs.Closed.{closedDims, pointCount}
-use Rattle.closing.specs.Answers.{closeAnswer, closedRoom, layerAnswer, layerRoom}
+use Rattle.closing.specs.Answers.{closeAnswer}
 use Rattle.closing.proofs.close.Kinds as close-kinds
 use Rattle.closing.proofs.close.Reads as close
 use Rattle.closing.proofs.close_i16.Kinds as close-i16-kinds

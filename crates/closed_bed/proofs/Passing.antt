@@ -1,16 +1,16 @@
 -- The mesher lets the closed grid pass where it lets the open one's distances pass: conditions 1 to 5 of document 01, for the whole boxes. Assumes nothing.
-use Prim.Native.Nat.{ℕ, _+_, _-_, _*_, _≤_}
+use Prim.Native.Nat.{ℕ, _≤_}
 use native.Mathlib.Nat.{le-trans, le-of-eq}
 use native.Mathlib.Omega.{arith}
 use mathlib.Core.Bool.{Bool, true, false, not}
 use mathlib.Core.List.{List}
-use mathlib.Core.Path.{_≡_, refl, sym, ap, subst}
+use mathlib.Core.Path.{_≡_, refl, sym, subst}
 use borrow.Author.Tests.{le-ltb}
 use lib.Dec.{T}
 use lib.Ieee.{Float}
 use lib.ListN.{length}
 use Rattle.lists.proofs.Tests.{is-test, failed}
-use Rattle.rules.specs.Grid.{GridPoint, inBox, value}
+use Rattle.rules.specs.Grid.{GridPoint, inBox}
 use Rattle.rules.specs.Call.{beyond, badDistance}
 use Rattle.rules.proofs.Indexes.{in-box}
 use Rattle.rules.proofs.Accepted.{Accepted, distances-ok, ok-distances}
@@ -18,7 +18,7 @@ use Rattle.closing.specs.Closed.{closedDims, pointCount, inOpen, openPoint, ope
 use Rattle.closing.specs.Answers.{badWall, badClosed}
 use Rattle.closed_bed.specs.Standing.{wholeBox}
 use Rattle.closed_bed.proofs.Values.{closed-long, closed-point, value-open, value-wall, wall-within}
-use Rattle.closed_bed.proofs.Enclosing.{OpenPoint, open-point, closed-box, closed-length}
+use Rattle.closed_bed.proofs.Enclosing.{open-point, closed-box, closed-length}
 
 module _ (d : GridPoint) (sdf : List Float) (wall : Float) (far : badWall wall ≡ false) where
   -- where the open grid has a point, it is one of its whole box

@@ -10,7 +10,6 @@ use mathlib.Core.Path.{_≡_, refl, sym, ap, subst, _∙_}
 use lib.Count.{trailingZeros}
 use lib.Dec.{T, lit≤, lit<, ltb→lt, lt→ltb}
 use lib.Pow.{pow-pos}
-use lib.IntN.{pos}
 use lib.ListN.{length}
 use lib.Ieee.{Float, nan, inf, fin, binary32, unlike, up, down, round, size, span, climb, units, odd, neg, sum, add, sub, mul, lt, ofInt}
 use lib.Ieee.Scale.{finite}
@@ -20,34 +19,7 @@ use lib.Ieee.Positive.{num, den, den-pos, first-pos}
 use Rattle.lists.proofs.Tests.{is-test}
 use Rattle.lists.proofs.Lists.{All, none, more, all-then, all-map, all-keep, many-most}
 use Rattle.rules.specs.Grid.{GridPoint, Axis, axisX, axisY, axisZ, along}
-use Rattle.rules.specs.Cell.{
-  Vector,
-  CubeEdge,
-  cubeEdges,
-  zero32,
-  one32,
-  float,
-  bit,
-  zeroVector,
-  plus,
-  divided,
-  corner,
-  negative,
-  surface,
-  crosses,
-  crossings,
-  fraction,
-  pointBetween,
-  crossingPoint,
-  crossingPoints,
-  summed,
-  centroid,
-  position,
-  _⊕_,
-  _⊗_,
-  _⊖_,
-  _⊘_,
-}
+use Rattle.rules.specs.Cell.{Vector, CubeEdge, cubeEdges, zero32, one32, float, bit, zeroVector, plus, divided, corner, negative, surface, crosses, crossings, fraction, pointBetween, crossingPoint, crossingPoints, summed, centroid, position, _⊕_, _⊗_, _⊖_, _⊘_}
 use Rattle.rules.proofs.Crossings.{crossings-points, three-to-twelve}
 use Rattle.rounding.specs.Values.{weak, belowZero, UpTo, Share, Held}
 use Rattle.rounding.proofs.Sign.{weak-finite}

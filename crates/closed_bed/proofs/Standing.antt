@@ -1,36 +1,36 @@
 -- Where the wall stands. If the wall is a power of two and at least 2 ^ 25 times the magnitude of every distance below zero, the vertices of a cell of the border
 -- lie, bit for bit, on the plane of the outermost points: the position is 1 where the cell's coordinate is 0, and on an axis of n points it is n where the
 -- cell's coordinate is n. Distances that are not below zero do not matter. Assumes nothing.
-use Prim.Native.Nat.{ℕ, _+_, _-_, _*_, _/_, _%_, _^_, _≤_, _<_}
+use Prim.Native.Nat.{ℕ, _+_, _*_, _^_, _≤_, _<_}
 use native.Mathlib.Omega.{arith}
 use native.Mathlib.Nat.{le-trans, le-of-eq}
 use mathlib.Core.Bool.{Bool, true, false, not, _||_}
 use mathlib.Core.List.{List}
 use mathlib.Core.Path.{_≡_, refl, sym, ap, subst, _∙_}
 use lib.Dec.{T, ltb}
-use lib.Ieee.{Float, nan, binary32, fits}
+use lib.Ieee.{Float, binary32, fits}
 use lib.Ieee.Bits.{is-true}
-use lib.ListN.{length, getD}
+use lib.ListN.{length}
 use Rattle.lists.specs.Floats.{Binary32}
 use Rattle.lists.proofs.Tests.{is-false, failed, nor-left, nor-right}
 use Rattle.lists.proofs.Lists.{All, all-then}
 use Rattle.rules.specs.Grid.{GridPoint, Axis, axisX, axisY, axisZ, Field, along, index, inBox, isCell, value}
-use Rattle.rules.specs.Cell.{float, negative, corner, cornerOf, values, surface, centroid, position}
-use Rattle.rules.specs.Vertices.{surfaceCell, vertices, vertexPosition}
+use Rattle.rules.specs.Cell.{float, negative, corner, cornerOf, values, position}
+use Rattle.rules.specs.Vertices.{surfaceCell, vertices}
 use Rattle.rules.specs.Call.{badDimension, badDimensions, badDistance}
 use Rattle.grid.proofs.Tests.{positive-dimension}
 use Rattle.rules.proofs.Indexes.{Small, small, volume, right-length, index-below, corner-in-box}
 use Rattle.rules.proofs.FourCells.{corner-value}
 use Rattle.rules.proofs.Inside.{vertices-all}
-use Rattle.cube.proofs.Corners.{Corners, Cell}
-use Rattle.cube.proofs.Finite.{Capped, capped-cell}
+use Rattle.cube.proofs.Corners.{Cell}
+use Rattle.cube.proofs.Finite.{capped-cell}
 use Rattle.cube.proofs.UnderCaps.{capped-corners}
-use Rattle.closing.specs.Closed.{closedDims, pointCount, inOpen, openPoint, openField, closedValue, closedList}
+use Rattle.closing.specs.Closed.{closedDims, inOpen, openPoint, openField, closedValue, closedList}
 use Rattle.closing.specs.Wall.{wallAt}
 use Rattle.closing.proofs.Answers.{Accepted}
 use Rattle.closed_bed.specs.Standing.{wholeBox, Deep, FarWall, Stands}
-use Rattle.closed_bed.proofs.Values.{closed-long, closed-point, value-open, value-wall, wall-above}
-use Rattle.closed_bed.proofs.Enclosing.{OpenPoint, open-point, negative-open, not-negative, closed-box, closed-length}
+use Rattle.closed_bed.proofs.Values.{closed-point, value-open, value-wall, wall-above}
+use Rattle.closed_bed.proofs.Enclosing.{open-point, negative-open, not-negative, closed-box, closed-length}
 use Rattle.closed_bed.proofs.Fractions.{wall-held}
 use Rattle.closed_bed.proofs.Sides.{sideOf, low-position, high-position}
 

@@ -1,10 +1,10 @@
 -- A full tank: every distance is below zero. Then every vertex of the closed grid is one of a cell of the border, on some axis at 0 or at the open grid's last
 -- point, so that by Standing it lies on the surface of the tank's box. And in no grid is there a vertex beyond the outermost points. Assumes nothing.
-use Prim.Native.Nat.{ℕ, zero, suc, _+_, _-_, _*_, _/_, _%_, _≤_, _<_}
+use Prim.Native.Nat.{ℕ, zero, _+_, _≤_, _<_}
 use native.Mathlib.Nat.{le-trans, le-of-eq}
 use native.Mathlib.Omega.{arith}
-use mathlib.Core.Bool.{Bool, true, false, not, _&&_, true≢false}
-use mathlib.Core.List.{List, [], _∷_}
+use mathlib.Core.Bool.{true, false, not, _&&_, true≢false}
+use mathlib.Core.List.{List}
 use mathlib.Core.Logic.{_⊎_, inl, inr}
 use mathlib.Core.Path.{_≡_, refl, sym, ap, subst, _∙_}
 use lib.Dec.{T, leb, le→leb, lit<}
@@ -17,9 +17,9 @@ use Rattle.lists.proofs.Lists.{All, none, more, all-then, all-map, many-none, m
 use Rattle.rules.specs.Grid.{GridPoint, Axis, axisX, axisY, axisZ, Field, along, index, between, inBox, isCell, value}
 use Rattle.rules.specs.Cell.{negative, negatives, surface, cornerOf, eight, values}
 use Rattle.rules.specs.Vertices.{surfaceCell, vertices}
-use Rattle.rules.proofs.Indexes.{CellWithin, cell-within, corner-in-box, volume, right-length}
+use Rattle.rules.proofs.Indexes.{corner-in-box, volume, right-length}
 use Rattle.rules.proofs.Inside.{vertices-all}
-use Rattle.closing.specs.Closed.{closedDims, inOpen, openPoint, openField, closedValue, closedList}
+use Rattle.closing.specs.Closed.{closedDims, inOpen, openPoint, openField, closedList}
 use Rattle.closing.proofs.Answers.{Accepted}
 use Rattle.closed_bed.specs.Standing.{wholeBox, OnBorder}
 use Rattle.closed_bed.proofs.Values.{closed-point, value-open, value-wall, wall-above}

@@ -1,34 +1,6 @@
 -- What is at most a few 2 ^ -25: sums and quotients of such numbers, and that one of them is lost on a whole number from 1 on. Assumes nothing.
-use Prim.Native.Nat.{ℕ, suc, _+_, _-_, _*_, _/_, _^_, _≤_, _<_}
-use native.Mathlib.Nat.{
-  le-refl,
-  add-le-add,
-  le-trans,
-  le-of-eq,
-  le-antisymm,
-  lt-of-lt-of-le,
-  lt-of-le-of-lt,
-  mul-one,
-  one-mul,
-  mul-comm,
-  mul-assoc,
-  mul-left-comm,
-  mul-right-comm,
-  mul-le-mul-right,
-  mul-le-mul-left,
-  le-of-mul-le-mul-left,
-  le-of-mul-le-mul-right,
-  lt-of-mul-lt-mul-left,
-  lt-of-mul-lt-mul-right,
-  le-add-right,
-  not-le-of-lt,
-  mul-pos,
-  add-mul,
-  mul-add,
-  div-lt-iff-lt-mul,
-  le-div-iff-mul-le,
-  mul-lt-mul-of-pos-right,
-}
+use Prim.Native.Nat.{ℕ, _+_, _-_, _*_, _/_, _^_, _≤_, _<_}
+use native.Mathlib.Nat.{le-refl, add-le-add, le-trans, le-of-eq, le-antisymm, lt-of-lt-of-le, lt-of-le-of-lt, mul-one, one-mul, mul-comm, mul-assoc, mul-left-comm, mul-right-comm, mul-le-mul-right, le-of-mul-le-mul-left, le-of-mul-le-mul-right, lt-of-mul-lt-mul-left, lt-of-mul-lt-mul-right, le-add-right, not-le-of-lt, mul-pos, add-mul, mul-add, div-lt-iff-lt-mul, le-div-iff-mul-le, mul-lt-mul-of-pos-right}
 use native.Mathlib.Omega.{arith}
 use mathlib.Core.Bool.{true, false}
 use mathlib.Core.Logic.{inl, inr}
@@ -36,7 +8,7 @@ use mathlib.Core.Path.{_≡_, refl, sym, ap, subst, _∙_}
 use lib.Dec.{T, lit≤, lit<}
 use lib.Pow.{pow-add, pow-pos, pow-mono}
 use lib.IntN.{pos}
-use lib.Ieee.{Float, nan, inf, fin, binary32, prec, size, round, add, div, ofInt}
+use lib.Ieee.{Float, nan, inf, fin, binary32, size, round, add, div, ofInt}
 use lib.Ieee.Digits.{size-lt, size-le}
 use lib.Ieee.Exact.{HasValue}
 use lib.Ieee.Fits.{round-fits, ofInt-fits}

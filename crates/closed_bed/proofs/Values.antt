@@ -1,7 +1,7 @@
 -- The closed grid as a list: how long it is, and what stands at each point. From the definitions of crate closing. Assumes nothing.
-use Prim.Native.Nat.{ℕ, _+_, _-_, _*_, _<_}
+use Prim.Native.Nat.{ℕ, _+_, _<_}
 use native.Mathlib.Omega.{arith}
-use mathlib.Core.Bool.{Bool, true, false, _&&_, not, _||_, cond}
+use mathlib.Core.Bool.{Bool, true, false, not, _||_, cond}
 use mathlib.Core.List.{List}
 use mathlib.Core.Path.{_≡_, refl, sym, ap, _∙_}
 use lib.Dec.{T}
@@ -9,12 +9,10 @@ use lib.Ieee.{Float, nan, lt}
 use lib.ListN.{length, getD, take}
 use lib.Seq.{take-at}
 use Rattle.lists.specs.Lists.{over}
-use Rattle.lists.proofs.Tests.{is-false, is-test}
-use Rattle.rules.specs.Grid.{GridPoint, Box, Field, index, inBox, value}
+use Rattle.rules.specs.Grid.{GridPoint, Field, index, inBox, value}
 use Rattle.rules.specs.Cell.{zero32}
 use Rattle.rules.specs.Call.{beyond}
-use Rattle.rules.proofs.Indexes.{Within, within, volume, point-back}
-use Rattle.grid.specs.declared.Extent.{Extent}
+use Rattle.rules.proofs.Indexes.{within, volume, point-back}
 use Rattle.grid.specs.Block.{point}
 use Rattle.closing.specs.Closed.{closedDims, pointCount, inOpen, openPoint, openField, closedValue, closedField, closedList}
 use Rattle.closing.specs.Answers.{badWall, closeAnswer, closedRoom}

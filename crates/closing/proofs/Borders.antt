@@ -1,6 +1,6 @@
 -- A border on one axis, one before and two behind, around blocks of s numbers; and the border on three axes is the closed grid. Assumes nothing.
-use Prim.Native.Nat.{ℕ, suc, _+_, _-_, _*_, _/_, _%_, _≤_, _<_}
-use native.Mathlib.Nat.{mul-add, mul-comm, mul-assoc, add-div-left, add-mod-left, mul-pos, mod-add-div, mul-add-div, mul-add-mod-self-left, mod-eq-of-lt, div-eq-of-lt, div-lt-iff-lt-mul, div-div-eq-div-mul, mod-lt, div-add-mod, add-zero}
+use Prim.Native.Nat.{ℕ, _+_, _-_, _*_, _/_, _%_, _≤_, _<_}
+use native.Mathlib.Nat.{mul-add, mul-comm, mul-assoc, add-div-left, add-mod-left, mul-pos, mod-add-div, mul-add-div, mul-add-mod-self-left, mod-eq-of-lt, div-eq-of-lt, div-lt-iff-lt-mul, mod-lt, div-add-mod, add-zero}
 use native.Mathlib.Omega.{arith}
 use mathlib.Core.Bool.{Bool, true, false, _&&_, cond}
 use mathlib.Core.List.{List}

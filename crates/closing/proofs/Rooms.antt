@@ -11,7 +11,7 @@ use lib.Dec.{T, eqb}
 use lib.Ieee.{Float}
 use lib.ListN.{length}
 use lib.Seq.{sets}
-use Rattle.lists.specs.Lists.{over, run}
+use Rattle.lists.specs.Lists.{over}
 use Rattle.rules.specs.Grid.{GridPoint, between}
 use Rattle.rules.proofs.Indexes.{right-length}
 use Rattle.lists.proofs.Tests.{failed}

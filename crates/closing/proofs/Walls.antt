@@ -11,10 +11,10 @@ use borrow.Author.Tests.{lt-ltb, eqb-true}
 use lib.Dec.{T, eqb, lit<}
 use lib.IntN.{ℤ, pos, negsuc}
 use lib.Count.{trailingZeros}
-use lib.Ieee.{Float, nan, inf, fin, binary32, add, sum, round, size, span, climb, units, odd, minus, lt, eq, le, up, down}
+use lib.Ieee.{Float, nan, inf, fin, add, sum, round, size, span, climb, units, odd, minus, lt, eq, le, up, down}
 use lib.Ieee.Fits.{down-pos}
 use lib.ListN.{length, getD, take}
-use lib.Seq.{take-suc, take-length}
+use lib.Seq.{take-suc}
 use Rattle.lists.specs.Lists.{upTo, place}
 use Rattle.lists.proofs.Tests.{less-or-not}
 use Rattle.lists.proofs.Runs.{upTo-none, upTo-first}

@@ -11,7 +11,7 @@ use Rattle.grid.specs.Block.{point}
 use Rattle.grid.specs.Values.{gridOf}
 use Rattle.closing.specs.Answers.{layerAnswer}
 use Rattle.closing.proofs.Answers.{LayerAccepted, layer-accepted, layer-kept, layer-done}
-use Rattle.closing.proofs.Sizes.{open-smaller, grown}
+use Rattle.closing.proofs.Sizes.{open-smaller}
 use Rattle.closing.proofs.Rooms.{layer-long, layer-room, plane-few, layer-stored, wall-stored}
 use borrow.Author.Needs.{needs}
 use Rattle.closing.proofs.layer.close_layer_of.Statement.{statement}

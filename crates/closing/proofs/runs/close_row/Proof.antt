@@ -2,7 +2,7 @@
 use Prim.Native.Nat.{ℕ, _+_}
 use mathlib.Core.Path.{refl}
 use native.Mathlib.Omega.{arith}
-use lib.Ieee.{Float, nan}
+use lib.Ieee.{nan}
 use lib.ListN.{getD}
 use Rattle.grid.specs.Values.{gridOf}
 use Rattle.closing.proofs.Borders.{row-stored}

@@ -1,11 +1,11 @@
 -- Each way out by the tests that led there. Assumes nothing.
 use mathlib.Core.Bool.{true, false}
-use mathlib.Core.Path.{_≡_, refl, sym, ap, subst, _∙_}
+use mathlib.Core.Path.{_≡_, refl, sym, ap, _∙_}
 use Rattle.lists.proofs.Tests.{failed}
 use Rattle.rules.specs.Grid.{GridPoint}
 use Rattle.rules.specs.Call.{badDimensions, badLength}
 use Rattle.grid.specs.Block.{point}
-use Rattle.closing.specs.Closed.{closedDims, pointCount}
+use Rattle.closing.specs.Closed.{pointCount}
 use Rattle.closing.specs.Answers.{badWall, badClosed, badRoom}
 use Rattle.closing.proofs.Answers.{close-1, close-3, close-72, close-73, close-74, close-0}
 use borrow.Author.Needs.{needs}

@@ -3,12 +3,14 @@
 use Prim.Native.Nat.{ℕ, zero, suc, _+_, _-_, _≤_, _<_}
 use native.Mathlib.Nat.{le-refl}
 use native.Mathlib.Omega.{arith}
+use mathlib.Core.Bool.{false}
 use mathlib.Core.List.{List}
 use mathlib.Core.Path.{_≡_, refl, sym, ap, _∙_}
 use lib.ListN.{length}
 use lib.Ieee.{Float}
 use Rattle.lists.specs.Floats.{Binary32}
 use Rattle.rules.specs.Grid.{GridPoint, Box}
+use Rattle.rules.specs.Call.{badLength}
 use Rattle.levels.specs.Columns.{columns}
 use Rattle.levels.specs.Call.{levelsAnswer, levelsAfter, layerAnswer, layerAfter}
 use Rattle.levels.proofs.Changed.{changed-length}
@@ -16,6 +18,7 @@ use Rattle.levels.proofs.Answering.{Accepted, levels-accepted}
 use Rattle.levelled_bed.specs.Layers.{layerAt, belowNth, afterLayers}
 use Rattle.levelled_bed.proofs.Told.{Levelled}
 use Rattle.levelled_bed.proofs.Layered.{layer-accepted, levelsTo, after-layers, layers-are-whole}
+use Rattle.levelled_bed.proofs.Accepting.{whole-accepted, layer-length-kept}
 
 -- ---- a call on a whole grid, and a call with one layer: what went in, what came back, and what the contract says of it
 
@@ -130,3 +133,20 @@ module _ (w : Whole) (done : w .answer ≡ 0) (o : ℕ → Offer) (t : InTurn w 
   last-leaves =
       leaves (lastOf (w .box)) (le-refl _) (enters (lastOf (w .box)) (le-refl _))
       ∙ (layers-are-whole (w .sdf) (w .dims) (w .box) (w .entry) (sym (w .said) ∙ done) accepted ∙ sym (w .left))
+
+-- the other way round: each layer answered 0, and a grid of the right length
+module _ (w : Whole) (fits : badLength (w .dims) (length (w .sdf)) ≡ false) (o : ℕ → Offer) (t : InTurn w o) (each : (n : ℕ) → n ≤ lastOf (w .box) → o n .answer ≡ 0) where
+  long : (n : ℕ) → n ≤ lastOf (w .box) → length (o n .entry) ≡ length (w .entry)
+  long zero h = ap length (t .first)
+  long (suc n) h =
+      let under : n ≤ lastOf (w .box) = omega arith in
+      ap length (t .next n h)
+      ∙ (ap length (o n .left) ∙ (layer-length-kept (o n .below) (o n .layer) (o n .dims) (o n .box) (o n .z) (o n .entry) ∙ long n under))
+
+  pub whole-answered : w .answer ≡ 0
+  whole-answered =
+      w .said
+      ∙ whole-accepted (w .sdf) (w .dims) (w .box) (length (w .entry)) fits
+      (λ n h.
+      (λ i. layerAnswer (sym (t .below n h) i) (sym (t .layer n h) i) (sym (t .dims n h) i) (sym (t .box n h) i) (sym (t .z n h) i) (sym (long n h) i))
+      ∙ (sym (o n .said) ∙ each n h))

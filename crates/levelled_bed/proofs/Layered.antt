@@ -49,8 +49,12 @@ in-grid P z Z h =
 
 -- ---- a layer of a grid
 
+-- the box's points in a layer, read as those of a grid's first layer
+abbrev pub flatBox : Box → Box
+flatBox b = record { low = record { x = b .low .x; y = b .low .y; z = 0 }; high = record { x = b .high .x; y = b .high .y; z = 0 } }
+
 module _ (grid : List Float) (d : GridPoint) where
-  read-at : (x y z : ℕ) → x < d .x → y < d .y → getD (layerAt grid d z) (x + d .x * y) nan ≡ getD grid (x + d .x * y + d .x * d .y * z) nan
+  pub read-at : (x y z : ℕ) → x < d .x → y < d .y → getD (layerAt grid d z) (x + d .x * y) nan ≡ getD grid (x + d .x * y + d .x * d .y * z) nan
   read-at x y z h l =
       let P = d .x * d .y in
       let at = x + d .x * y in
@@ -73,12 +77,9 @@ module _ (grid : List Float) (d : GridPoint) (b : Box) {room : ℕ} (a : Accepte
 
   -- no distance of a layer is bad
   module _ (z : ℕ) (zs : (b .low .z ≤ z) × (z ≤ b .high .z)) where
-    abbrev flatBox : Box
-    flatBox = record { low = record { x = b .low .x; y = b .low .y; z = 0 }; high = record { x = b .high .x; y = b .high .y; z = 0 } }
-
-    fine-at : (p : GridPoint) → T (inBox flatBox p) → T (not (beyond (value (gridOf (layerAt grid d z) d) p)))
+    fine-at : (p : GridPoint) → T (inBox (flatBox b) p) → T (not (beyond (value (gridOf (layerAt grid d z) d) p)))
     fine-at p t =
-        let w = within flatBox p t in
+        let w = within (flatBox b) p t in
         let q : GridPoint = record { x = p .x; y = p .y; z = z } in
         let there : T (inBox b q) = in-box b q (record { x = w .x; y = w .y; z = zs }) in
         let (hx, hy, hz) = box-within d b q (failed refl (a .faultless .box)) there in
@@ -91,7 +92,7 @@ module _ (grid : List Float) (d : GridPoint) (b : Box) {room : ℕ} (a : Accepte
 
     fine-layer : badPoints d b (layerAt grid d z) ≡ false
     unfolding badDistance badLayer layerPoints upTo run some
-    fine-layer = first (badLayer (gridOf (layerAt grid d z) d) b 0) (ok-distances (gridOf (layerAt grid d z) d) flatBox fine-at)
+    fine-layer = first (badLayer (gridOf (layerAt grid d z) d) b 0) (ok-distances (gridOf (layerAt grid d z) d) (flatBox b) fine-at)
       where
         first : (t : Bool) → T (not (t || false)) → t ≡ false
         first true h = absurd h

@@ -16,9 +16,9 @@ use Rattle.volume.specs.Volume.{cornerAt, falling, rising, determinant, sumOver
 use Rattle.volume.proofs.Whole.{exchange, minus-plus}
 use Rattle.volume.proofs.Weighing.{accepted, weighs}
 use Rattle.weigh.specs.declared.Weight.{Weight}
-use Rattle.weigh.specs.Sums.{pillarOf, sumOf, pillars}
+use Rattle.weigh.specs.Sums.{shadowOf, pillarOf, sumOf, pillars}
 use Rattle.weigh.specs.Answers.{weight, sumIn}
-use Rattle.weigh.proofs.Terms.{forth, back, height, pillar-parts}
+use Rattle.weigh.proofs.Terms.{forth, back, height, shadow-parts, pillar-parts}
 use Rattle.weigh.proofs.Weighing.{sum-told}
 use Rattle.promises.specs.Served.{Served, Done}
 use Rattle.promises.proofs.ReadBack.{indices-back}
@@ -90,6 +90,41 @@ module _ (at : ℕ → Corner) where
       ∙ ap (λ (n : ℕ). sumOver at l +ℤ (pos n -ℤ pos t)) (even-total (λ (i j : ℕ). side (at i) (at j)) (links l) even)
       ∙ ap (λ (z : ℤ). sumOver at l +ℤ z) (+ℤ-invr (pos t))
       ∙ +ℤ-idr (sumOver at l)
+
+-- ---- the shadow
+
+-- ax·by of a side from a to b: the side's reverse has bx·ay
+abbrev across : Corner → Corner → ℕ
+across a b = a .x * b .y
+
+shadow-sides : (a b c : Corner) → shadowOf a b c ≡ pos (across a b + (across b c + across c a)) -ℤ pos (across b a + (across c b + across a c))
+shadow-sides a b c =
+    let p : forth a b c ≡ across a b + (across b c + across c a) = omega arith in
+    let q : back a b c ≡ across b a + (across c b + across a c) = omega arith in
+    shadow-parts a b c ∙ ap₂ (λ (m n : ℕ). pos m -ℤ pos n) p q
+
+module _ (at : ℕ → Corner) where
+  shadow-total : (l : List ℕ)
+      → sumOf shadowOf at l ≡ pos (total (λ (s : Link). across (at (s .tail)) (at (s .head))) (links l)) -ℤ pos (total (λ (s : Link). across (at (s .head)) (at (s .tail))) (links l))
+  unfolding sumOf links total
+  shadow-total [] = refl
+  shadow-total (i ∷ []) = refl
+  shadow-total (i ∷ j ∷ []) = refl
+  shadow-total (i ∷ j ∷ k ∷ is) =
+      let a = at i in
+      let b = at j in
+      let c = at k in
+      let s : ℕ = total (λ (s : Link). across (at (s .tail)) (at (s .head))) (links is) in
+      let t : ℕ = total (λ (s : Link). across (at (s .head)) (at (s .tail))) (links is) in
+      ap₂ _+ℤ_ (shadow-sides a b c) (shadow-total is)
+      ∙ sym (minus-plus (across a b + (across b c + across c a)) (across b a + (across c b + across a c)) s t)
+      ∙ ap₂ (λ (m n : ℕ). pos m -ℤ pos n) (grouped at (across a b) (across b c) (across c a) s) (grouped at (across b a) (across c b) (across a c) t)
+
+  -- what faces up and what faces down cancel
+  pub even-shadow : (l : List ℕ) → Even (links l) → sumOf shadowOf at l ≡ pos 0
+  even-shadow l even =
+      let t : ℕ = total (λ (s : Link). across (at (s .head)) (at (s .tail))) (links l) in
+      shadow-total l ∙ ap (λ (n : ℕ). pos n -ℤ pos t) (even-total (λ (i j : ℕ). across (at i) (at j)) (links l) even) ∙ +ℤ-invr (pos t)
 
 pub pillars-sixfold : (p : List Float) (i : List ℕ) → Even (links i) → pillars p 0 i ≡ sixfold p i
 pillars-sixfold p i even = ap (λ (at : ℕ → Corner). sumOf pillarOf at i) (from-zero p) ∙ even-agree (cornerAt p) i even

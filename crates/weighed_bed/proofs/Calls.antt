@@ -15,6 +15,7 @@ use Rattle.weigh.proofs.Answering.{few-enough}
 use Rattle.weigh.proofs.Weighing.{accepted, round-weighs, order-weighs, rolled-weighs, joined-weighs, part-weighs}
 use Rattle.promises.specs.Served.{Served, Done}
 use Rattle.promises.proofs.Runs.{Run, served, BedRun, bedServed}
+use Rattle.promises.proofs.WholeRuns.{SixteenRun, sixteenServed, EightRun, eightServed, BedSixteenRun, bedSixteenServed, BedEightRun, bedEightServed}
 use Rattle.weighed_mesh.specs.Told.{positionsOf, indicesOf}
 use Rattle.weighed_mesh.proofs.Sides.{Even}
 use Rattle.weighed_mesh.proofs.Outcomes as volumes
@@ -40,6 +41,23 @@ surface-nets-weighs u w = own-mesh-weighs (served u) (told w)
 pub bed-surface-nets-weighs : (u : BedRun) (w : BedWeigh) → Done (bedServed u) → OwnMesh (bedServed u) (bedTold w)
     → bedTold w .says ≡ says 0 (pillarsOf (bedServed u)) (shadowsOf (bedServed u))
 bed-surface-nets-weighs u w = own-mesh-weighs (bedServed u) (bedTold w)
+
+-- from whole numbers of 16 and of 8 bits
+pub surface-nets-i16-weighs : (u : SixteenRun) (w : Weigh) → Done (sixteenServed u) → OwnMesh (sixteenServed u) (told w)
+    → told w .says ≡ says 0 (pillarsOf (sixteenServed u)) (shadowsOf (sixteenServed u))
+surface-nets-i16-weighs u w = own-mesh-weighs (sixteenServed u) (told w)
+
+pub surface-nets-i8-weighs : (u : EightRun) (w : Weigh) → Done (eightServed u) → OwnMesh (eightServed u) (told w)
+    → told w .says ≡ says 0 (pillarsOf (eightServed u)) (shadowsOf (eightServed u))
+surface-nets-i8-weighs u w = own-mesh-weighs (eightServed u) (told w)
+
+pub bed-surface-nets-i16-weighs : (u : BedSixteenRun) (w : BedWeigh) → Done (bedSixteenServed u) → OwnMesh (bedSixteenServed u) (bedTold w)
+    → bedTold w .says ≡ says 0 (pillarsOf (bedSixteenServed u)) (shadowsOf (bedSixteenServed u))
+bed-surface-nets-i16-weighs u w = own-mesh-weighs (bedSixteenServed u) (bedTold w)
+
+pub bed-surface-nets-i8-weighs : (u : BedEightRun) (w : BedWeigh) → Done (bedEightServed u) → OwnMesh (bedEightServed u) (bedTold w)
+    → bedTold w .says ≡ says 0 (pillarsOf (bedEightServed u)) (shadowsOf (bedEightServed u))
+bed-surface-nets-i8-weighs u w = own-mesh-weighs (bedEightServed u) (bedTold w)
 
 -- ---- the laws of the weighing
 

@@ -3,4 +3,5 @@ pub mod Made
 pub mod OnePoint
 pub mod Applied
 pub mod Planned
+pub mod Bounded
 pub mod WholeNumbers

@@ -9,4 +9,5 @@ pub mod Weights
 pub mod Meshed
 pub mod Counts
 pub mod Bounds
+pub mod Asked
 pub mod Instances

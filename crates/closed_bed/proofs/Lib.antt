@@ -16,3 +16,4 @@ pub mod Deepest
 pub mod Tank
 pub mod Once
 pub mod Instances
+pub mod Inside

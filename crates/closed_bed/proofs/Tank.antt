@@ -29,7 +29,7 @@ use Rattle.closed_bed.proofs.Standing.{corner-along, beyond-high}
 
 -- ---- all corners alike
 
-all-eight : All (λ i. i < 8) eight
+pub all-eight : All (λ i. i < 8) eight
 all-eight = more (lit< tt) (more (lit< tt) (more (lit< tt) (more (lit< tt) (more (lit< tt) (more (lit< tt) (more (lit< tt) (more (lit< tt) none)))))))
 
 each-corner : (P : Float → Type 0) (g : Field) (c : GridPoint) → ((i : ℕ) → i < 8 → P (value g (cornerOf c i))) → All P (values g c)
@@ -43,7 +43,7 @@ full-surface : (d : List Float) → negatives d ≡ 8 → T (surface d) → ⊥
 full-surface d e t = subst (λ (n : ℕ). T (leb 1 n && leb n 7)) e t
 
 -- a corner is on one side or the other
-side-few : (a : Axis) (i : ℕ) → i < 8 → sideOf a i ≤ 1
+pub side-few : (a : Axis) (i : ℕ) → i < 8 → sideOf a i ≤ 1
 side-few axisX i h = omega arith
 side-few axisY i h = omega arith
 side-few axisZ i h = omega arith

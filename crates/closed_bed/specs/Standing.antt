@@ -1,5 +1,5 @@
 -- A grid's whole box, a wall that is far, and where a vertex then stands. Definitions only. Assumes nothing.
-use Prim.Native.Nat.{ℕ, _-_, _*_, _^_, _≤_, _<_}
+use Prim.Native.Nat.{ℕ, _+_, _-_, _*_, _^_, _≤_, _<_}
 use mathlib.Core.List.{List}
 use mathlib.Core.Logic.{_⊎_}
 use mathlib.Core.Path.{_≡_}
@@ -37,6 +37,10 @@ component axisZ v = v .z
 pub record Stands (d : GridPoint) (g : Field) (c : GridPoint) : Type 0 where
   pub low : (a : Axis) → along a c ≡ 0 → component a (vertexPosition g c) ≡ float 1
   pub high : (a : Axis) → along a c ≡ along a d → component a (vertexPosition g c) ≡ float (along a d)
+
+-- none of the cell's corners is in the border
+abbrev pub Inside : GridPoint → GridPoint → Type 0
+Inside d c = (a : Axis) → (1 ≤ along a c) × (along a c + 1 ≤ along a d)
 
 -- the cell is one of the border on some axis: at 0 there, or at the open grid's last point
 pub record OnBorder (d : GridPoint) (c : GridPoint) : Type 0 where

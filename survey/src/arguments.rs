@@ -12,6 +12,8 @@ pub struct Arguments {
     command: &'static str,
     files: Vec<PathBuf>,
     options: Vec<(&'static str, OsString)>,
+    /// Options without a value that were given.
+    marks: Vec<&'static str>,
 }
 
 impl Arguments {
@@ -22,10 +24,45 @@ impl Arguments {
         files: usize,
         options: &[&'static str],
     ) -> Result<Self, Failure> {
+        Self::read_marked(command, words, files, options, &[])
+    }
+
+    /// The same, with options that have no value.
+    pub fn read_marked(
+        command: &'static str,
+        words: &[OsString],
+        files: usize,
+        options: &[&'static str],
+        marks: &[&'static str],
+    ) -> Result<Self, Failure> {
+        let read = Self::of(command, words, options, marks)?;
+        if read.files.len() != files {
+            let given = read.files.len();
+            return Err(read.wrong(format!("{files} files are wanted, {given} are given")));
+        }
+        Ok(read)
+    }
+
+    /// Reads the words of a command that takes one file or more, and no option.
+    pub fn read_files(command: &'static str, words: &[OsString]) -> Result<Self, Failure> {
+        let read = Self::of(command, words, &[], &[])?;
+        if read.files.is_empty() {
+            return Err(read.wrong("a file is wanted"));
+        }
+        Ok(read)
+    }
+
+    fn of(
+        command: &'static str,
+        words: &[OsString],
+        options: &[&'static str],
+        marks: &[&'static str],
+    ) -> Result<Self, Failure> {
         let mut read = Self {
             command,
             files: Vec::new(),
             options: Vec::new(),
+            marks: Vec::new(),
         };
         let mut words = words.iter();
         while let Some(word) = words.next() {
@@ -35,6 +72,13 @@ impl Arguments {
             }
             if !word.as_bytes().starts_with(b"-") {
                 read.files.push(word.into());
+                continue;
+            }
+            if let Some(&mark) = marks.iter().find(|&&mark| word == mark) {
+                if read.marked(mark) {
+                    return Err(read.wrong(format!("{mark} is given twice")));
+                }
+                read.marks.push(mark);
                 continue;
             }
             let (name, given) = parted(word);
@@ -54,10 +98,6 @@ impl Arguments {
             };
             read.options.push((option, value.to_os_string()));
         }
-        if read.files.len() != files {
-            let given = read.files.len();
-            return Err(read.wrong(format!("{files} files are wanted, {given} are given")));
-        }
         Ok(read)
     }
 
@@ -68,6 +108,14 @@ impl Arguments {
 
     pub fn file(&self, place: usize) -> &Path {
         &self.files[place]
+    }
+
+    pub fn files(&self) -> &[PathBuf] {
+        &self.files
+    }
+
+    pub fn marked(&self, name: &str) -> bool {
+        self.marks.contains(&name)
     }
 
     fn option(&self, name: &str) -> Option<&OsStr> {
@@ -98,6 +146,13 @@ impl Arguments {
             Some(numbers) => Ok(Some(numbers)),
             None => Err(self.wrong(format!("{name} wants {N} numbers with commas between them"))),
         }
+    }
+
+    /// Finite numbers of an option, with commas between them.
+    pub fn reals(&self, name: &str) -> Option<Option<Vec<f64>>> {
+        let number = |word: &str| word.parse().ok().filter(|number: &f64| number.is_finite());
+        let read = |text: &str| text.split(',').map(number).collect();
+        self.text(name).map(read)
     }
 
     /// How much memory the command may take, in bytes.

@@ -5,6 +5,7 @@ use crate::failure::Failure;
 use crate::grid::{self, Source, Stored};
 use crate::names;
 use crate::numbers::{Header, Numbers};
+use crate::scale::Scale;
 use std::fs;
 use std::path::Path;
 
@@ -49,13 +50,30 @@ pub fn apart<'a>(
     names::apart(read, written).map_err(|reason| arguments.wrong(reason))
 }
 
-/// The step of the grid in metres, for fixtures that are given as text in metres.
-pub fn step(arguments: &Arguments) -> Result<Option<f64>, Failure> {
-    let Some(word) = arguments.text("--step") else {
-        return Ok(None);
+/// The metres of a grid step, one number for all axes or three, and of the grid's point 0,0,0.
+pub fn scale(arguments: &Arguments) -> Result<Option<Scale>, Failure> {
+    let step = match arguments.reals("--step") {
+        None => None,
+        Some(read) => Some(match read.as_deref() {
+            Some(&[all]) if all > 0.0 => [all; 3],
+            Some(&[x, y, z]) if x > 0.0 && y > 0.0 && z > 0.0 => [x, y, z],
+            _ => {
+                let wanted = "--step wants the metres of a grid step, above zero: one number, or three with commas between them";
+                return Err(arguments.wrong(wanted));
+            }
+        }),
     };
-    match word.parse() {
-        Ok(step) if step > 0.0 && f64::is_finite(step) => Ok(Some(step)),
-        _ => Err(arguments.wrong("--step wants the metres of a grid step, above zero")),
-    }
+    let origin = match arguments.reals("--origin") {
+        None => [0.0; 3],
+        Some(read) => match (read.as_deref(), step) {
+            (_, None) => return Err(arguments.wrong("--origin is in metres and wants --step")),
+            (Some(&[x, y, z]), _) => [x, y, z],
+            _ => {
+                return Err(arguments.wrong(
+                    "--origin wants the metres of the grid's point 0,0,0: three numbers with commas between them",
+                ))
+            }
+        },
+    };
+    Ok(step.map(|step| Scale { step, origin }))
 }

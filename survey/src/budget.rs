@@ -33,7 +33,8 @@ pub struct InMemory {
 }
 
 impl InMemory {
-    fn grid(&self) -> u128 {
+    /// The bytes of the grid alone.
+    pub fn grid(&self) -> u128 {
         let each = if self.floats { 4 } else { self.numbers.bytes() };
         self.count * each as u128
     }

@@ -1,22 +1,23 @@
 //! The commands, each from its words to the text that it prints.
 
 use crate::arguments::{before_files, Arguments};
-use crate::asked::{apart, open_grid, options, step};
+use crate::asked::{apart, open_grid, options, scale};
 use crate::failure::Failure;
 use crate::judged::{accepted, are_fixtures, cut_out, held, named_block};
 use crate::meshing::counted;
-use crate::{fixtures, help, kept, mesh, meshing, npy, plan, ply, survey, weighing};
+use crate::said::Said;
+use crate::{fixtures, help, kept, mesh, meshing, npy, plan, ply, sheets, survey};
 use std::ffi::OsString;
 use std::path::Path;
 
-pub fn run(words: &[OsString]) -> Result<String, Failure> {
+pub fn run(words: &[OsString]) -> Result<Said, Failure> {
     let Some((command, rest)) = words.split_first() else {
         return Err(Failure::Use("a command is wanted; see bed --help".into()));
     };
     let command = command.to_str().unwrap_or("");
     match command {
-        "--help" | "-h" | "help" => return Ok(help::ALL.into()),
-        "--version" => return Ok(version()),
+        "--help" | "-h" | "help" => return Ok(help::ALL.to_string().into()),
+        "--version" => return Ok(version().into()),
         _ => {}
     }
     let Some(text) = help::of(command) else {
@@ -26,20 +27,20 @@ pub fn run(words: &[OsString]) -> Result<String, Failure> {
     };
     let said = before_files(rest);
     if said.iter().any(|word| word == "--help" || word == "-h") {
-        return Ok(text);
+        return Ok(text.into());
     }
     if said.iter().any(|word| word == "--version") {
-        return Ok(version());
+        return Ok(version().into());
     }
     match command {
         "survey" => survey::survey(rest),
-        "mesh" => meshing::mesh(rest),
+        "mesh" => meshing::mesh(rest).map(Said::from),
         "info" => info(rest),
-        "volume" => volume(rest),
-        "ply" => view(rest),
-        "plan" => plan(rest),
-        "fixtures" => write_fixtures(rest),
-        "cut" => cut(rest),
+        "volume" => sheets::volume(rest),
+        "ply" => view(rest).map(Said::from),
+        "plan" => plan(rest).map(Said::from),
+        "fixtures" => write_fixtures(rest).map(Said::from),
+        "cut" => cut(rest).map(Said::from),
         _ => unreachable!("every command that has a help is here"),
     }
 }
@@ -48,22 +49,27 @@ fn version() -> String {
     format!("bed {}\n", env!("CARGO_PKG_VERSION"))
 }
 
-fn info(words: &[OsString]) -> Result<String, Failure> {
-    let arguments = Arguments::read("info", words, 1, &[])?;
-    let (_, counts) = mesh::checked(arguments.file(0))?;
-    Ok(counted(counts.vertices, counts.triangles))
-}
-
-fn volume(words: &[OsString]) -> Result<String, Failure> {
-    let arguments = Arguments::read("volume", words, 1, &[])?;
-    let name = arguments.file(0);
-    let mesh = mesh::read(name)?;
-    let sixfold = weighing::sixfold(&mesh.lists())
-        .map_err(|refusal| Failure::refused(name.display(), refusal.number(), refusal))?;
-    Ok(format!(
-        "sixfold {sixfold} volume {}\n",
-        weighing::in_grid_steps(sixfold)
-    ))
+/// One file, or a line for each of several, whatever is wrong with some.
+fn info(words: &[OsString]) -> Result<Said, Failure> {
+    let arguments = Arguments::read_files("info", words)?;
+    if let [one] = arguments.files() {
+        let (_, counts) = mesh::checked(one)?;
+        return Ok(counted(counts.vertices, counts.triangles).into());
+    }
+    let mut said = Said::from(String::new());
+    for name in arguments.files() {
+        match mesh::checked(name) {
+            Ok((_, counts)) => {
+                let counts = counted(counts.vertices, counts.triangles);
+                said.text += &format!("{}: {counts}", name.display());
+            }
+            Err(failure) => {
+                said.text += &format!("{failure}\n");
+                said.status = said.status.max(failure.status());
+            }
+        }
+    }
+    Ok(said)
 }
 
 fn view(words: &[OsString]) -> Result<String, Failure> {
@@ -135,10 +141,10 @@ fn make_plan(arguments: &Arguments, counts: [u32; 3]) -> Result<String, Failure>
 
 /// Writes fixtures that are given as text as the records that the library reads, once it has read them.
 fn write_fixtures(words: &[OsString]) -> Result<String, Failure> {
-    let arguments = Arguments::read("fixtures", words, 1, &["-o", "--step"])?;
+    let arguments = Arguments::read("fixtures", words, 1, &["-o", "--step", "--origin"])?;
     let (name, output) = (arguments.file(0), arguments.output()?);
     apart(&arguments, [name], [output])?;
-    let fixtures = fixtures::read(name, step(&arguments)?)?;
+    let fixtures = fixtures::read(name, scale(&arguments)?.as_ref())?;
     are_fixtures(&fixtures)?;
     kept::write(output, &fixtures.records)?;
     Ok(format!(
@@ -148,10 +154,10 @@ fn write_fixtures(words: &[OsString]) -> Result<String, Failure> {
 }
 
 fn cut(words: &[OsString]) -> Result<String, Failure> {
-    let arguments = Arguments::read("cut", words, 2, &options(["-o", "--step"]))?;
+    let arguments = Arguments::read("cut", words, 2, &options(["-o", "--step", "--origin"]))?;
     let (fixtures, name, output) = (arguments.file(0), arguments.file(1), arguments.output()?);
     apart(&arguments, [fixtures, name], [output])?;
-    let fixtures = fixtures::read(fixtures, step(&arguments)?)?;
+    let fixtures = fixtures::read(fixtures, scale(&arguments)?.as_ref())?;
     let mut grid = open_grid(&arguments, 1, false)?.whole(true)?;
     cut_out(&fixtures, name, &mut grid)?;
     let dims = grid.header.dims;

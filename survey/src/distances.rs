@@ -2,7 +2,7 @@
 //! float of the same value. The library meshes each kind as it stands.
 
 use crate::numbers::Numbers;
-use bed::{Block, Counts, Refusal, SurfaceNetsBuffer};
+use bed::{Block, CloseRefusal, Counts, LevelRefusal, Refusal, SurfaceNetsBuffer};
 
 pub enum Distances {
     Float32(Vec<f32>),
@@ -76,6 +76,49 @@ impl Distances {
         }
     }
 
+    /// Adds so many of the numbers, as floats of the same values.
+    pub fn add_part(&self, from: usize, count: usize, list: &mut Vec<f32>) {
+        match self {
+            Distances::Float32(own) => list.extend(&own[from..from + count]),
+            Distances::Int16(own) => {
+                list.extend(own[from..from + count].iter().copied().map(f32::from))
+            }
+            Distances::Int8(own) => {
+                list.extend(own[from..from + count].iter().copied().map(f32::from))
+            }
+        }
+    }
+
+    /// The points of a box, as a list of its own.
+    pub fn boxed(&self, dims: [u32; 3], block: &Block) -> Self {
+        match self {
+            Distances::Float32(list) => Distances::Float32(points_of(list, dims, block)),
+            Distances::Int16(list) => Distances::Int16(points_of(list, dims, block)),
+            Distances::Int8(list) => Distances::Int8(points_of(list, dims, block)),
+        }
+    }
+
+    /// The grid of three more points on each axis that is closed by a wall, and its dimensions.
+    pub fn close(&self, dims: [u32; 3], wall: f32) -> Result<(Vec<f32>, [u32; 3]), CloseRefusal> {
+        let mut closed = Vec::new();
+        let dims = match self {
+            Distances::Float32(list) => bed::close(list, dims, wall, &mut closed),
+            Distances::Int16(list) => bed::close(list, dims, wall, &mut closed),
+            Distances::Int8(list) => bed::close(list, dims, wall, &mut closed),
+        }?;
+        Ok((closed, dims))
+    }
+
+    /// The level of each column of a box.
+    pub fn levels(&self, dims: [u32; 3], block: &Block) -> Result<Vec<f32>, LevelRefusal> {
+        let (min, max) = (block.min, block.max);
+        match self {
+            Distances::Float32(list) => bed::levels(list, dims, min, max),
+            Distances::Int16(list) => bed::levels(list, dims, min, max),
+            Distances::Int8(list) => bed::levels(list, dims, min, max),
+        }
+    }
+
     /// The floats, where they are floats: a grid that fixtures are cut out of is read so.
     pub fn floats(&mut self) -> Option<&mut Vec<f32>> {
         match self {
@@ -83,6 +126,18 @@ impl Distances {
             _ => None,
         }
     }
+}
+
+fn points_of<D: Copy>(list: &[D], dims: [u32; 3], block: &Block) -> Vec<D> {
+    let [across, along, _] = dims.map(|size| size as usize);
+    let mut points = Vec::new();
+    for z in block.min[2]..=block.max[2] {
+        for y in block.min[1]..=block.max[1] {
+            let row = (z as usize * along + y as usize) * across;
+            points.extend(&list[row + block.min[0] as usize..=row + block.max[0] as usize]);
+        }
+    }
+    points
 }
 
 fn room<D>(count: usize) -> Vec<D> {
@@ -139,6 +194,23 @@ mod tests {
             assert!(matches!(read, Distances::Int8(list) if list == [value]));
             assert_eq!(floats(&bytes, Numbers::Int8), [f32::from(value)]);
         }
+    }
+
+    #[test]
+    fn a_box_of_its_own() {
+        let all = Distances::Int16((0..4 * 3 * 5).collect());
+        let block = Block {
+            min: [1, 0, 2],
+            max: [2, 1, 3],
+            ..Block::default()
+        };
+        let Distances::Int16(points) = all.boxed([4, 3, 5], &block) else {
+            panic!("another kind");
+        };
+        assert_eq!(points, [25, 26, 29, 30, 37, 38, 41, 42]);
+        let mut part = Vec::new();
+        all.add_part(25, 2, &mut part);
+        assert_eq!(part, [25.0, 26.0]);
     }
 
     #[test]

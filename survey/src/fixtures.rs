@@ -7,9 +7,10 @@
 //! }
 //! ```
 //!
-//! in grid steps, or in metres with the metres of a step. Nesting, counts and sizes of numbers are the library's to judge.
+//! in grid steps, or in metres with the metres of a step, from where the grid's own are. Nesting, counts and sizes of numbers are the library's to judge.
 
 use crate::failure::Failure;
+use crate::scale::Scale;
 use crate::sha256::Digest;
 use std::fs;
 use std::path::{Path, PathBuf};
@@ -30,30 +31,39 @@ const DIFFERENCE: u32 = 4;
 /// Deeper groups than the library takes are still read, so that it refuses them; but not without end.
 const DEEPEST: usize = 64;
 
-/// Reads a file of records, or a text. The text's numbers are metres where the metres of a step are given.
-pub fn read(path: &Path, step: Option<f64>) -> Result<Fixtures, Failure> {
+/// Reads a file of records, or a text. The text's numbers are metres where the metres of a step are given; records, which are in
+/// grid steps, are then refused.
+pub fn read(path: &Path, scale: Option<&Scale>) -> Result<Fixtures, Failure> {
+    let (fixtures, text) = read_any(path, scale)?;
+    if scale.is_some() && !text {
+        return Err(Failure::file(
+            path,
+            "holds records, which are in grid steps; --step is for fixtures as text",
+        ));
+    }
+    Ok(fixtures)
+}
+
+/// The same for a survey, whose metres are for more than its fixtures: records stay in grid steps. And whether it was a text.
+pub fn read_any(path: &Path, scale: Option<&Scale>) -> Result<(Fixtures, bool), Failure> {
     let bytes = fs::read(path).map_err(|error| Failure::file(path, error))?;
     let digest = Digest::of(&bytes);
-    let records = match text_of(&bytes) {
+    let (records, text) = match text_of(&bytes) {
         Some(text) => {
-            said_by(text, step.unwrap_or(1.0)).map_err(|(line, reason)| Failure::File {
+            let records = said_by(text, scale).map_err(|(line, reason)| Failure::File {
                 place: format!("{}, line {line}", path.display()),
                 reason,
-            })?
+            })?;
+            (records, true)
         }
-        None if step.is_some() => {
-            return Err(Failure::file(
-                path,
-                "holds records, which are in grid steps; --step is for fixtures as text",
-            ))
-        }
-        None => bytes,
+        None => (bytes, false),
     };
-    Ok(Fixtures {
+    let fixtures = Fixtures {
         path: path.to_path_buf(),
         records,
         digest,
-    })
+    };
+    Ok((fixtures, text))
 }
 
 /// A text, and no records: every record holds bytes of zero, and a text none.
@@ -64,10 +74,10 @@ fn text_of(bytes: &[u8]) -> Option<&str> {
 }
 
 /// The records that a text means, or the number of the bad line and what is wrong with it.
-fn said_by(text: &str, step: f64) -> Result<Vec<u8>, (usize, String)> {
+fn said_by(text: &str, scale: Option<&Scale>) -> Result<Vec<u8>, (usize, String)> {
     let mut words = Words::of(text);
     let mut records = Vec::new();
-    solid(&mut words, step, 1, &mut records)?;
+    solid(&mut words, scale, 1, &mut records)?;
     match words.next() {
         None => Ok(records),
         Some((line, word)) => Err((
@@ -121,13 +131,13 @@ const SOLID: &str = "box, union, intersection or difference";
 
 fn solid(
     words: &mut Words,
-    step: f64,
+    scale: Option<&Scale>,
     depth: usize,
     records: &mut Vec<u8>,
 ) -> Result<(), (usize, String)> {
     let (line, word) = words.wanted(SOLID)?;
     let kind = match word {
-        "box" => return box_of(words, step, records),
+        "box" => return box_of(words, scale, records),
         "union" => UNION,
         "intersection" => INTERSECTION,
         "difference" => DIFFERENCE,
@@ -150,7 +160,7 @@ fn solid(
         .first()
         .is_some_and(|(_, word)| *word != "}")
     {
-        solid(words, step, depth + 1, records)?;
+        solid(words, scale, depth + 1, records)?;
         count += 1;
     }
     words.wanted("}")?;
@@ -158,11 +168,15 @@ fn solid(
     Ok(())
 }
 
-fn box_of(words: &mut Words, step: f64, records: &mut Vec<u8>) -> Result<(), (usize, String)> {
+fn box_of(
+    words: &mut Words,
+    scale: Option<&Scale>,
+    records: &mut Vec<u8>,
+) -> Result<(), (usize, String)> {
     let mut floats = [0; 6];
-    for float in &mut floats {
+    for (place, float) in floats.iter_mut().enumerate() {
         let (line, word) = words.wanted("a number")?;
-        let number = number(word, step);
+        let number = number(word, place % 3, scale);
         *float = number
             .ok_or_else(|| (line, format!("{word:?} stands where a number is wanted: a box has six, low x y z and high x y z")))?
             .to_bits();
@@ -172,19 +186,18 @@ fn box_of(words: &mut Words, step: f64, records: &mut Vec<u8>) -> Result<(), (us
     Ok(())
 }
 
-/// The float that is next to a number of metres, or, where the step is 1, to a number of steps.
-fn number(word: &str, step: f64) -> Option<f32> {
+/// The float that is next to a number of steps, or to what a number of metres on this axis is in steps.
+fn number(word: &str, axis: usize, scale: Option<&Scale>) -> Option<f32> {
     let plain = word
         .bytes()
         .all(|byte| byte.is_ascii_digit() || b"+-.eE".contains(&byte));
     if !plain {
         return None;
     }
-    if step == 1.0 {
-        return word.parse().ok();
+    match scale {
+        None => word.parse().ok(),
+        Some(scale) => Some(scale.steps(axis, word.parse().ok()?) as f32),
     }
-    let metres: f64 = word.parse().ok()?;
-    Some((metres / step) as f32)
 }
 
 fn record(records: &mut Vec<u8>, words: [u32; 7]) {
@@ -196,7 +209,11 @@ mod tests {
     use super::*;
 
     fn words(text: &str, step: f64) -> Vec<[u32; 8]> {
-        let records = said_by(text, step).unwrap();
+        let scale = Scale {
+            step: [step; 3],
+            origin: [0.0; 3],
+        };
+        let records = said_by(text, (step != 1.0).then_some(&scale)).unwrap();
         let words = records.chunks_exact(32).map(|record| {
             std::array::from_fn(|place| {
                 u32::from_le_bytes(record[4 * place..4 * place + 4].try_into().unwrap())
@@ -231,6 +248,16 @@ mod tests {
             ]
         );
         assert_eq!(words("union { }", 1.0), [[2, 0, 0, 0, 0, 0, 0, 0]]);
+        let scale = Scale {
+            step: [0.5, 0.25, 0.125],
+            origin: [10.0, -2.0, 100.0],
+        };
+        let moved = said_by("box 11 -1.75 101 12 0 102", Some(&scale)).unwrap();
+        assert_eq!(
+            moved,
+            said_by("box 2 1 8 4 8 16", None).unwrap(),
+            "each axis by its own step and origin"
+        );
     }
 
     #[test]
@@ -246,9 +273,9 @@ mod tests {
             ("union\nbox 1 2 3 4 5 6 }", 2),
             ("box 1 2 3 4 5 6\n\nbox 1 2 3 4 5 6", 3),
         ] {
-            assert_eq!(said_by(text, 1.0).unwrap_err().0, line, "{text}");
+            assert_eq!(said_by(text, None).unwrap_err().0, line, "{text}");
         }
-        assert!(said_by(&"union {".repeat(100_000), 1.0).is_err());
+        assert!(said_by(&"union {".repeat(100_000), None).is_err());
     }
 
     #[test]

@@ -3,10 +3,10 @@
 pub const ALL: &str = "\
 bed: meshes the bed of a tank from a grid of signed distances, by a proved library.
 
-  bed survey GRID -o BED.mesh     fixtures cut, the bed meshed, the hole verdict, the volume, one page
+  bed survey GRID -o BED.mesh     fixtures cut, the bed closed and weighed, its volume and level, its mesh, one page
   bed mesh GRID -o BED.mesh       the mesh alone
-  bed info BED.mesh               checks a mesh file and counts it
-  bed volume BED.mesh             the volume of a mesh file
+  bed info BED.mesh..             checks mesh files and counts them
+  bed volume BED.mesh..           the volume of mesh files that have no hole
   bed ply BED.mesh OUT.ply        a mesh file for viewers
   bed plan PLAN GRID              whether blocks are a plan of a whole, and fit the grid
   bed plan --make 10,5,4 GRID     a plan in so many blocks on x, y and z
@@ -14,8 +14,9 @@ bed: meshes the bed of a tank from a grid of signed distances, by a proved libra
   bed fixtures TEXT -o FIXTURES   fixtures from a text
 
 bed COMMAND --help says more of each; bed --version. --output is -o, --memory=4G is --memory 4G, and after -- every word is
-a file. Exit status: 0 done; 1 refused by the library; 2 wrong use, or a file that cannot be read or written. No file that
-is read is written over, and INT and TERM leave the old files and nothing else.
+a file. Exit status: 0 done; 1 refused by the library; 2 wrong use, or a file that cannot be read or written; 3 no volume is told,
+by survey or volume, all else being done; 4 a survey's volume is none that the distances can have. No file that is read is
+written over, and INT and TERM leave the old files and nothing else.
 ";
 
 /// What every command that reads a grid says of it.
@@ -51,24 +52,38 @@ pub fn of(command: &str) -> Option<String> {
 }
 
 const SURVEY: &str = "\
-bed survey GRID [--plan PLAN] [--fixtures FIXTURES [--step METRES]] [--memory SIZE] -o BED.mesh
+bed survey GRID [--plan PLAN] [--fixtures FIXTURES] [--step METRES [--origin X,Y,Z]] [--closed | --open] [--levels OUT.npy]
+           [--json FILE] [--memory SIZE] -o BED.mesh
 
-Cuts the fixtures out of the grid, meshes it, writes the mesh file and prints one page: the mesh, whether its skin has no
-hole, its volume, and what each rests on. With a plan, which is checked first, the blocks are meshed on all cores, and
-BED.001.mesh, BED.002.mesh and so on are written, one for each block, and last of all BED.manifest: their names, SHA-256,
+Cuts the fixtures out of the grid, closes the bed by a border of far points, as a tank's floor and walls do, and prints one page:
+the closed bed's volume, that it has no hole, the level of the bed, and what each rests on. The mesh file is that of the open bed, for
+viewers: on a tank's floor and walls it has edges, and no volume of its own. On every survey the volume is checked by code that shares
+nothing with the library: cells whose corners are all below zero, and those where some are, bound it.
+
+With a plan, which is checked first, its whole is what is closed, and points below zero outside of it are counted; the blocks are meshed on
+all cores, and BED.001.mesh, BED.002.mesh and so on are written, one for each block, and last of all BED.manifest: their names, SHA-256,
 counts and sums, and what they were made of. Files of an older survey under the same name are removed where its manifest
-names them and they are what it says; any other of such a name is refused. A volume that the library refuses is said on
-the page and ends nothing.
+names them and they are what it says; any other of such a name is refused.
 
   --plan PLAN              the blocks; see bed plan --help
   --fixtures FIXTURES      a file of fixtures, or a text; see bed fixtures --help
-  --step METRES            the metres of a grid step, where the text is in metres
+  --step METRES            the metres of a grid step, one number or x,y,z: volume in cubic metres and levels in metres beside the grid's steps;
+                           fixtures as text are then in metres too
+  --origin X,Y,Z           the metres of the grid's point 0,0,0; else 0,0,0
+  --closed                 writes the closed bed's mesh instead; its vertices stand one step further on each axis
+  --open                   closes nothing, and tells no volume
+  --levels OUT.npy         the level of each column: float32, shape y, x, not-a-number where no point is below zero; metres with --step
+  --json FILE              every number of the page, and each claim with its standing
   -o BED.mesh              the mesh file
+
+The level of a column is where the line from its highest point below zero to the one above it crosses zero. Lowest and mean are over
+the columns with a point below zero. Exit status 3 where no volume is told: with --open, or where the grid is too large to be closed;
+4 where the cross-check fails, which the page's first line says. Files and page are there with both.
 ";
 
 /// What a survey says of large grids beside it.
 const LAYERS: &str = "\
-The hole verdict and the volume are asked layer by layer too, and the page says what that leaves unproved. Fixtures are
+The bed is closed, weighed and levelled layer by layer too, and the page says what that leaves unproved. Fixtures are
 cut out of grids in memory alone. With a plan each block reads the layers that it lies in, so that blocks
 which are cut on z alone are the quickest.
 ";
@@ -85,17 +100,21 @@ Meshes a box of the grid and writes the mesh file. The file keeps its old conten
 ";
 
 const INFO: &str = "\
-bed info BED.mesh
+bed info BED.mesh..
 
-Checks a mesh file and prints its vertices and triangles. A file that was cut off is refused with 21.
+Checks mesh files and prints the vertices and triangles of each. A file that was cut off is refused with 21.
 ";
 
 const VOLUME: &str = "\
-bed volume BED.mesh
+bed volume BED.mesh..
 
-Prints the sum of the determinants of a mesh file's triangles, in cubed steps of 1/256, and a sixth of it in cubed grid
-steps. That is the volume where the mesh has no hole, which a mesh file does not say: bed survey does. Coordinates
-that are not from 0 to 128 are refused with 63.
+Prints the volume of a mesh file whose triangles have each directed side as often as its reverse: six times over in cubed steps of 1/256,
+and in cubed grid steps. Of any other, as the open bed's of a tank on floor and walls, it prints `open sheet: no volume`, with the volume
+between the sheet and z = 0 over its shadow, and ends with status 3; bed survey closes the bed and tells its volume.
+
+Several files are summed. The sum is a volume where BED.manifest says that they are all the blocks of one survey with --closed, and each
+is unchanged; else it is told as a sum of sheets. One mesh of a whole tank comes from bed mesh on the grid, or from bed survey
+without a plan. Coordinates that are not from 0 to 16777216 are refused with 63.
 ";
 
 const PLY: &str = "\
@@ -122,21 +141,23 @@ with - for no letter. From # to the line's end is a comment.
 ";
 
 const CUT: &str = "\
-bed cut FIXTURES GRID -o OUT.npy [--step METRES]
+bed cut FIXTURES GRID -o OUT.npy [--step METRES [--origin X,Y,Z]]
 
 Cuts the solid of a file of fixtures out of the grid and writes it as float32.
 
   -o OUT.npy               the grid after it
-  --step METRES            the metres of a grid step, where the fixtures are a text in metres
+  --step METRES            the metres of a grid step, one number or x,y,z, where the fixtures are a text in metres
+  --origin X,Y,Z           the metres of the grid's point 0,0,0; else 0,0,0
 ";
 
 const TEXT: &str = "\
-bed fixtures TEXT -o FIXTURES [--step METRES]
+bed fixtures TEXT -o FIXTURES [--step METRES [--origin X,Y,Z]]
 
 Writes the records that a text of fixtures means, which the library has read.
 
   -o FIXTURES              the records
-  --step METRES            the metres of a grid step, where the text is in metres; else it is in grid steps
+  --step METRES            the metres of a grid step, one number or x,y,z, where the text is in metres; else it is in grid steps
+  --origin X,Y,Z           the metres of the grid's point 0,0,0; else 0,0,0
 ";
 
 /// What fixtures are, wherever they are taken.

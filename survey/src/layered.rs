@@ -7,17 +7,18 @@
 
 use crate::explained::{self, Bad};
 use crate::failure::Failure;
-use crate::grid::{self, Stored};
+use crate::grid;
 use crate::kept::{Beside, Part};
+use crate::layers_of::Layered;
 use crate::mesh::Lists;
 use crate::progress::Steps;
 use crate::records::Records;
 use bed::{Block, Counts, FileRefusal, Kept, LayerLent, LayerRefusal, Layers, Refusal};
 use std::path::Path;
 
-/// A block of a stored grid.
+/// A block of a grid whose layers are taken one by one.
 pub struct Work<'a> {
-    pub grid: &'a Stored,
+    pub grid: &'a dyn Layered,
     pub block: Block,
     /// The block in words.
     pub place: String,
@@ -78,7 +79,7 @@ impl Work<'_> {
             if let Err(failure) = self.grid.read_layer(z, &mut layer) {
                 return failure;
             }
-            bad.add(z, &layer.distances, &self.grid.header, &self.block);
+            bad.add(z, &layer.distances, &self.grid.header(), &self.block);
         }
         self.refused(LayerRefusal::Distance.number(), bad.words())
     }
@@ -93,7 +94,7 @@ impl Work<'_> {
             max,
             max_plane,
         } = self.block;
-        Layers::start(self.grid.header.dims, min, max, max_plane, kept)
+        Layers::start(self.grid.header().dims, min, max, max_plane, kept)
             .map_err(|refusal| self.refused(refusal.number(), refusal))
     }
 
@@ -106,9 +107,10 @@ impl Work<'_> {
             Err(failure) => return Err(failure),
             Ok(_) => {}
         }
-        let [x, y, z] = self.grid.header.dims.map(u64::from);
-        if self.grid.length != x * y * z {
-            let words = explained::length(&self.grid.header, self.grid.length);
+        let header = self.grid.header();
+        let [x, y, z] = header.dims.map(u64::from);
+        if self.grid.length() != x * y * z {
+            let words = explained::length(&header, self.grid.length());
             return Err(self.refused(Refusal::GridLength.number(), words));
         }
         Ok(Memory::of((x * y) as usize))
@@ -278,6 +280,7 @@ fn lengthen<T: Clone + Default>(list: &mut Vec<T>, length: usize) {
 #[cfg(test)]
 mod tests {
     use super::*;
+    use crate::grid::Stored;
     use crate::numbers::{Header, Numbers};
     use bed::{MaxPlane, SurfaceNetsBuffer};
     use std::fs;
@@ -367,7 +370,7 @@ mod tests {
         let lists = crate::mesh::of_call(&buffer);
         assert!(lists.triangles() > 100);
         assert!(fs::read(&name).unwrap() == lists.file(&name).unwrap());
-        assert_eq!(volume.sixfold, crate::weighing::sixfold(&lists));
+        assert_eq!(volume.weight, crate::weighing::of(&lists));
     }
 
     /// Between the two times the file becomes another: nothing is written, and nothing is left.

@@ -3,9 +3,12 @@
 
 mod arguments;
 mod asked;
+mod bed_page;
 mod blocks;
 mod budget;
+mod columns;
 mod commands;
+mod counting;
 mod distances;
 mod enclosing;
 mod explained;
@@ -13,13 +16,19 @@ mod failure;
 mod fixtures;
 mod grid;
 mod help;
+mod json;
 mod judged;
 mod kept;
 mod layered;
+mod layers_of;
+mod levelled;
+mod lines;
 mod machine;
 mod manifest;
+mod measuring;
 mod mesh;
 mod meshing;
+mod moved;
 mod names;
 mod npy;
 mod numbers;
@@ -28,9 +37,13 @@ mod plan;
 mod ply;
 mod progress;
 mod records;
+mod said;
+mod scale;
 mod sha256;
+mod sheets;
 mod signals;
 mod survey;
+mod told;
 mod weighing;
 mod words;
 
@@ -42,8 +55,8 @@ use std::process::ExitCode;
 fn main() -> ExitCode {
     signals::before_the_end(kept::remove_begun);
     let words: Vec<_> = env::args_os().skip(1).collect();
-    match commands::run(&words).and_then(|text| say(&text)) {
-        Ok(()) => ExitCode::SUCCESS,
+    match commands::run(&words).and_then(|said| say(&said.text).map(|()| said.status)) {
+        Ok(status) => ExitCode::from(status),
         Err(failure) => {
             // A status still tells of the failure where the error stream is closed.
             let _ = writeln!(io::stderr(), "bed: {failure}");

@@ -8,9 +8,12 @@
 //! grid SHA-256 NAME
 //! fixtures SHA-256 NAME                                      where there are some
 //! plan SHA-256 NAME
-//! whole 0 0 0 96 64 32 xz
-//! file SHA-256 VERTICES TRIANGLES SIXFOLD 0 0 0 9 9 9 x NAME   for each block; SIXFOLD may be refused-63
+//! mesh open 0 0 0                                            or closed -1 -1 -1: so many steps from a vertex to where it stands in the grid
+//! metres 0.1 0.1 0.1 7 8 9                                   where the step is known: of a step, and of the files' own point 0,0,0
+//! whole 0 0 0 96 64 32 xz                                    in the files' own coordinates, as the blocks are
+//! file SHA-256 VERTICES TRIANGLES SIXFOLD 0 0 0 9 9 9 x NAME   for each block; SIXFOLD is the weight over z = 0, or refused-63
 //! all FILES VERTICES TRIANGLES SIXFOLD
+//! volume SIXFOLD                                             of the closed bed, or none
 //! sum SHA-256                                                of all lines before it
 //! ```
 
@@ -18,9 +21,10 @@ use crate::failure::Failure;
 use crate::kept;
 use crate::names::folder_of;
 use crate::page::Weighed;
+use crate::scale::Scale;
 use crate::sha256::Digest;
 use crate::words::{self, letters};
-use bed::{Block, VolumeError};
+use bed::{Block, WeighError};
 use std::collections::BTreeMap;
 use std::ffi::{OsStr, OsString};
 use std::fs;
@@ -69,8 +73,15 @@ pub struct Made<'a> {
     pub grid: Read<'a>,
     pub fixtures: Option<Read<'a>>,
     pub plan: Read<'a>,
+    pub closed: bool,
+    /// So many steps from a vertex of the files to where it stands in the grid.
+    pub offset: [i64; 3],
+    /// Of the grid.
+    pub scale: Option<Scale>,
     pub whole: Block,
     pub blocks: Vec<MadeBlock<'a>>,
+    /// Six times the volume, where there is one.
+    pub volume: Option<i128>,
 }
 
 pub struct MadeBlock<'a> {
@@ -102,6 +113,15 @@ impl Made<'_> {
                 );
             }
         }
+        let [x, y, z] = self.offset;
+        let kind = if self.closed { "closed" } else { "open" };
+        line(&mut text, &format!("mesh {kind} {x} {y} {z}"), None);
+        if let Some(scale) = &self.scale {
+            let own = scale.moved(self.offset);
+            let numbers = own.step.iter().chain(&own.origin).map(f64::to_string);
+            let numbers: Vec<_> = numbers.collect();
+            line(&mut text, &format!("metres {}", numbers.join(" ")), None);
+        }
         line(&mut text, &format!("whole {}", corners(&self.whole)), None);
         let (mut vertices, mut triangles, mut sum) = (0, 0, Ok(0));
         for made in &self.blocks {
@@ -111,13 +131,13 @@ impl Made<'_> {
                 made.digest,
                 weighed.vertices,
                 weighed.triangles,
-                sixfold(weighed.sixfold),
+                sixfold(weighed.weight.map(|weight| weight.sum)),
                 corners(&made.block)
             );
             line(&mut text, &words, made.name.file_name());
             vertices += weighed.vertices;
             triangles += weighed.triangles;
-            sum = sum.and_then(|sum| weighed.sixfold.map(|more| sum + more));
+            sum = sum.and_then(|sum| weighed.weight.map(|more| sum + more.sum));
         }
         let files = self.blocks.len();
         line(
@@ -125,6 +145,9 @@ impl Made<'_> {
             &format!("all {files} {vertices} {triangles} {}", sixfold(sum)),
             None,
         );
+        let volume = self.volume.map(|sum| sum.to_string());
+        let volume = volume.as_deref().unwrap_or("none");
+        line(&mut text, &format!("volume {volume}"), None);
         let digest = Digest::of(&text);
         line(&mut text, &format!("sum {digest}"), None);
         text
@@ -151,7 +174,7 @@ fn corners(block: &Block) -> String {
     format!("{} {}", numbers.join(" "), letters(block.max_plane))
 }
 
-fn sixfold(sum: Result<i128, VolumeError>) -> String {
+fn sixfold(sum: Result<i128, WeighError>) -> String {
     match sum {
         Ok(sum) => sum.to_string(),
         Err(refusal) => format!("refused-{}", refusal.number()),
@@ -163,8 +186,32 @@ pub fn writable(output: &Path) -> bool {
     !output.as_os_str().as_bytes().contains(&b'\n')
 }
 
-/// The digests of the files that a manifest names, or nothing where it is no whole manifest.
-fn listed(text: &[u8]) -> Option<BTreeMap<OsString, Digest>> {
+/// The blocks' files of a survey, as its manifest names them.
+pub struct Listed {
+    /// Their digests.
+    pub files: BTreeMap<OsString, Digest>,
+    /// Whether their meshes together are those of a closed bed.
+    pub closed: bool,
+}
+
+/// The manifest of the survey that a file of this name would be a block of, and what it lists; nothing where there is none that is whole.
+pub fn beside(file: &Path) -> Option<(PathBuf, Listed)> {
+    let stem = Path::new(file.file_stem()?);
+    // BED.001.mesh, or BED.001 where the survey was given a name without a point
+    let numbers = [stem.extension(), file.extension()];
+    let stems = [stem.file_stem(), file.file_stem()];
+    numbers.into_iter().zip(stems).find_map(|(number, stem)| {
+        number.filter(|word| of_a_block(word.as_bytes()))?;
+        let mut last = stem?.to_os_string();
+        last.push(".manifest");
+        let manifest = file.with_file_name(last);
+        let listed = listed(&fs::read(&manifest).ok()?)?;
+        Some((manifest, listed))
+    })
+}
+
+/// What a manifest names, or nothing where it is no whole manifest.
+fn listed(text: &[u8]) -> Option<Listed> {
     let rest = text.strip_prefix(FIRST.as_bytes())?;
     let end = text.len().checked_sub("sum \n".len() + 64)?;
     let sum = std::str::from_utf8(text.get(end..)?).ok()?;
@@ -181,7 +228,10 @@ fn listed(text: &[u8]) -> Option<BTreeMap<OsString, Digest>> {
             files.insert(OsString::from_vec(name.to_vec()), digest);
         }
     }
-    Some(files)
+    let closed = rest
+        .split(|&byte| byte == b'\n')
+        .any(|line| line.starts_with(b"mesh closed "));
+    Some(Listed { files, closed })
 }
 
 /// The files of an older survey under the same name, which go when the new one is there.
@@ -207,7 +257,8 @@ pub fn older(output: &Path, names: &[PathBuf], in_blocks: bool) -> Result<Older,
         ));
     }
     let of_a_survey = matches!(found, Some(Some(_)));
-    let listed = found.flatten().unwrap_or_default();
+    let listed = found.flatten().map(|listed| listed.files);
+    let listed = listed.unwrap_or_default();
     let mut removed = Vec::new();
     for last in standing(output, in_blocks)? {
         let path = output.with_file_name(&last);
@@ -277,8 +328,15 @@ mod tests {
             grid: read("a grid.npy"),
             fixtures: None,
             plan: read("plan"),
+            closed: true,
+            offset: [-1, 4, -1],
+            scale: Some(Scale {
+                step: [0.5, 0.25, 2.0],
+                origin: [7.0, 8.0, 9.0],
+            }),
             whole: Block::default(),
             blocks,
+            volume: Some(-12),
         }
         .text()
     }
@@ -288,7 +346,7 @@ mod tests {
         let weighed = Weighed {
             vertices: 8,
             triangles: 6,
-            sixfold: Err(VolumeError::Outside),
+            weight: Err(WeighError::Outside),
         };
         let name = Path::new("some/a bed.001.mesh");
         let block = || MadeBlock {
@@ -298,11 +356,14 @@ mod tests {
             digest: Digest::of(b"mesh"),
         };
         let text = made(vec![block()]);
-        let files = listed(&text).unwrap();
-        assert_eq!(files.len(), 1);
+        let Listed { files, closed } = listed(&text).unwrap();
+        assert_eq!((files.len(), closed), (1, true));
         assert_eq!(files[OsStr::new("a bed.001.mesh")], Digest::of(b"mesh"));
         assert!(String::from_utf8_lossy(&text).contains("\nall 1 8 6 refused-63\n"));
-        assert_eq!(listed(&made(vec![])).unwrap().len(), 0);
+        let words = String::from_utf8_lossy(&text);
+        assert!(words.contains("\nmesh closed -1 4 -1\nmetres 0.5 0.25 2 6.5 9 7\nwhole "));
+        assert!(words.contains("\nvolume -12\nsum "));
+        assert_eq!(listed(&made(vec![])).unwrap().files.len(), 0);
         // Every shorter beginning, and every changed byte, is seen.
         for end in 0..text.len() {
             assert!(listed(&text[..end]).is_none(), "{end}");

@@ -98,8 +98,17 @@ fn between(text: &str, open: char, close: char) -> Option<&str> {
 /// The file of a grid of float32.
 pub fn written(dims: [u32; 3], distances: &[f32]) -> Vec<u8> {
     let [x, y, z] = dims;
-    let mut header =
-        format!("{{'descr': '<f4', 'fortran_order': False, 'shape': ({z}, {y}, {x}), }}");
+    with_shape(&format!("({z}, {y}, {x})"), distances)
+}
+
+/// The file of a layer of float32.
+pub fn written_flat(dims: [u32; 2], numbers: &[f32]) -> Vec<u8> {
+    let [x, y] = dims;
+    with_shape(&format!("({y}, {x})"), numbers)
+}
+
+fn with_shape(shape: &str, distances: &[f32]) -> Vec<u8> {
+    let mut header = format!("{{'descr': '<f4', 'fortran_order': False, 'shape': {shape}, }}");
     // The numbers begin at a multiple of 64 bytes; the header ends with a new line.
     while (MAGIC.len() + 4 + header.len() + 1) % 64 != 0 {
         header.push(' ');

@@ -1,18 +1,20 @@
-//! The page of a survey: what was found, and of each thing what it rests on. Proved: a theorem about the library says
-//! it. Counted: this run counted it. Not claimed: nobody says it.
+//! The page of a survey: what was found, and of each thing what it rests on.
 
+use crate::lines::Lines;
+use crate::measuring::Measured;
 use crate::mesh::Lists;
 use crate::numbers::Header;
+use crate::scale::Scale;
 use crate::words::letters;
-use crate::{records, weighing};
-use bed::{Block, VolumeError};
+use crate::{bed_page, records, weighing};
+use bed::{Block, WeighError, Weight};
 use std::path::{Path, PathBuf};
 
 /// The mesh of one block in numbers.
 pub struct Weighed {
     pub vertices: usize,
     pub triangles: usize,
-    pub sixfold: Result<i128, VolumeError>,
+    pub weight: Result<Weight, WeighError>,
 }
 
 impl Weighed {
@@ -20,7 +22,7 @@ impl Weighed {
         Self {
             vertices: lists.vertices(),
             triangles: lists.triangles(),
-            sixfold: weighing::sixfold(lists),
+            weight: weighing::of(lists),
         }
     }
 }
@@ -33,11 +35,22 @@ pub struct Page<'a> {
     pub fixtures: Option<&'a Path>,
     pub plan: Option<&'a Path>,
     pub whole: Block,
-    /// What the whole's own call would need.
-    pub needed: bed::Counts,
+    /// The plan's, in the grid's own coordinates.
+    pub blocks: &'a [Block],
+    pub scale: Option<Scale>,
+    /// Whether the files hold the closed bed.
+    pub closed_files: bool,
+    /// So many steps from a vertex of the files to where it stands in the grid.
+    pub offset: [i64; 3],
+    /// The triangles of the whole's own call.
+    pub needed: u64,
+    /// Whether the open grid is enclosed as it is.
     pub enclosed: bool,
     pub weighed: &'a [Weighed],
+    pub measured: &'a Measured,
     pub names: &'a [PathBuf],
+    pub levels: Option<&'a Path>,
+    pub json: Option<&'a Path>,
     /// Of a survey in blocks.
     pub manifest: Option<&'a Path>,
     /// How many files of an older survey under the same name were removed.
@@ -45,19 +58,28 @@ pub struct Page<'a> {
 }
 
 impl Page<'_> {
-    pub fn text(&self) -> String {
+    pub fn lines(&self) -> Lines {
         let mut lines = Lines::default();
+        let of_the_bed = bed_page::Told {
+            whole: &self.whole,
+            blocks: self.blocks,
+            in_blocks: self.plan.is_some(),
+            scale: self.scale.as_ref(),
+            measured: self.measured,
+        };
+        of_the_bed.first(&mut lines);
         self.grid(&mut lines);
+        of_the_bed.closed(&mut lines);
+        of_the_bed.volume(&mut lines);
+        of_the_bed.cross_check(&mut lines);
+        of_the_bed.levels(&mut lines);
         self.mesh(&mut lines);
-        self.skin(&mut lines);
-        self.volume(&mut lines);
         self.files(&mut lines);
         lines.found(
             "outside the proofs",
-            "this command, the files it reads and writes, that its archive is the proved one"
-                .into(),
+            "this command, the files it reads and writes, that its archive is the proved one",
         );
-        lines.0
+        lines
     }
 
     fn grid(&self, lines: &mut Lines) {
@@ -70,6 +92,14 @@ impl Page<'_> {
                 self.header.numbers.name()
             ),
         );
+        if let Some(Scale { step, origin }) = self.scale {
+            let [x, y, z] = step;
+            let [a, b, c] = origin;
+            lines.found(
+                "metres",
+                format!("a step is {x}, {y}, {z}; the grid's point 0,0,0 stands at {a}, {b}, {c}"),
+            );
+        }
         let (min, max) = (self.whole.min, self.whole.max);
         lines.found(
             "box",
@@ -81,10 +111,10 @@ impl Page<'_> {
         if self.by_layers {
             lines.found(
                 "layers",
-                "taken one by one, since in memory the grid takes more than --memory".into(),
+                "taken one by one, since in memory the grid takes more than --memory",
             );
             lines.rests("proved: what all layers bring out, joined, is what the whole call makes");
-            lines.rests("compared: each block's vertices, made two times; the mesh is of the grid as it was read the second time");
+            lines.rests("compared: each block's vertices, made two times, and the grid's digest before the first time and after the last");
         }
         if let Some(fixtures) = self.fixtures {
             lines.found("fixtures", format!("{}: cut out", fixtures.display()));
@@ -105,86 +135,52 @@ impl Page<'_> {
     fn mesh(&self, lines: &mut Lines) {
         let vertices: usize = self.weighed.iter().map(|one| one.vertices).sum();
         let triangles: usize = self.weighed.iter().map(|one| one.triangles).sum();
+        let of = match (self.closed_files, self.enclosed) {
+            (true, _) => "of the closed bed",
+            (false, true) => "of the open bed, all of whose points below zero lie inside: from min + 1 to max - 2",
+            (false, false) => "of the open bed: points below zero lie at the sides of the box, and there it has an edge",
+        };
         lines.found(
             "mesh",
-            format!("{vertices} vertices, {triangles} triangles"),
+            format!("{vertices} vertices, {triangles} triangles in the files, {of}"),
         );
         lines.rests(
             "proved: positions, normals and triangles are the rules' own, every number is finite",
         );
         lines.rests("proved: every vertex lies in its own cell");
         if self.plan.is_some() {
-            let whole = self.needed.indices / 3;
+            let whole = self.needed;
             let same = if whole == triangles as u64 {
                 "as many"
             } else {
                 "NOT as many"
             };
-            lines.rests(&format!(
+            lines.rests(format!(
                 "counted: {same} triangles as the whole needs, {whole}"
             ));
-            lines.rests("vertices of cells that two blocks hold are counted in both");
+            lines.rests("counted: vertices of cells that two blocks hold, in both");
         }
         lines.rests("not claimed: that the distances are those of the sludge, that the mesh does not cross itself");
-    }
-
-    fn skin(&self, lines: &mut Lines) {
-        if self.enclosed {
-            lines.found(
-                "hole",
-                "none: every point below zero lies inside, from min + 1 to max - 2".into(),
-            );
-            lines.rests("proved: each directed side of the whole's triangles occurs as often as its reverse");
-        } else {
-            lines.found(
-                "hole",
-                "not ruled out: points below zero lie at the sides of the box".into(),
-            );
-            lines.rests("not claimed: that there is one, or none; a border of points above zero closes the bed");
-        }
-        if self.by_layers {
-            lines.rests("not proved: that the layers' answers, each asked by itself, make up the whole grid's");
+        if self.closed_files {
+            self.moved(lines);
         }
     }
 
-    fn volume(&self, lines: &mut Lines) {
-        let sum = self
-            .weighed
-            .iter()
-            .try_fold(0, |sum, one| one.sixfold.map(|sixfold| sum + sixfold));
-        match sum {
-            Err(refusal) => lines.found("volume", format!("refused {}", refusal.number())),
-            Ok(sum) if self.enclosed => {
-                let volume = weighing::in_grid_steps(sum);
-                lines.found(
-                    "volume",
-                    format!("{volume} cubed grid steps; six-fold, in cubed 1/256 steps, {sum}"),
-                );
-            }
-            Ok(sum) => lines.found(
-                "volume",
-                format!("none is told where a hole is not ruled out; six-fold sum {sum}"),
-            ),
+    /// Where the vertices of a closed bed stand.
+    fn moved(&self, lines: &mut Lines) {
+        let [x, y, z] = self.offset;
+        let mut words = format!("a vertex stands in the grid {x}, {y}, {z} steps from where the file has it: the border takes a step on each axis");
+        if let Some(scale) = &self.scale {
+            let [a, b, c] = scale.moved(self.offset).origin;
+            words += &format!("; the files' own point 0,0,0 is at {a}, {b}, {c} metres");
         }
-        if let Err(refusal) = sum {
-            lines.rests(&refusal.to_string());
-            return;
-        }
-        lines.rests("proved: the exact sum of the determinants, coordinates rounded down to 1/256, of each call's triangles");
-        if self.by_layers {
-            lines.rests("not proved: the sum of several calls for one mesh; each takes triangles of one layer, 16384 at most");
-        } else if self.weighed.iter().any(|one| one.triangles > 16_384) {
-            lines.rests("not proved: the sum of several calls for one mesh; each takes 16384 triangles at most");
-        }
-        if self.plan.is_some() {
-            lines.rests("proved: the blocks' sums add up to the whole's; added up by this command");
-        }
-        lines.rests("not claimed: how far the rounded mesh is from the sludge");
+        lines.found("vertices", words);
+        lines.rests("proved: the closed grid has the distance of x, y, z at x + 1, y + 1, z + 1");
     }
 
     fn files(&self, lines: &mut Lines) {
         match self.names {
-            [] => lines.found("files", "none: the plan has no block".into()),
+            [] => lines.found("files", "none: the plan has no block"),
             [one] => lines.found("file", one.display().to_string()),
             [first, .., last] => lines.found(
                 "files",
@@ -199,6 +195,17 @@ impl Page<'_> {
             });
             lines.rests("not claimed: that the disk keeps what it was told to sync");
         }
+        for (name, file) in [("levels", self.levels), ("json", self.json)] {
+            if let Some(file) = file {
+                lines.found(
+                    match name {
+                        "levels" => "levels file",
+                        _ => "json file",
+                    },
+                    file.display().to_string(),
+                );
+            }
+        }
         if let Some(manifest) = self.manifest {
             lines.found("manifest", manifest.display().to_string());
             lines.rests("written last: the digests of grid, plan and files; a file that it does not name is not of this survey");
@@ -209,19 +216,5 @@ impl Page<'_> {
                 format!("{} files of an older survey under this name", self.removed),
             );
         }
-    }
-}
-
-/// Lines of a page: what was found, with its name before it, and beneath it what it rests on.
-#[derive(Default)]
-struct Lines(String);
-
-impl Lines {
-    fn found(&mut self, name: &str, words: String) {
-        self.0 += &format!("{name}: {words}\n");
-    }
-
-    fn rests(&mut self, words: &str) {
-        self.0 += &format!("    {words}\n");
     }
 }

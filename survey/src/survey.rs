@@ -1,37 +1,55 @@
-//! The survey: a grid in memory, or one that stays in its file; as a whole, or in the blocks of a plan.
+//! The survey: a grid in memory, or one that stays in its file; as a whole, or in the blocks of a plan; the bed closed, weighed and levelled.
 
 use crate::arguments::Arguments;
-use crate::asked::{apart, open_grid, open_stored, options, step};
+use crate::asked::{apart, open_grid, open_stored, options, scale};
 use crate::budget::{self, layered_workers, InMemory};
 use crate::enclosing::Enclosing;
 use crate::failure::Failure;
-use crate::grid::{Grid, Source, Stored};
+use crate::grid::{Grid, Stored};
 use crate::judged::{accepted, cut_out, held, named_block};
 use crate::kept::{self, Beside};
 use crate::layered::{self, Work};
+use crate::layers_of::{Closed, Layered};
 use crate::manifest::{self, Made, MadeBlock, Read};
+use crate::measuring::{self, ClosedBed, Measured, Refused};
+use crate::numbers::Header;
 use crate::page::{Page, Weighed};
 use crate::plan::{self, Plan};
+use crate::said::Said;
 use crate::sha256::Digest;
-use crate::{blocks, fixtures, mesh, weighing};
+use crate::told::{self, Digests};
+use crate::{blocks, fixtures, mesh, moved, npy, weighing};
 use bed::{Block, Counts, MaxPlane};
 use std::ffi::OsString;
 use std::path::{Path, PathBuf};
 
-pub fn survey(words: &[OsString]) -> Result<String, Failure> {
-    let arguments = Arguments::read(
+pub fn survey(words: &[OsString]) -> Result<Said, Failure> {
+    let arguments = Arguments::read_marked(
         "survey",
         words,
         1,
-        &options(["-o", "--plan", "--fixtures", "--step", "--memory"]),
+        &options([
+            "-o",
+            "--plan",
+            "--fixtures",
+            "--step",
+            "--origin",
+            "--levels",
+            "--json",
+            "--memory",
+        ]),
+        &["--closed", "--open"],
     )?;
     let (name, output) = (arguments.file(0), arguments.output()?);
+    let wanted = match (arguments.marked("--closed"), arguments.marked("--open")) {
+        (true, true) => return Err(arguments.wrong("--closed and --open are not for one survey")),
+        (true, false) => Wanted::ClosedFiles,
+        (false, true) => Wanted::NotClosed,
+        (false, false) => Wanted::OpenFiles,
+    };
     let cut = arguments.path("--fixtures");
     let path = arguments.path("--plan");
-    let step = step(&arguments)?;
-    if step.is_some() && cut.is_none() {
-        return Err(arguments.wrong("--step is for --fixtures"));
-    }
+    let scale = scale(&arguments)?;
     let memory = arguments.memory()?;
     let plan = path.map(plan::read).transpose()?;
     let plan = path.zip(plan.as_ref());
@@ -39,12 +57,14 @@ pub fn survey(words: &[OsString]) -> Result<String, Failure> {
         held(path, plan)?;
     }
     let read = [Some(name), cut, path].into_iter().flatten();
-    let files = Files::of(&arguments, read, plan.map(|(_, plan)| plan), output)?;
-    let fixtures = cut.map(|cut| fixtures::read(cut, step)).transpose()?;
-    let hashed = plan.is_some();
+    let beside = [arguments.path("--levels"), arguments.path("--json")];
+    let files = Files::of(&arguments, read, plan.map(|(_, plan)| plan), output, beside)?;
+    let fixtures = cut.map(|cut| fixtures::read_any(cut, scale.as_ref()));
+    let fixtures = fixtures.transpose()?.map(|(fixtures, _)| fixtures);
+    let hashed = plan.is_some() || files.json.is_some();
     let source = open_grid(&arguments, 0, hashed)?;
     let header = source.header;
-    let survey = Survey::of(name, &source, plan, &files.names);
+    let survey = Survey::of(name, &header, plan, &files.names, wanted, &arguments)?;
     let in_memory = InMemory {
         count: source.count(),
         numbers: header.numbers,
@@ -59,7 +79,10 @@ pub fn survey(words: &[OsString]) -> Result<String, Failure> {
         let needed = accepted(&grid, &survey.whole, || survey.whole_in_words())?;
         match in_memory.workers(memory, budget::most(needed, &survey.blocks)) {
             0 => None,
-            workers => Some(survey.in_memory(&grid, needed, workers)?),
+            workers => {
+                let left = memory.saturating_sub(in_memory.grid());
+                Some(survey.in_memory(&grid, needed, workers, left)?)
+            }
         }
     } else {
         None
@@ -78,7 +101,17 @@ pub fn survey(words: &[OsString]) -> Result<String, Failure> {
             survey.by_layers(&stored, layered_workers(memory, &header))?
         }
     };
-    let (weighed, written): (Vec<_>, Vec<_>) = found.blocks.into_iter().unzip();
+    let (weighed, mut written): (Vec<_>, Vec<_>) = found.blocks.into_iter().unzip();
+    let measured = &found.measured;
+    let status = measured.status();
+    let digests = if hashed {
+        written
+            .iter()
+            .map(Beside::digest)
+            .collect::<Result<Vec<_>, _>>()?
+    } else {
+        Vec::new()
+    };
     let manifest = match plan.zip(found.digest) {
         Some(((path, plan), digest)) => Some(Made {
             grid: Read { name, digest },
@@ -90,38 +123,83 @@ pub fn survey(words: &[OsString]) -> Result<String, Failure> {
                 name: path,
                 digest: plan.digest,
             },
-            whole: survey.whole,
-            blocks: made(&survey, &weighed, &written)?,
+            closed: wanted == Wanted::ClosedFiles,
+            offset: survey.offset(),
+            scale,
+            whole: survey.file_whole,
+            blocks: made(&survey, &weighed, &digests),
+            volume: measured.volume(),
         }),
         None => None,
     };
     let manifest = manifest
         .map(|made| Beside::write(&files.manifest, &made.text()))
         .transpose()?;
-    let in_blocks = manifest.is_some();
-    // Only when every block is meshed and synced does the first file change; the manifest is the last.
-    kept::replace(written, &files.removed, manifest)?;
-    Ok(Page {
+    if let Some(name) = &files.levels {
+        let levels = measured
+            .looked
+            .levels
+            .each(|steps| scale.map_or(steps, |scale| scale.place(2, steps)));
+        let [x, y, _] = crate::layers_of::sizes(&survey.whole);
+        written.push(Beside::write(name, &npy::written_flat([x, y], &levels))?);
+    }
+    let page = Page {
         name,
         header,
         by_layers,
         fixtures: cut,
         plan: path,
         whole: survey.whole,
+        blocks: plan.map_or(&[], |(_, plan)| &plan.blocks[..]),
+        scale,
+        closed_files: wanted == Wanted::ClosedFiles,
+        offset: survey.offset(),
         needed: found.needed,
         enclosed: found.enclosed,
         weighed: &weighed,
+        measured,
         names: survey.names,
-        manifest: in_blocks.then_some(files.manifest.as_path()),
+        levels: files.levels.as_deref(),
+        json: files.json.as_deref(),
+        manifest: manifest.is_some().then_some(files.manifest.as_path()),
         removed: files.removed.len(),
+    };
+    let lines = page.lines();
+    if let Some(name) = &files.json {
+        let digests = Digests {
+            grid: found.digest,
+            plan: plan.map(|(_, plan)| plan.digest),
+            fixtures: fixtures.as_ref().map(|fixtures| fixtures.digest),
+            files: &digests,
+        };
+        let json = told::json(&page, &lines, &digests, status);
+        written.push(Beside::write(name, json.lines().as_bytes())?);
     }
-    .text())
+    // Only when every block is meshed and synced does the first file change; the manifest is the last.
+    kept::replace(written, &files.removed, manifest)?;
+    Ok(Said {
+        text: lines.text(),
+        status,
+    })
+}
+
+/// What a survey does about the open sides of a bed.
+#[derive(Clone, Copy, PartialEq)]
+enum Wanted {
+    /// The files hold the open bed, and the closed one is weighed.
+    OpenFiles,
+    /// The files hold the closed bed.
+    ClosedFiles,
+    /// Nothing is closed, and no volume told.
+    NotClosed,
 }
 
 /// The names that a survey writes, and the files of an older one that it removes.
 struct Files {
     /// The mesh file of each block.
     names: Vec<PathBuf>,
+    levels: Option<PathBuf>,
+    json: Option<PathBuf>,
     manifest: PathBuf,
     removed: Vec<PathBuf>,
 }
@@ -133,6 +211,7 @@ impl Files {
         read: impl Iterator<Item = &'a Path>,
         plan: Option<&Plan>,
         output: &Path,
+        beside: [Option<&Path>; 2],
     ) -> Result<Self, Failure> {
         if !manifest::writable(output) {
             return Err(arguments.wrong("-o wants a name without a new line in it"));
@@ -144,10 +223,12 @@ impl Files {
                 .collect(),
         };
         let manifest = manifest::name(output);
+        let [levels, json] = beside.map(|name| name.map(Path::to_path_buf));
         let read: Vec<_> = read.collect();
         let of_this = || {
             let last = plan.map(|_| &manifest);
-            names.iter().chain(last).map(PathBuf::as_path)
+            let others = levels.iter().chain(&json);
+            names.iter().chain(others).chain(last).map(PathBuf::as_path)
         };
         apart(arguments, read.iter().copied(), of_this())?;
         let removed = manifest::older(output, &names, plan.is_some())?.removed;
@@ -155,6 +236,8 @@ impl Files {
         apart(arguments, read, of_this().chain(removed_names))?;
         Ok(Self {
             names,
+            levels,
+            json,
             manifest,
             removed,
         })
@@ -162,21 +245,15 @@ impl Files {
 }
 
 /// The blocks' files as the manifest has them.
-fn made<'a>(
-    survey: &'a Survey,
-    weighed: &'a [Weighed],
-    written: &[Beside],
-) -> Result<Vec<MadeBlock<'a>>, Failure> {
-    let blocks = survey.blocks.iter().zip(survey.names);
-    let blocks = blocks.zip(weighed.iter().zip(written));
+fn made<'a>(survey: &'a Survey, weighed: &'a [Weighed], digests: &[Digest]) -> Vec<MadeBlock<'a>> {
+    let blocks = survey.file_blocks.iter().zip(survey.names);
+    let blocks = blocks.zip(weighed.iter().zip(digests));
     blocks
-        .map(|((block, name), (weighed, file))| {
-            Ok(MadeBlock {
-                name,
-                block: *block,
-                weighed,
-                digest: file.digest()?,
-            })
+        .map(|((block, name), (weighed, digest))| MadeBlock {
+            name,
+            block: *block,
+            weighed,
+            digest: *digest,
         })
         .collect()
 }
@@ -184,50 +261,78 @@ fn made<'a>(
 struct Survey<'a> {
     name: &'a Path,
     plan: Option<(&'a Path, &'a Plan)>,
+    wanted: Wanted,
     whole: Block,
     /// The plan's; without one the whole alone.
     blocks: Vec<Block>,
+    /// Both as the files have them.
+    file_whole: Block,
+    file_blocks: Vec<Block>,
     /// The mesh file of each block.
     names: &'a [PathBuf],
 }
 
 /// What a survey found, its files not yet renamed.
 struct Found {
-    /// What the whole's own call would need.
-    needed: Counts,
+    /// The triangles of the whole's own call.
+    needed: u64,
+    /// Of the open bed.
     enclosed: bool,
     blocks: Vec<(Weighed, Beside)>,
-    /// Of the grid's file, where there is a plan.
+    measured: Measured,
+    /// Of the grid's file, where it was asked.
     digest: Option<Digest>,
 }
 
 impl<'a> Survey<'a> {
     fn of(
         name: &'a Path,
-        source: &Source,
+        header: &Header,
         plan: Option<(&'a Path, &'a Plan)>,
         names: &'a [PathBuf],
-    ) -> Self {
-        let whole = Block {
-            min: [0; 3],
-            max: source.header.highest(),
-            max_plane: MaxPlane::NONE,
+        wanted: Wanted,
+        arguments: &Arguments,
+    ) -> Result<Self, Failure> {
+        let (whole, blocks) = match plan {
+            None => {
+                let whole = Block {
+                    min: [0; 3],
+                    max: header.highest(),
+                    max_plane: MaxPlane::NONE,
+                };
+                (whole, vec![whole])
+            }
+            Some((_, read)) => (read.whole, read.blocks.clone()),
         };
-        match plan {
-            None => Self {
-                name,
-                plan,
-                whole,
-                blocks: vec![whole],
-                names,
-            },
-            Some((_, read)) => Self {
-                name,
-                plan,
-                whole: read.whole,
-                blocks: read.blocks.clone(),
-                names,
-            },
+        let (file_whole, file_blocks) = match (wanted, plan) {
+            (Wanted::ClosedFiles, Some(_)) => {
+                moved::onto_the_closed(&whole, &blocks).ok_or_else(|| {
+                    arguments.wrong("--closed: on the closed grid the blocks are no plan of the whole: some is too thin at its side, or the grid too large")
+                })?
+            }
+            (Wanted::ClosedFiles, None) => {
+                let closed = measuring::closed_whole(&whole);
+                (closed, vec![closed])
+            }
+            _ => (whole, blocks.clone()),
+        };
+        Ok(Self {
+            name,
+            plan,
+            wanted,
+            whole,
+            blocks,
+            file_whole,
+            file_blocks,
+            names,
+        })
+    }
+
+    /// So many steps from a vertex of the files to where it stands in the grid.
+    fn offset(&self) -> [i64; 3] {
+        match self.wanted {
+            Wanted::ClosedFiles => self.whole.min.map(|place| i64::from(place) - 1),
+            _ => [0; 3],
         }
     }
 
@@ -242,70 +347,222 @@ impl<'a> Survey<'a> {
         }
     }
 
-    fn in_memory(&self, grid: &Grid, needed: Counts, workers: usize) -> Result<Found, Failure> {
-        let (min, max) = (self.whole.min, self.whole.max);
+    /// `left` is the memory beside the grid.
+    fn in_memory(
+        &self,
+        grid: &Grid,
+        needed: Counts,
+        workers: usize,
+        left: u128,
+    ) -> Result<Found, Failure> {
+        let (dims, place) = (grid.header.dims, self.whole_in_words());
+        let refused = |refusal: bed::Refusal| Failure::refused(&place, refusal.number(), refusal);
         let enclosed = grid
             .distances
-            .is_enclosed(grid.header.dims, min, max)
-            .map_err(|refusal| {
-                Failure::refused(self.whole_in_words(), refusal.number(), refusal)
-            })?;
-        let place = |number| self.place(number);
-        let blocks = blocks::mesh_all(grid, &self.blocks, workers, place, |number, buffer| {
-            let lists = mesh::of_call(buffer);
-            let name = &self.names[number];
-            let file = Beside::write(name, &lists.file(name)?)?;
-            Ok((Weighed::of(&lists), file))
-        })?;
+            .is_enclosed(dims, self.whole.min, self.whole.max)
+            .map_err(refused)?;
+        let levels = grid.distances.levels(dims, &self.whole);
+        let levels =
+            levels.map_err(|refusal| Failure::refused(&place, refusal.number(), refusal))?;
+        let looked = measuring::look(grid, &self.whole, Some(levels), &place, &|_| ())?;
+        let wall = bed::wall_for(looked.deepest);
+        let mut closed_grid = None;
+        let closed = match self.wanted {
+            Wanted::NotClosed => None,
+            _ => Some(self.closed_in_memory(grid, wall, left, &mut closed_grid)?),
+        };
+        let of_the_closed = |refused: &Refused| Failure::refused(&place, refused.0, &refused.1);
+        let (blocks, needed) = match (self.wanted, &closed) {
+            (Wanted::ClosedFiles, Some(Err(refusal))) => return Err(of_the_closed(refusal)),
+            (Wanted::ClosedFiles, Some(Ok(bed))) => {
+                let blocks = match &closed_grid {
+                    Some((closed, workers)) => self.files_in_memory(closed, *workers)?,
+                    None => {
+                        let source = Closed {
+                            open: grid,
+                            whole: self.whole,
+                            wall,
+                        };
+                        let workers = layered_workers(left, &source.header());
+                        self.files_by_layers(&source, workers)?.0
+                    }
+                };
+                (blocks, bed.triangles)
+            }
+            _ => (self.files_in_memory(grid, workers)?, needed.indices / 3),
+        };
         Ok(Found {
             needed,
             enclosed,
             blocks,
+            measured: Measured { looked, closed },
             digest: grid.digest,
         })
     }
 
-    fn by_layers(&self, grid: &Stored, workers: usize) -> Result<Found, Failure> {
-        let digest = || self.plan.map(|_| grid.digest()).transpose();
-        let before = digest()?;
-        let of_the_whole = match self.plan {
-            Some(_) => Some(self.whole_asked(grid)?),
-            None => None,
+    /// The closed bed: in memory, where that fits, and else layer by layer out of the grid in memory. The closed grid stays for the files that are
+    /// made of it, with how many workers fit beside it.
+    fn closed_in_memory(
+        &self,
+        grid: &Grid,
+        wall: f32,
+        left: u128,
+        kept: &mut Option<(Grid, usize)>,
+    ) -> Result<Result<ClosedBed, Refused>, Failure> {
+        if let Err(refusal) = measuring::closable(&self.whole, wall) {
+            return Ok(Err(refusal));
+        }
+        let budget = measuring::closed_budget(&self.whole);
+        // A box that is not the whole grid is taken out of it before it is closed.
+        let everything = self.whole.min == [0; 3] && self.whole.max == grid.header.highest();
+        let left = left.saturating_sub(if everything { 0 } else { budget.grid() });
+        if budget.fits(left) {
+            let closed = match measuring::closed_grid(grid, &self.whole, wall) {
+                Ok(closed) => closed,
+                Err(refusal) => return Ok(Err(refusal)),
+            };
+            let counts = accepted(&closed, &self.closed_box(), || self.whole_in_words())?;
+            let workers = budget.workers(left, budget::most(counts, &self.file_blocks));
+            if workers > 0 {
+                let weighed = measuring::weigh_in_memory(&closed, wall)?;
+                if self.wanted == Wanted::ClosedFiles {
+                    *kept = Some((closed, workers));
+                }
+                return Ok(Ok(weighed));
+            }
+        }
+        let source = Closed {
+            open: grid,
+            whole: self.whole,
+            wall,
         };
-        let steps = layered::steps(2, &self.blocks);
+        measuring::weigh_by_layers(&source, &|_| ()).map(Ok)
+    }
+
+    fn closed_box(&self) -> Block {
+        measuring::closed_whole(&self.whole)
+    }
+
+    fn files_in_memory(
+        &self,
+        grid: &Grid,
+        workers: usize,
+    ) -> Result<Vec<(Weighed, Beside)>, Failure> {
+        let place = |number| self.place(number);
+        blocks::mesh_all(grid, &self.file_blocks, workers, place, |number, buffer| {
+            let lists = mesh::of_call(buffer);
+            let name = &self.names[number];
+            let file = Beside::write(name, &lists.file(name)?)?;
+            Ok((Weighed::of(&lists), file))
+        })
+    }
+
+    fn by_layers(&self, grid: &Stored, workers: usize) -> Result<Found, Failure> {
+        // Refusals of dimensions come before a file of any length is read.
+        let of_the_whole = match (self.plan, self.wanted) {
+            (None, Wanted::OpenFiles | Wanted::NotClosed) => None,
+            _ => Some(self.whole_asked(grid)?),
+        };
+        let before = grid.digest()?;
+        let mut asked = of_the_whole.unwrap_or_default();
+        let mut blocks = Vec::new();
+        if self.wanted != Wanted::ClosedFiles {
+            let (files, of_the_files) = self.files_by_layers(grid, workers)?;
+            blocks = files;
+            // Without a plan the whole is the only block, and was asked as it was meshed.
+            if self.plan.is_none() {
+                asked = of_the_files;
+            }
+        }
+        let measured = self.measured_by_layers(grid)?;
+        let mut needed = asked.needed.indices / 3;
+        if self.wanted == Wanted::ClosedFiles {
+            match &measured.closed {
+                Some(Err((number, words))) => {
+                    return Err(Failure::refused(self.whole_in_words(), *number, words))
+                }
+                Some(Ok(bed)) => needed = bed.triangles,
+                None => {}
+            }
+            let source = Closed {
+                open: grid,
+                whole: self.whole,
+                wall: bed::wall_for(measured.looked.deepest),
+            };
+            blocks = self.files_by_layers(&source, workers)?.0;
+        }
+        // The manifest and the page say what the meshes were made of.
+        if grid.digest()? != before {
+            return Err(grid.changed());
+        }
+        Ok(Found {
+            needed,
+            enclosed: asked.enclosed,
+            blocks,
+            measured,
+            digest: Some(before),
+        })
+    }
+
+    /// The files of all blocks, and what was asked of the last one.
+    fn files_by_layers(
+        &self,
+        grid: &dyn Layered,
+        workers: usize,
+    ) -> Result<(Vec<(Weighed, Beside)>, Asked), Failure> {
+        let steps = layered::steps(2, &self.file_blocks);
         let meshed = blocks::on_cores(
-            self.blocks.len(),
+            self.file_blocks.len(),
             workers,
             steps,
             |number, _: &mut (), report| {
                 let work = Work {
                     grid,
-                    block: self.blocks[number],
+                    block: self.file_blocks[number],
                     place: self.place(number),
                     report,
                 };
                 written(&work, &self.names[number])
             },
         )?;
-        // Without a plan the whole is the only block, and was asked as it was meshed.
-        let mut asked = of_the_whole.unwrap_or_default();
-        let mut blocks = Vec::new();
+        let mut asked = Asked::default();
+        let mut files = Vec::new();
         for (weighed, file, of_the_block) in meshed {
-            if self.plan.is_none() {
-                asked = of_the_block;
-            }
-            blocks.push((weighed, file));
+            asked = of_the_block;
+            files.push((weighed, file));
         }
-        // The manifest says what the meshes were made of.
-        if digest()? != before {
-            return Err(grid.changed());
-        }
-        Ok(Found {
-            needed: asked.needed,
-            enclosed: asked.enclosed,
-            blocks,
-            digest: before,
-        })
+        Ok((files, asked))
+    }
+
+    fn measured_by_layers(&self, grid: &Stored) -> Result<Measured, Failure> {
+        let all = Block {
+            max: grid.header.highest(),
+            ..Block::default()
+        };
+        let steps = layered::steps(1, &[all, self.closed_box()]);
+        let measured = blocks::on_cores(1, 1, steps, |_, _: &mut (), report| {
+            let looked = measuring::look(grid, &self.whole, None, &self.whole_in_words(), report)?;
+            let wall = bed::wall_for(looked.deepest);
+            let closed = match self.wanted {
+                Wanted::NotClosed => None,
+                _ => Some(match measuring::closable(&self.whole, wall) {
+                    Err(refusal) => Err(refusal),
+                    Ok(()) => {
+                        let source = Closed {
+                            open: grid,
+                            whole: self.whole,
+                            wall,
+                        };
+                        Ok(measuring::weigh_by_layers(&source, report)?)
+                    }
+                }),
+            };
+            Ok(Measured { looked, closed })
+        })?;
+        Ok(measured
+            .into_iter()
+            .next()
+            .expect("one job gives one result"))
     }
 
     /// What is asked of the whole before its blocks are meshed.
@@ -345,10 +602,10 @@ struct Asked {
 fn written(work: &Work, name: &Path) -> Result<(Weighed, Beside, Asked), Failure> {
     let begun = work.vertices(name)?;
     let (vertices, triangles) = (begun.vertices, begun.triangles);
-    let mut volume = weighing::InLayers::default();
-    let mut enclosing = Enclosing::of(work.grid.header.dims, work.block);
+    let mut weight = weighing::InLayers::default();
+    let mut enclosing = Enclosing::of(work.grid.header().dims, work.block);
     let file = work.triangles(begun, |taken| {
-        volume.add(&taken.lists);
+        weight.add(&taken.lists);
         enclosing
             .add(taken.z, taken.distances)
             .map_err(|refusal| work.refused(refusal.number(), refusal))
@@ -356,7 +613,7 @@ fn written(work: &Work, name: &Path) -> Result<(Weighed, Beside, Asked), Failure
     let weighed = Weighed {
         vertices: vertices as usize,
         triangles: triangles as usize,
-        sixfold: volume.sixfold,
+        weight: weight.weight,
     };
     let asked = Asked {
         needed: Counts {

@@ -208,7 +208,6 @@ def fixtures_as_text():
     wrong("cut", "box.fixtures", BALL_FILE, "-o", "never.npy", "--step", "0.05", says="records")
     for step in ("0", "-1", "nan", "inf", "x", ""):
         wrong("fixtures", "near.text", "-o", "never.fixtures", "--step", step, says="--step")
-    wrong("survey", BALL_FILE, "-o", "never.mesh", "--step", "1", says="--step is for --fixtures")
     for bad, line in ((b"box 1 2 3 4 5", 1), (b"union {\nbox 1 2 3 4 5 6\n", 2), (b"# ball\nball 3", 2), (b"box 1 2 3 4 5 6 }", 1)):
         put("bad.text", bad)
         wrong("fixtures", "bad.text", "-o", "never.fixtures", says=f"bad.text, line {line}: ")
@@ -311,10 +310,10 @@ def page(*words):
 
 def surveys():
     grid, plan, rake = (f"{TANK}/{name}" for name in ("tank.npy", "tank.plan", "rake.fixtures"))
-    one, text = page(grid, "--fixtures", rake, "-o", "tank.mesh")
+    one, text = page(grid, "--fixtures", rake, "--closed", "-o", "tank.mesh")
     whole = mesh_file(got("tank.mesh"))
     weight = sixfold(whole[0], whole[2])
-    expect("more than one call", len(whole[2]) > 16384 and "not proved: the sum of several calls" in text)
+    expect("more than request 14's volume takes at once", len(whole[2]) > 16384)
     expect("the whole's volume", one["volume"].endswith(f" {weight}") and weight > 0)
     expect("no hole", one["hole"].startswith("none"))
     sides = {}
@@ -322,7 +321,7 @@ def surveys():
         for side in ((a, b), (b, c), (c, a)):
             sides[side] = sides.get(side, 0) + 1
     expect("none is counted", all(count == sides.get(side[::-1], 0) for side, count in sides.items()))
-    two, text = page(grid, "--plan", plan, "--fixtures", rake, "-o", "block.mesh")
+    two, text = page(grid, "--plan", plan, "--fixtures", rake, "--closed", "-o", "block.mesh")
     names = sorted(glob.glob("block.*.mesh"))
     expect("two hundred blocks", names == [f"block.{number:03}.mesh" for number in range(1, 201)] and "yes, 200 blocks" in two["plan"])
     blocks = [mesh_file(got(name)) for name in names]
@@ -331,19 +330,31 @@ def surveys():
     together = sorted(face for p, _, t in blocks for face in shown(p, t))
     expect("the blocks' triangles are the whole's", together == shown(whole[0], whole[2]))
     expect("as many triangles", "counted: as many triangles as the whole needs" in text)
-    # open, outside the volume's bounds, and empty
+    # the open bed's: those of the whole's own call, with its max planes
+    three, text = page(grid, "--plan", plan, "--fixtures", rake, "-o", "block.mesh")
+    bed("cut", rake, grid, "-o", "cut.npy")
+    bed("mesh", "cut.npy", "--max-plane", "xz", "-o", "open.mesh")
+    blocks = [mesh_file(got(name)) for name in sorted(glob.glob("block.*.mesh"))]
+    whole = mesh_file(got("open.mesh"))
+    expect("the open blocks' triangles", sorted(face for p, _, t in blocks for face in shown(p, t)) == shown(whole[0], whole[2]))
+    expect("the same volume", three["volume"] == one["volume"] and "counted: as many triangles as the whole needs" in text)
+    # a bed on the floor: asked openly there is no volume, and the status says it
     put("open.npy", npy(floats([z - 1.5 for z in range(4) for _ in range(16)]), (4, 4, 4)))
-    one, text = page("open.npy", "-o", "open.mesh")
-    expect("an open bed", one["hole"].startswith("not ruled out") and one["volume"].startswith("none is told"))
+    status, output, errors = bed("survey", "open.npy", "--open", "-o", "open.mesh")
+    expect("an open bed", (status, errors) == (3, "") and "\nvolume: none is told\n" in output and "\nhole: not asked" in output)
+    one, text = page("open.npy", "--closed", "-o", "open.mesh")
+    weight = sixfold(*mesh_file(got("open.mesh"))[::2])
+    expect("closed", one["hole"].startswith("none") and one["volume"].endswith(f" {weight}") and 12 <= weight / (6 * 256 ** 3) <= 13.5)
     far = [1.0] * (140 * 5 * 5)
     far[136 + 140 * (2 + 5 * 2)] = -1.0
     put("far.npy", npy(floats(far), (140, 5, 5)))
     one, text = page("far.npy", "-o", "far.mesh")
-    expect("outside the bounds", one["volume"] == "refused 63" and one["hole"].startswith("none"))
-    refused(63, "volume", "far.mesh", name="far.mesh")
+    weight = sixfold(*mesh_file(got("far.mesh"))[::2])
+    expect("further out than request 14's volume goes", one["volume"].startswith("0.") and bed("volume", "far.mesh")[1].startswith(f"sixfold {weight} "))
     put("none.plan", b"0 0 0 0 0 0 -\n")
     one, text = page(BALL_FILE, "--plan", "none.plan", "-o", "empty.mesh")
-    expect("a plan without blocks", one["files"].startswith("none") and one["mesh"] == "0 vertices, 0 triangles")
+    expect("a plan without blocks", one["files"].startswith("none") and one["mesh"].startswith("0 vertices, 0 triangles"))
+    wrong("survey", BALL_FILE, "--plan", "none.plan", "--closed", "-o", "empty.mesh", says="no plan of the whole")
 
 
 def progress():

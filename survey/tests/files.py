@@ -112,10 +112,10 @@ def manifests():
         for (name, (its_own, vertices, triangles, weight, corners)), block in zip(sorted(files.items()), THIRDS.decode().split("\n")[1:]):
             positions, _, faces = mesh_file(got(name))
             expect(f"{name} is what it says", (its_own, vertices, triangles, weight) ==
-                   (digest(got(name)), len(positions), len(faces), str(sixfold(positions, faces))) and " ".join(corners) == block)
-            total += sixfold(positions, faces)
+                   (digest(got(name)), len(positions), len(faces), str(weighed(positions, faces))) and " ".join(corners) == block)
+            total += weighed(positions, faces)
         expect("the sums", lines["all"].split(" ")[1:] == ["3", *(str(sum(f[at] for f in files.values())) for at in (1, 2)), str(total)])
-        expect("the sum on the page", f" {total}\n" in output)
+        expect("the volume on the page", f", {lines['volume'].split(' ')[1]}\n" in output and lines["mesh"] == "mesh open 0 0 0" and "metres" not in lines)
         expect("what it was made of", (lines["grid"], lines["plan"], lines["whole"], lines["version"]) ==
                (f"grid {digest(BALL)} ball.npy", f"plan {digest(THIRDS)} thirds.plan", "whole 0 0 0 11 11 11 -", f"version {bed('--version')[1].split()[1]}"))
         expect("its fixtures", ("fixtures" in lines) == (len(more) == 2 and more[0] == "--fixtures") and
@@ -123,7 +123,7 @@ def manifests():
     # fewer blocks: the third file goes, and a sum over all is the whole's
     status, output, _ = bed("survey", "ball.npy", "--plan", "halves.plan", "-o", "bed.mesh")
     expect("two blocks", status == 0 and sorted(glob.glob("bed.*")) == ["bed.001.mesh", "bed.002.mesh", "bed.manifest"] and "\nremoved: 1 files" in output)
-    whole = sum(sixfold(p, t) for p, _, t in (mesh_file(got(name)) for name in glob.glob("bed.*.mesh")))
+    whole = sum(weighed(p, t) for p, _, t in (mesh_file(got(name)) for name in glob.glob("bed.*.mesh")))
     # without a plan: the blocks and the manifest go
     status, output, _ = bed("survey", "ball.npy", "-o", "bed.mesh")
     expect("the whole", status == 0 and glob.glob("bed*") == ["bed.mesh"] and "\nremoved: 3 files" in output)

@@ -199,16 +199,20 @@ def surveys():
     put("noise.npy", npy(random.randbytes(9 ** 3), (9, 9, 9), "|i1"))
     for words, blocks, hole, volume in (
             ((tank,), 1, "none", r"\d+\.\d{3} cubed"), ((tank, "--plan", plan), 200, "none", r"\d+\.\d{3} cubed"),
-            ((tank, "--plan", "slabs.plan"), 4, "none", r"\d+\.\d{3} cubed"), (("open.npy",), 1, "not ruled out", "none is told"),
-            (("far.npy",), 1, "none", "refused 63$"), (("high.npy",), 1, "none", "refused 63$"), (("noise.npy",), 1, "not ruled out", "none is told"),
+            ((tank, "--plan", "slabs.plan"), 4, "none", r"\d+\.\d{3} cubed"), (("open.npy",), 1, "none", "1[23].* cubed"),
+            ((tank, "--closed"), 1, "none", r"\d+\.\d{3} cubed"), ((tank, "--closed", "--plan", plan), 200, "none", r"\d+\.\d{3} cubed"),
+            (("open.npy", "--open"), 1, "not asked", "none is told"), (("far.npy",), 1, "none", "0.* cubed"), (("high.npy",), 1, "none", "0.* cubed"),
+            (("noise.npy",), 1, "none", r"\d+.* cubed"), (("noise.npy", "--closed"), 1, "none", r"\d+.* cubed"),
             (("noise.npy", "--plan", "none.plan"), 0, "", "")):
         one, other = both("survey", *words, "-o", "out.mesh")
-        expect(f"survey {words}: {other[2]}", one[0] == other[0] == 0 and one[2] == other[2] == "")
+        wanted = 3 if "--open" in words else 0
+        expect(f"survey {words}: {other[2]}", one[0] == other[0] == wanted and one[2] == other[2] == "")
         manifest = 1 if "--plan" in words else 0
         expect(f"the files of {words}", one[3] == other[3] and len(one[3]) == blocks + manifest and ("out.manifest" in one[3]) == bool(manifest))
         expect(f"the page of {words}", lines(one[1]) == lines(other[1]) and "\nlayers: taken one by one" in other[1])
         expect(f"what it says of {words}", f"\nhole: {hole}" in other[1] and re.search(f"^volume: {volume}", other[1], re.M))
-        expect("what is not proved", "not proved: that the layers' answers" in other[1] and "not proved: that the layers" not in one[1])
+        expect("what is not proved", ("not proved: that the layers' answers" in other[1]) == (wanted == 0) and "not proved: that" not in one[1]
+               and "not proved: that this command hands on the layers" in other[1])
     # a block outside the grid, and a plan that is none
     put("bad.plan", b"0 0 0 8 8 8 -\n0 0 0 8 8 8 -\n0 0 0 0 0 40 -\n")
     before = sorted(os.listdir("."))

@@ -86,7 +86,7 @@ impl Told<'_> {
         } = closed;
         lines.found(
             "closed",
-            format!("by a border of points of {wall:?}, one layer at min and two at max on each axis: {vertices} vertices, {triangles} triangles"),
+            format!("by a border of points of {}, one layer at min and two at max on each axis: {vertices} vertices, {triangles} triangles", f64::from(*wall)),
         );
         lines.rests("proved: inside the border every distance is the box's own, and everywhere else the wall's");
         lines.rests(match closed.beyond {
@@ -213,12 +213,13 @@ impl Told<'_> {
             lines.rests("counted: no column has more than one change of sign");
         }
         lines.rests("not claimed: that a column's highest point below zero is sludge");
-        if self.in_blocks {
-            self.levels_of_blocks(lines);
-        }
     }
 
-    fn levels_of_blocks(&self, lines: &mut Lines) {
+    /// A line for the blocks over each set of columns: the page's longest part.
+    pub fn levels_of_blocks(&self, lines: &mut Lines) {
+        if !self.in_blocks {
+            return;
+        }
         lines.found(
             "levels of the blocks",
             "over the columns that each stands over, whatever its z",

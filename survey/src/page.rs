@@ -75,6 +75,7 @@ impl Page<'_> {
         of_the_bed.levels(&mut lines);
         self.mesh(&mut lines);
         self.files(&mut lines);
+        of_the_bed.levels_of_blocks(&mut lines);
         lines.found(
             "outside the proofs",
             "this command, the files it reads and writes, that its archive is the proved one",

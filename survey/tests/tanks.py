@@ -289,7 +289,7 @@ def heaps():
         block = told["mesh"]["files"][1]["levels"]
         expect(f"the second block's levels: {block}", block["filled"] == len(columns) and block["columns"] == 17 * 9 and
                abs(block["highest"]["steps"] - max(height(x, y) for x, y in columns)) < 1e-5 and abs(block["mean_steps"] - sum(height(x, y) for x, y in columns) / len(columns)) < 1e-5)
-        expect("on the page", re.search(r"\nlevels of the blocks: .*\n    counted: 001: highest 6.000 at x 9, y 10; .*\n    counted: 002: highest ", page))
+        expect("each block on the page", re.search(r"\nlevels of the blocks: .*\n    counted: 001: highest 6.000 at x 9, y 10; .*\n    counted: 002: highest ", page))
         clear()
     told = survey("in.npy", "--plan", "one.plan", "--closed", "--step", "2", "--origin", "10,20,30")[1]
     expect("where the closed blocks stand", told["mesh"]["steps_to_the_grid"] == [2, 1, -1] and told["mesh"]["origin_m"] == [14, 22, 28])
@@ -358,6 +358,20 @@ def readme_tank():
     clear()
 
 
+def readme_page():
+    """the command of README.md makes the lines that it shows"""
+    readme = open(os.path.join(HERE, "../../README.md")).read()
+    words = re.search(r"^scripts/bed (survey .*)$", readme, re.M)[1].split()
+    shown_there = re.search(r"Of the page:\n\n```text\n(.*?)```", readme, re.S)[1].split("\n")[:-1]
+    os.symlink(TANK, "examples")
+    os.mkdir("target")
+    status, output, errors = bed(*words)
+    page = output.split("\n")
+    expect(f"the README's survey: {errors}", status == 0 and len(shown_there) > 5)
+    for line in shown_there:
+        expect(f"the README's line: {line}", line in page)
+
+
 def names():
     """levels and JSON are files like the others"""
     put("in.npy", grid((8, 7, 16), plane))
@@ -378,6 +392,7 @@ volumes()
 heaps()
 strange()
 readme_tank()
+readme_page()
 names()
 expect("no part is left", glob.glob("*.part") == [])
 finish("tanks: volume and level as they should be")

@@ -11,7 +11,8 @@ use Rattle.promises.proofs.Runs.{served, bedServed}
 use Rattle.weighed_mesh.specs.Told.{weightOf}
 use Rattle.bounded_mesh.specs.Bounded.{wholeOf, Bounded}
 use Rattle.bounded_mesh.proofs.Bounds.{surface-nets-bounded, bed-surface-nets-bounded}
-use Rattle.applied.proofs.OnePoint.{opened, whole, bedWhole}
+use Rattle.bounded_mesh.proofs.Asked.{surface-nets-yes-bounded}
+use Rattle.applied.proofs.OnePoint.{opened, whole, bedWhole, wholeTest}
 
 -- request 8's premise
 inside : Enclosed (served whole .call .grid) (served whole .call .box)
@@ -33,6 +34,10 @@ no-whole-cell = refl
 pub whole-high : pos 132651000 ≤ℤ pos 32614907904
 unfolding opened
 whole-high = whole-bounded .high
+
+-- the same after the yes of is_enclosed
+pub asked-bounded : Bounded (served whole) (weightOf (served whole))
+asked-bounded = surface-nets-yes-bounded wholeTest whole refl refl refl
 
 pub bed-whole-bounded : Bounded (bedServed bedWhole) (weightOf (bedServed bedWhole))
 bed-whole-bounded = bed-surface-nets-bounded bedWhole refl inside

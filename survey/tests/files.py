@@ -236,7 +236,7 @@ def memory():
     grid = 4 * side * side * layers
     seen, meshes = set(), set()
     for size in (3 * grid // 2, 2 * grid + (20 << 20), 3 * grid + (40 << 20), 8 * grid):
-        for words in (("survey", "--plan", "tube.plan"), ("survey",), ("mesh", "--ply", "tube.ply")):
+        for words in (("survey", "--plan", "tube.plan"), ("survey",), ("survey", "--closed"), ("survey", "--closed", "--plan", "tube.plan"), ("mesh", "--ply", "tube.ply")):
             done = subprocess.run(["time", "-f", "%M", "-o", "peak", BED, words[0], "tube.npy", "-o", "out.mesh", *words[1:], f"--memory={size}"],
                                   capture_output=True, text=True)
             peak = int(got("peak").split()[-1]) * 1024
@@ -246,7 +246,7 @@ def memory():
             for name in glob.glob("out*"):
                 os.remove(name)
     expect(f"both ways: {seen}", {("survey", True), ("survey", False)} <= seen)
-    expect("the same meshes", len(meshes) == 3)
+    expect("the same meshes", len(meshes) == 5)
     clear()
 
 

@@ -6,6 +6,7 @@ import hashlib
 import json
 import math
 import os
+import random
 import re
 import subprocess
 import sys
@@ -372,6 +373,58 @@ def readme_page():
         expect(f"the README's line: {line}", line in page)
 
 
+def noise():
+    """small grids of any signs: levels and columns by a plain model, the volume by the closed file's triangles, both ways"""
+    random.seed(23)
+    seen = set()
+    for number in range(60):
+        dims = [random.choice((1, 2, 3, 5, 7)) for _ in range(3)]
+        x, y, z = dims
+        share = random.random()
+        values = [random.randint(-9, -1) if random.random() < share else random.randint(0, 9) for _ in range(x * y * z)]
+        kind, letter = random.choice((("<f4", "f"), ("<i2", "h"), ("|i1", "b")))
+        put("in.npy", npy(struct.pack(f"<{len(values)}{letter}", *values), dims, kind))
+        levels, several, top = {}, 0, 0
+        for column in range(x * y):
+            up = [values[column + x * y * layer] for layer in range(z)]
+            below = [layer for layer in range(z) if up[layer] < 0]
+            several += sum((a < 0) != (b < 0) for a, b in zip(up, up[1:])) > 1
+            top += up[-1] < 0
+            if below:
+                last = below[-1]
+                levels[column] = last + (up[last] / (up[last] - up[last + 1]) if last + 1 < z else 0)
+        told = [survey("in.npy", "--closed", *way)[1] for way in WAYS]
+        expect(f"{dims} {kind}: both ways", same(*told))
+        positions, _, triangles = mesh_file(got("bed.mesh"))
+        told = told[0]
+        expect(f"{dims} {kind}: its volume", balanced(triangles) and sixfold(positions, triangles) == int(told["sixfold"]) and told["cross_check"] != "outside")
+        expect(f"{dims} {kind}: its columns", told["columns"] == {"all": x * y, "below_zero_somewhere": len(levels), "below_zero_at_the_top": top, "several_changes_of_sign": several})
+        expect(f"{dims} {kind}: its points", told["points_below_zero"] == sum(one < 0 for one in values) and told["points"] == len(values))
+        if levels:
+            wanted = max(levels.values()), min(levels.values()), sum(levels.values()) / len(levels)
+            found = told["level_highest"], told["level_lowest"], told["level_mean"]
+            expect(f"{dims} {kind}: {found} for {wanted}", all(abs(one - other) < 1e-5 for one, other in zip(found, wanted)))
+            a, b = told["levels"]["highest"]["column"]
+            expect("the place of the highest", abs(levels[a + x * b] - wanted[0]) < 1e-5)
+        seen.add(told["cross_check"])
+    expect(f"sharp and not: {seen}", "inside" in seen)
+    clear()
+
+
+def memory():
+    """the grid fits and the closed one does not: the same numbers and bytes"""
+    put("in.npy", grid(DIMS, plane))
+    seen = {}
+    for size in ("1", "7M", "8M", "12M"):
+        for more in ((), ("--closed",)):
+            told = survey("in.npy", "--memory", size, *more)[1]
+            seen.setdefault(more, []).append((told["sixfold"], got("bed.mesh")))
+            seen.setdefault("ways", set()).add((told["by_layers"], told["closed_bed"]["by_layers"]))
+    expect("the same", all(len(set(seen[more])) == 1 for more in ((), ("--closed",))))
+    expect(f"three ways: {seen['ways']}", seen["ways"] == {(True, True), (False, True), (False, False)})
+    clear()
+
+
 def names():
     """levels and JSON are files like the others"""
     put("in.npy", grid((8, 7, 16), plane))
@@ -393,6 +446,8 @@ heaps()
 strange()
 readme_tank()
 readme_page()
+noise()
+memory()
 names()
 expect("no part is left", glob.glob("*.part") == [])
 finish("tanks: volume and level as they should be")

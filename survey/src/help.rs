@@ -72,7 +72,7 @@ names them and they are what it says; any other of such a name is refused.
   --origin X,Y,Z           the metres of the grid's point 0,0,0; else 0,0,0
   --closed                 writes the closed bed's mesh instead; its vertices stand one step further on each axis
   --open                   closes nothing, and tells no volume
-  --levels OUT.npy         the level of each column: float32, shape y, x, not-a-number where no point is below zero; metres with --step
+  --levels OUT.npy         the level of each column of the box: float32, shape y, x, not-a-number where no point is below zero; metres with --step
   --json FILE              every number of the page, and each claim with its standing
   -o BED.mesh              the mesh file
 

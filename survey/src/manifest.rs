@@ -80,7 +80,7 @@ pub struct Made<'a> {
     pub scale: Option<Scale>,
     pub whole: Block,
     pub blocks: Vec<MadeBlock<'a>>,
-    /// Six times the volume, where there is one.
+    /// Six times the volume, where there is one to go by.
     pub volume: Option<i128>,
 }
 
@@ -192,6 +192,8 @@ pub struct Listed {
     pub files: BTreeMap<OsString, Digest>,
     /// Whether their meshes together are those of a closed bed.
     pub closed: bool,
+    /// Six times the volume that the survey told.
+    pub volume: Option<i128>,
 }
 
 /// The manifest of the survey that a file of this name would be a block of, and what it lists; nothing where there is none that is whole.
@@ -228,10 +230,15 @@ fn listed(text: &[u8]) -> Option<Listed> {
             files.insert(OsString::from_vec(name.to_vec()), digest);
         }
     }
-    let closed = rest
-        .split(|&byte| byte == b'\n')
-        .any(|line| line.starts_with(b"mesh closed "));
-    Some(Listed { files, closed })
+    let mut lines = rest.split(|&byte| byte == b'\n');
+    let closed = lines.clone().any(|line| line.starts_with(b"mesh closed "));
+    let volume = lines.find_map(|line| line.strip_prefix(b"volume "));
+    let volume = volume.and_then(|word| std::str::from_utf8(word).ok()?.parse().ok());
+    Some(Listed {
+        files,
+        closed,
+        volume,
+    })
 }
 
 /// The files of an older survey under the same name, which go when the new one is there.
@@ -356,8 +363,12 @@ mod tests {
             digest: Digest::of(b"mesh"),
         };
         let text = made(vec![block()]);
-        let Listed { files, closed } = listed(&text).unwrap();
-        assert_eq!((files.len(), closed), (1, true));
+        let Listed {
+            files,
+            closed,
+            volume,
+        } = listed(&text).unwrap();
+        assert_eq!((files.len(), closed, volume), (1, true, Some(-12)));
         assert_eq!(files[OsStr::new("a bed.001.mesh")], Digest::of(b"mesh"));
         assert!(String::from_utf8_lossy(&text).contains("\nall 1 8 6 refused-63\n"));
         let words = String::from_utf8_lossy(&text);

@@ -68,6 +68,12 @@ impl Measured {
         self.volume().map(|sum| self.looked.counts.standing(sum))
     }
 
+    /// The volume, where nothing that was counted contradicts it.
+    pub fn trusted(&self) -> Option<i128> {
+        let outside = self.standing() == Some(Standing::Outside);
+        self.volume().filter(|_| !outside)
+    }
+
     /// The exit status of a survey that found this.
     pub fn status(&self) -> u8 {
         match self.standing() {
@@ -309,6 +315,8 @@ pub mod tests {
         assert_eq!(full_tank(6 * 13, true).status(), 0);
         assert_eq!(full_tank(6 * 12 - 66, true).status(), 0);
         assert_eq!(full_tank(6 * 12 - 67, true).status(), WRONG);
+        assert_eq!(full_tank(6 * 12 - 67, true).trusted(), None);
+        assert!(full_tank(6 * 12 - 66, true).trusted().is_some());
         assert_eq!(full_tank(6 * 80 + 66, true).status(), 0);
         assert_eq!(full_tank(6 * 80 + 67, true).status(), WRONG);
         assert_eq!(full_tank(6 * 12, false).status(), NO_VOLUME);

@@ -48,6 +48,8 @@ pub struct Page<'a> {
     pub enclosed: bool,
     pub weighed: &'a [Weighed],
     pub measured: &'a Measured,
+    /// Whether the sums of the closed bed's files are its volume.
+    pub adds_up: bool,
     pub names: &'a [PathBuf],
     pub levels: Option<&'a Path>,
     pub json: Option<&'a Path>,
@@ -67,6 +69,12 @@ impl Page<'_> {
             scale: self.scale.as_ref(),
             measured: self.measured,
         };
+        if !self.adds_up {
+            lines.found(
+                "WRONG",
+                "the sums of the closed bed's files are not its volume: do not act on either",
+            );
+        }
         of_the_bed.first(&mut lines);
         self.grid(&mut lines);
         of_the_bed.closed(&mut lines);
@@ -163,6 +171,9 @@ impl Page<'_> {
         }
         lines.rests("not claimed: that the distances are those of the sludge, that the mesh does not cross itself");
         if self.closed_files {
+            if self.adds_up {
+                lines.rests("counted: the sums of the files are the volume");
+            }
             self.moved(lines);
         }
     }

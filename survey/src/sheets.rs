@@ -35,7 +35,7 @@ pub fn volume(words: &[OsString]) -> Result<Said, Failure> {
         shadow: sum.shadow.saturating_add(one.shadow),
     });
     let count = files.len();
-    match of_one_survey(files)? {
+    match of_one_survey(files, sum.sum)? {
         Blocks::Closed => {
             said.text += &format!(
                 "all {count} blocks of one closed survey: {}",
@@ -145,8 +145,8 @@ enum Blocks {
     Not(String),
 }
 
-/// By the manifest beside the first: it names these files and no other, and each is what it says.
-fn of_one_survey(files: &[PathBuf]) -> Result<Blocks, Failure> {
+/// By the manifest beside the first: it names these files and no other, each is what it says, and of a closed survey this sum is the volume that was told.
+fn of_one_survey(files: &[PathBuf], sum: i128) -> Result<Blocks, Failure> {
     let no = |reason: &str| Ok(Blocks::Not(reason.into()));
     let Some((manifest, mut listed)) = files.first().and_then(|file| manifest::beside(file)) else {
         return no("no manifest names them");
@@ -167,11 +167,11 @@ fn of_one_survey(files: &[PathBuf]) -> Result<Blocks, Failure> {
     if !listed.files.is_empty() {
         return no(&format!("{shown} names {} more", listed.files.len()));
     }
-    Ok(if listed.closed {
-        Blocks::Closed
-    } else {
-        Blocks::Open
-    })
+    match listed.closed {
+        false => Ok(Blocks::Open),
+        true if listed.volume == Some(sum) => Ok(Blocks::Closed),
+        true => no(&format!("{shown} tells another volume, or none")),
+    }
 }
 
 #[cfg(test)]

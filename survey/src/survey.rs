@@ -15,7 +15,7 @@ use crate::measuring::{self, ClosedBed, Measured, Refused};
 use crate::numbers::Header;
 use crate::page::{Page, Weighed};
 use crate::plan::{self, Plan};
-use crate::said::Said;
+use crate::said::{Said, WRONG};
 use crate::sha256::Digest;
 use crate::told::{self, Digests};
 use crate::{blocks, fixtures, mesh, moved, npy, weighing};
@@ -103,7 +103,14 @@ pub fn survey(words: &[OsString]) -> Result<Said, Failure> {
     };
     let (weighed, mut written): (Vec<_>, Vec<_>) = found.blocks.into_iter().unzip();
     let measured = &found.measured;
-    let status = measured.status();
+    // The closed bed's files, joined, are its mesh: their sums are its volume.
+    let weights = weighed.iter().map(|one| one.weight);
+    let weights = weights.fold(Ok(weighing::NOTHING), weighing::together);
+    let adds_up = match (wanted, measured.volume()) {
+        (Wanted::ClosedFiles, Some(volume)) => weights.is_ok_and(|all| all.sum == volume),
+        _ => true,
+    };
+    let status = if adds_up { measured.status() } else { WRONG };
     let digests = if hashed {
         written
             .iter()
@@ -128,7 +135,7 @@ pub fn survey(words: &[OsString]) -> Result<Said, Failure> {
             scale,
             whole: survey.file_whole,
             blocks: made(&survey, &weighed, &digests),
-            volume: measured.volume(),
+            volume: measured.trusted().filter(|_| adds_up),
         }),
         None => None,
     };
@@ -158,6 +165,7 @@ pub fn survey(words: &[OsString]) -> Result<Said, Failure> {
         enclosed: found.enclosed,
         weighed: &weighed,
         measured,
+        adds_up,
         names: survey.names,
         levels: files.levels.as_deref(),
         json: files.json.as_deref(),

@@ -176,6 +176,7 @@ def closed():
         files.add(got("bed.mesh"))
         expect("no hole", balanced(triangles) and told["hole"] == "none")
         expect("the page's volume", sixfold(positions, triangles) == int(told["sixfold"]) and told["mesh"]["triangles"] == len(triangles) == told["closed_bed"]["triangles"])
+        expect("the file's sum", "counted: the sums of the files are the volume" in page)
         expect("said", "in the files, of the closed bed" in page and "\nvertices: a vertex stands in the grid -1, -1, -1 steps" in page)
         expect("bed volume says the same", bed("volume", "bed.mesh") == (0, f"sixfold {told['sixfold']} volume {told['volume_in_words']}\n", ""))
         moved = {tuple(round(c + 1, 4) for c in one) for one in opened[0]}
@@ -207,6 +208,14 @@ def closed():
         status, output, _ = bed("volume", *names)
         expect("one is another", status == 3 and f"{names[3]} is not what bed.manifest says" in output)
         put(names[3], good)
+        # a whole manifest that tells another volume, or none
+        before = got("bed.manifest")
+        for other in (str(int(told["sixfold"]) + 1), "none"):
+            text = before[:before.rindex(b"volume ")] + f"volume {other}\n".encode()
+            put("bed.manifest", text + b"sum " + hashlib.sha256(text).hexdigest().encode() + b"\n")
+            status, output, _ = bed("volume", *names)
+            expect(f"another volume: {output}", status == 3 and "bed.manifest tells another volume, or none" in output)
+        put("bed.manifest", before)
         put("bed.manifest", got("bed.manifest")[:-2] + b"\n")
         expect("no manifest", bed("volume", *names)[0] == 3)
         os.remove("bed.manifest")

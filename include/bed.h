@@ -887,6 +887,10 @@ enum bed_weigh_answer {
  * In any case the sums of the parts of a list of triangles add up to that of the whole, and those of the
  * pieces of a box that was cut to that of the whole box.
  *
+ * The sum over an open sheet is the volume between the sheet and the plane z = 0 over the sheet's own shadow. The
+ * sheet of a bed on floor and walls ends about half a step inside the walls: close the bed first (bed_close) where
+ * the whole tank is meant.
+ *
  * sum_low, sum_high and shadow are never null and may not overlap each other nor the lists; a list's pointer
  * may be null only where its length is 0.
  */

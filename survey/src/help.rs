@@ -38,7 +38,7 @@ them brings out. The mesh file is the same, byte for byte. If the grid's file ch
 
 pub fn of(command: &str) -> Option<String> {
     let parts: &[&str] = match command {
-        "survey" => &[SURVEY, MEMORY, LAYERS, GRID],
+        "survey" => &[SURVEY, MEMORY, LAYERS, TOLD, GRID],
         "mesh" => &[MESH, MEMORY, GRID],
         "info" => &[INFO],
         "volume" => &[VOLUME],
@@ -75,7 +75,10 @@ names them and they are what it says; any other of such a name is refused.
   --levels OUT.npy         the level of each column of the box: float32, shape y, x, not-a-number where no point is below zero; metres with --step
   --json FILE              every number of the page, and each claim with its standing
   -o BED.mesh              the mesh file
+";
 
+/// What its numbers and its status mean.
+const TOLD: &str = "
 The level of a column is where the line from its highest point below zero to the one above it crosses zero. Lowest and mean are over
 the columns with a point below zero. Exit status 3 where no volume is told: with --open, or where the grid is too large to be closed;
 4 where the cross-check fails, which the page's first line says. Files and page are there with both.

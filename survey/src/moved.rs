@@ -17,9 +17,8 @@ pub fn onto_the_closed(whole: &Block, blocks: &[Block]) -> Option<(Block, Vec<Bl
 }
 
 fn moved(whole: &Block, block: &Block) -> Block {
-    let sizes = sizes(whole);
     let mut moved = *block;
-    for axis in 0..3 {
+    for (axis, size) in sizes(whole).into_iter().enumerate() {
         let (low, high) = (whole.min[axis], whole.max[axis]);
         let place = |point: u32| point.clamp(low, high) - low + 1;
         let thick = block.max[axis] - block.min[axis];
@@ -28,7 +27,7 @@ fn moved(whole: &Block, block: &Block) -> Block {
         moved.max[axis] = match to >= high {
             // One cell, or none, stays that: such a block makes no face, and in the border it would.
             _ if thick < 2 => moved.min[axis] + thick,
-            true => sizes[axis] + 2,
+            true => size + 2,
             false => place(to),
         };
     }

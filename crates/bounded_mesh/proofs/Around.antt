@@ -92,7 +92,7 @@ module _ (b : Box) (n : GridPoint → Bool) (inner : (p : GridPoint) → T (n p)
     L' a q p = round v (sidesBack (inSteps q)) (edge a p)
 
     -- all sides, from both ends of each edge
-    sides-cancel : whole b (λ (a : Axis) (p : GridPoint). i p * L a p p + i (stepUp a p) * L' a (stepUp a p) p)
+    pub sides-cancel : whole b (λ (a : Axis) (p : GridPoint). i p * L a p p + i (stepUp a p) * L' a (stepUp a p) p)
         ≡ whole b (λ (a : Axis) (p : GridPoint). i p * L' a p p + i (stepUp a p) * L a (stepUp a p) p)
     sides-cancel =
         both-ends (λ (a : Axis) (p : GridPoint). L a p p) L'
@@ -104,10 +104,10 @@ module _ (b : Box) (n : GridPoint → Bool) (inner : (p : GridPoint) → T (n p)
   -- ---- one edge
 
   -- an edge with a weighed end is inside on both other axes
-  inside-b : (a : Axis) (p : GridPoint) → T (n p || n (stepUp a p)) → 0 < along (axisB a) p
+  pub inside-b : (a : Axis) (p : GridPoint) → T (n p || n (stepUp a p)) → 0 < along (axisB a) p
   inside-b a p = or-then (n p) (n (stepUp a p)) (λ h. omega (arith, inner p h (axisB a) .0)) (λ h. omega (arith, inner (stepUp a p) h (axisB a) .0, up-b a p))
 
-  inside-c : (a : Axis) (p : GridPoint) → T (n p || n (stepUp a p)) → 0 < along (axisC a) p
+  pub inside-c : (a : Axis) (p : GridPoint) → T (n p || n (stepUp a p)) → 0 < along (axisC a) p
   inside-c a p = or-then (n p) (n (stepUp a p)) (λ h. omega (arith, inner p h (axisC a) .0)) (λ h. omega (arith, inner (stepUp a p) h (axisC a) .0, up-c a p))
 
   -- what falls, f, and what rises, r, with the sides from the two ends, l and l', and the sides turned back, k and k'

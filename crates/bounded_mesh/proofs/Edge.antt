@@ -94,18 +94,18 @@ same-of : (n k m : ℕ) → k ≡ n → (256 * k ≤ m) × (m ≤ 256 * (k + 1))
 same-of n k m e h = omega (arith, h .0, h .1)
 
 -- where the four cells stand
-record Stands (a : Axis) (p : GridPoint) : Type 0 where
-  a2 : along a (cell2 (edge a p)) ≡ along a p
-  b2 : along (axisB a) (cell2 (edge a p)) ≡ along (axisB a) p - 1
-  c2 : along (axisC a) (cell2 (edge a p)) ≡ along (axisC a) p
-  a3 : along a (cell3 (edge a p)) ≡ along a p
-  b3 : along (axisB a) (cell3 (edge a p)) ≡ along (axisB a) p
-  c3 : along (axisC a) (cell3 (edge a p)) ≡ along (axisC a) p - 1
-  a4 : along a (cell4 (edge a p)) ≡ along a p
-  b4 : along (axisB a) (cell4 (edge a p)) ≡ along (axisB a) p - 1
-  c4 : along (axisC a) (cell4 (edge a p)) ≡ along (axisC a) p - 1
+pub record Stands (a : Axis) (p : GridPoint) : Type 0 where
+  pub a2 : along a (cell2 (edge a p)) ≡ along a p
+  pub b2 : along (axisB a) (cell2 (edge a p)) ≡ along (axisB a) p - 1
+  pub c2 : along (axisC a) (cell2 (edge a p)) ≡ along (axisC a) p
+  pub a3 : along a (cell3 (edge a p)) ≡ along a p
+  pub b3 : along (axisB a) (cell3 (edge a p)) ≡ along (axisB a) p
+  pub c3 : along (axisC a) (cell3 (edge a p)) ≡ along (axisC a) p - 1
+  pub a4 : along a (cell4 (edge a p)) ≡ along a p
+  pub b4 : along (axisB a) (cell4 (edge a p)) ≡ along (axisB a) p - 1
+  pub c4 : along (axisC a) (cell4 (edge a p)) ≡ along (axisC a) p - 1
 
-stands : (a : Axis) (p : GridPoint) → Stands a p
+pub stands : (a : Axis) (p : GridPoint) → Stands a p
 stands axisX p = record { a2 = refl; b2 = refl; c2 = refl; a3 = refl; b3 = refl; c3 = refl; a4 = refl; b4 = refl; c4 = refl }
 stands axisY p = record { a2 = refl; b2 = refl; c2 = refl; a3 = refl; b3 = refl; c3 = refl; a4 = refl; b4 = refl; c4 = refl }
 stands axisZ p = record { a2 = refl; b2 = refl; c2 = refl; a3 = refl; b3 = refl; c3 = refl; a4 = refl; b4 = refl; c4 = refl }

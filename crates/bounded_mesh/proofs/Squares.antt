@@ -51,10 +51,10 @@ module _ (v : Placing) (a : Axis) (p : GridPoint) where
   side31 = turning a p (v (cell3 (edge a p))) (v (cell1 (edge a p)))
 
   -- how far the vertices of the cells above and below the square with this normal axis are from it
-  abbrev above : ℕ
+  abbrev pub above : ℕ
   above = distance a p (v p)
 
-  abbrev below : ℕ
+  abbrev pub below : ℕ
   below = distance a p (v (stepDown a p))
 
 -- the two distances of a vertex from the two ends of its cell
@@ -92,7 +92,7 @@ module _ (v : Placing) (w : InCells v) where
       ≡ 512 * (above v n p + below v n p)
 
   -- opposite edges of a square have their terms together from the whole side of the square
-  square-is : (n : Axis) (p : GridPoint)
+  pub square-is : (n : Axis) (p : GridPoint)
       → side12 v (turned (turned n)) p + side43 v (turned (turned n)) (stepUp (turned n) p) + side31 v (turned n) p + side24 v (turned n) (stepUp (turned (turned n)) p)
       ≡ 512 * (above v n p + below v n p)
   unfolding turning
@@ -106,7 +106,7 @@ module _ (v : Placing) (w : InCells v) where
   up-along axisZ p = refl
 
   -- the two squares of a cell across an axis are 256 steps apart
-  across : (n : Axis) (p : GridPoint) → above v n p + below v n (stepUp n p) ≡ 256
+  pub across : (n : Axis) (p : GridPoint) → above v n p + below v n (stepUp n p) ≡ 256
   across n p = ap (λ (c : GridPoint). above v n p + distance n (stepUp n p) (v c)) (down-up n p) ∙ ends-at n p p refl (up-along n p)
 
 -- ---- sums over the three axes
@@ -156,7 +156,7 @@ module _ (b : Box) where
       shifted b (t a) (λ (p : GridPoint). k a p * f a p) (λ (p : GridPoint) h. zero-times (k a p) (f a p) (e a p (inl h)))
       (λ (p : GridPoint) h. zero-times (k a p) (f a p) (e a p (inr h)))
 
-  split-four : (k a b c d : ℕ) → k * (a + b + c + d) ≡ k * a + k * b + k * c + k * d
+  pub split-four : (k a b c d : ℕ) → k * (a + b + c + d) ≡ k * a + k * b + k * c + k * d
   split-four k a b c d = omega arith
 
   in-four : (f1 f2 f3 f4 : GridPoint → ℕ)
@@ -179,7 +179,7 @@ module _ (b : Box) where
         (moved k axisB atB (side24 v) a) (moved k axisC atC (side43 v) a)
 
     -- the four terms of a square, each with its edge's weight
-    abbrev squareSum : Axis → GridPoint → ℕ
+    abbrev pub squareSum : Axis → GridPoint → ℕ
     squareSum n p =
         k (turned (turned n)) p * side12 v (turned (turned n)) p
         + k (turned (turned n)) (stepUp (turned n) p) * side43 v (turned (turned n)) (stepUp (turned n) p)
@@ -213,7 +213,7 @@ module _ (b : Box) where
     T31 a = total (λ (p : GridPoint). k a p * side31 v a p) (points b)
 
     -- all edges' areas, by squares
-    by-squares : whole (λ (a : Axis) (p : GridPoint). k a p * round v (areaRound a p) (edge a p)) ≡ whole squareSum
+    pub by-squares : whole (λ (a : Axis) (p : GridPoint). k a p * round v (areaRound a p) (edge a p)) ≡ whole squareSum
     by-squares =
         by-axes (λ (a : Axis) (p : GridPoint). k a p * round v (areaRound a p) (edge a p))
         ∙ (λ i. on-axis axisX i + on-axis axisY i + on-axis axisZ i)
@@ -274,7 +274,7 @@ module _ {R : ℕ → ℕ → Type 0} (r : Order R) where
           (r .plus (r .times (512 * above v n p) (k .low n p)) (r .times (512 * below v n (stepUp n p)) (k .high n p)))
 
       -- the squares across one axis, each half with the cell that it belongs to
-      by-cells : (n : Axis) → total (λ (p : GridPoint). square n p * (512 * (above v n p + below v n p))) (points b)
+      pub by-cells : (n : Axis) → total (λ (p : GridPoint). square n p * (512 * (above v n p + below v n p))) (points b)
           ≡ total (λ (p : GridPoint). square n p * (512 * above v n p) + square n (stepUp n p) * (512 * below v n (stepUp n p))) (points b)
       by-cells n =
           total-same (all-each (λ (p : GridPoint). two-parts (square n p) (above v n p) (below v n p)) (points b))

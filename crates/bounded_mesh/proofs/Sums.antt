@@ -106,7 +106,7 @@ module _ (b : Box) where
   abbrev zs : List ℕ
   zs = upTo (b .low .z) (b .high .z + 1)
 
-  by-rows : (f : GridPoint → ℕ) → total f (points b) ≡ total (λ (z : ℕ). total (λ (y : ℕ). total (λ (x : ℕ). f (point x y z)) xs) ys) zs
+  pub by-rows : (f : GridPoint → ℕ) → total f (points b) ≡ total (λ (z : ℕ). total (λ (y : ℕ). total (λ (x : ℕ). f (point x y z)) xs) ys) zs
   unfolding points layerPoints
   by-rows f =
       total-joined f (layerPoints b) zs

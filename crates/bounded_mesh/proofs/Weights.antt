@@ -21,7 +21,7 @@ use Rattle.bounded_mesh.proofs.Around.{or-then}
 
 -- ---- at most and at least
 
-most : Order (λ (m n : ℕ). m ≤ n)
+pub most : Order (λ (m n : ℕ). m ≤ n)
 most = record { same = λ e. le-of-eq e; chain = λ h k. le-trans h k; plus = λ h k. add-le-add h k; times = λ k h. mul-le-mul-right k h }
 
 least : Order (λ (m n : ℕ). n ≤ m)
@@ -34,15 +34,15 @@ one-under false t h = omega arith
 -- ---- the eight corners of a cell
 
 -- said of each
-record Eight (P : GridPoint → Type 0) (p : GridPoint) : Type 0 where
-  c0 : P p
-  c1 : P (stepUp axisX p)
-  c2 : P (stepUp axisY p)
-  c3 : P (stepUp axisX (stepUp axisY p))
-  c4 : P (stepUp axisZ p)
-  c5 : P (stepUp axisX (stepUp axisZ p))
-  c6 : P (stepUp axisY (stepUp axisZ p))
-  c7 : P (stepUp axisX (stepUp axisY (stepUp axisZ p)))
+pub record Eight (P : GridPoint → Type 0) (p : GridPoint) : Type 0 where
+  pub c0 : P p
+  pub c1 : P (stepUp axisX p)
+  pub c2 : P (stepUp axisY p)
+  pub c3 : P (stepUp axisX (stepUp axisY p))
+  pub c4 : P (stepUp axisZ p)
+  pub c5 : P (stepUp axisX (stepUp axisZ p))
+  pub c6 : P (stepUp axisY (stepUp axisZ p))
+  pub c7 : P (stepUp axisX (stepUp axisY (stepUp axisZ p)))
 
 module _ (p : GridPoint) where
   z : (n : ℕ) → n + 0 ≡ n
@@ -84,7 +84,7 @@ module _ (n : GridPoint → Bool) where
   eight-at (suc (suc (suc (suc (suc (suc (suc zero))))))) h = refl
   eight-at (suc (suc (suc (suc (suc (suc (suc (suc i)))))))) h = absurd (omega arith)
 
-  all-eight : (p : GridPoint) → T (allCorners p) → Eight (λ (q : GridPoint). T (n q)) p
+  pub all-eight : (p : GridPoint) → T (allCorners p) → Eight (λ (q : GridPoint). T (n q)) p
   all-eight p t =
       eight-each p (λ i h. subst (λ (k : ℕ). T (n (cornerOf p k))) (eight-at i h)
       (all-at (many-full (λ (i : ℕ). n (cornerOf p i)) eight (eqb→eq (cornersIn p) 8 t)) i h 0))
@@ -96,35 +96,35 @@ module _ (n : GridPoint → Bool) where
 
   -- ---- squares
 
-  abbrev allFour : Axis → GridPoint → Bool
+  abbrev pub allFour : Axis → GridPoint → Bool
   allFour a p = n p && (n (stepUp (turned a) p) && (n (stepUp (turned (turned a)) p) && n (stepUp (turned a) (stepUp (turned (turned a)) p))))
 
   abbrev someOfFour : Axis → GridPoint → Bool
   someOfFour a p = n p || (n (stepUp (turned a) p) || (n (stepUp (turned (turned a)) p) || n (stepUp (turned a) (stepUp (turned (turned a)) p))))
 
   -- said of a square's four corners
-  record Corners (P : GridPoint → Type 0) (a : Axis) (p : GridPoint) : Type 0 where
-    d0 : P p
-    d1 : P (stepUp (turned a) p)
-    d2 : P (stepUp (turned (turned a)) p)
-    d3 : P (stepUp (turned a) (stepUp (turned (turned a)) p))
+  pub record Corners (P : GridPoint → Type 0) (a : Axis) (p : GridPoint) : Type 0 where
+    pub d0 : P p
+    pub d1 : P (stepUp (turned a) p)
+    pub d2 : P (stepUp (turned (turned a)) p)
+    pub d3 : P (stepUp (turned a) (stepUp (turned (turned a)) p))
 
-  low-square : {P : GridPoint → Type 0} (a : Axis) (p : GridPoint) → Eight P p → Corners P a p
+  pub low-square : {P : GridPoint → Type 0} (a : Axis) (p : GridPoint) → Eight P p → Corners P a p
   low-square axisX p e = record { d0 = e .c0; d1 = e .c2; d2 = e .c4; d3 = e .c6 }
   low-square axisY p e = record { d0 = e .c0; d1 = e .c4; d2 = e .c1; d3 = e .c5 }
   low-square axisZ p e = record { d0 = e .c0; d1 = e .c1; d2 = e .c2; d3 = e .c3 }
 
-  high-square : {P : GridPoint → Type 0} (a : Axis) (p : GridPoint) → Eight P p → Corners P a (stepUp a p)
+  pub high-square : {P : GridPoint → Type 0} (a : Axis) (p : GridPoint) → Eight P p → Corners P a (stepUp a p)
   high-square axisX p e = record { d0 = e .c1; d1 = e .c3; d2 = e .c5; d3 = e .c7 }
   high-square axisY p e = record { d0 = e .c2; d1 = e .c6; d2 = e .c3; d3 = e .c7 }
   high-square axisZ p e = record { d0 = e .c4; d1 = e .c5; d2 = e .c6; d3 = e .c7 }
 
-  four-in : (a : Axis) (p : GridPoint) → Corners (λ (q : GridPoint). T (n q)) a p → T (allFour a p)
+  pub four-in : (a : Axis) (p : GridPoint) → Corners (λ (q : GridPoint). T (n q)) a p → T (allFour a p)
   four-in a p c =
       let t3 = and-i (n (stepUp (turned (turned a)) p)) (n (stepUp (turned a) (stepUp (turned (turned a)) p))) (c .d2) (c .d3) in
       and-i (n p) _ (c .d0) (and-i (n (stepUp (turned a) p)) _ (c .d1) t3)
 
-  four-out : (a : Axis) (p : GridPoint) → T (allFour a p) → Corners (λ (q : GridPoint). T (n q)) a p
+  pub four-out : (a : Axis) (p : GridPoint) → T (allFour a p) → Corners (λ (q : GridPoint). T (n q)) a p
   four-out a p t =
       let t1 = and-r (n p) _ t in
       let t2 = and-r (n (stepUp (turned a) p)) _ t1 in
@@ -149,7 +149,7 @@ module _ (n : GridPoint → Bool) where
         d3 = λ t. or-second (n p) (n1 || (n2 || n3)) (or-second n1 (n2 || n3) (or-second n2 n3 t));
       }
 
-  two-ways : (a : Axis) (p : GridPoint) → stepUp (turned a) (stepUp (turned (turned a)) p) ≡ stepUp (turned (turned a)) (stepUp (turned a) p)
+  pub two-ways : (a : Axis) (p : GridPoint) → stepUp (turned a) (stepUp (turned (turned a)) p) ≡ stepUp (turned (turned a)) (stepUp (turned a) p)
   two-ways axisX p = refl
   two-ways axisY p = refl
   two-ways axisZ p = refl
@@ -202,7 +202,7 @@ module _ (n : GridPoint → Bool) where
                 record { d0 = outside a p p (e .d0) h; d1 = outside a p (stepUp (turned a) p) (e .d1) h; d2 = outside a p (stepUp (turned (turned a)) p) (e .d2) h; d3 = outside a p (stepUp (turned a) (stepUp (turned (turned a)) p)) (e .d3) h }));
           }
 
-      whole-weights : Weights most b v w (λ (p : GridPoint). one (allCorners p)) (λ (a : Axis) (p : GridPoint). one (allFour a p)) (λ (a : Axis) (p : GridPoint). one (both a p))
+      pub whole-weights : Weights most b v w (λ (p : GridPoint). one (allCorners p)) (λ (a : Axis) (p : GridPoint). one (allFour a p)) (λ (a : Axis) (p : GridPoint). one (both a p))
       whole-weights =
           record {
             low = λ a p. one-under (allCorners p) (allFour a p) (λ t. four-in a p (low-square a p (all-eight p t)));

@@ -1,0 +1,2 @@
+-- What the theorems on a full tank are stated with. Assumes nothing.
+pub mod Tank

@@ -1,10 +1,11 @@
 -- The theorems over the contracts themselves: after an answer 0 of a call that closes a full tank with a far wall, a mesh call answered 0 on the whole closed grid,
--- with any flags, leaves a mesh that weighs exactly the cells between the open grid's outermost points; and the weighing never refuses it and says so.
+-- with any flags, leaves a mesh that weighs exactly the cells between the open grid's outermost points; the weighing never refuses it and says so, and the volume's
+-- call says the same where it is answered 0.
 -- Assumes nothing.
 use Prim.Native.Nat.{ℕ, _<_}
 use mathlib.Core.Bool.{not}
 use mathlib.Core.List.{List}
-use mathlib.Core.Path.{_≡_, sym, ap, subst, _∙_}
+use mathlib.Core.Path.{_≡_, refl, sym, ap, subst, _∙_}
 use denote.Ref.{now}
 use lib.Dec.{T}
 use lib.IntN.{pos}
@@ -22,22 +23,23 @@ use Rattle.skin.specs.Links.{links}
 use Rattle.skin.specs.Enclosed.{Enclosed}
 use Rattle.skin.proofs.Skin.{skin-law}
 use Rattle.closing.specs.Closed.{closedDims, pointCount, openField, closedList}
-use Rattle.weigh.specs.Answers.{sumIn}
+use Rattle.weigh.specs.Answers.{weight as answered, sumIn}
 use Rattle.promises.specs.Served.{Served, Done}
 use Rattle.promises.proofs.Done.{done-accepts}
 use Rattle.promises.proofs.ReadBack.{indices-back}
 use Rattle.promises.proofs.Runs.{Run, gridOf, dimsOf, lowOf, highOf, planeOf, served, BedRun, bedGrid, bedDims, bedLow, bedHigh, bedPlane, bedServed}
 use Rattle.closed_mesh.proofs.Outcome.{Input, input}
-use Rattle.weighed_mesh.specs.Told.{positionsOf, indicesOf, weightOf}
+use Rattle.weighed_mesh.specs.Told.{Told as Volumed, positionsOf, indicesOf, weightOf}
 use Rattle.weighed_mesh.proofs.Sides.{Even}
 use Rattle.weighed_mesh.proofs.Faces.{sumZ, faceSum}
 use Rattle.weighed_mesh.proofs.Cut.{weight-is}
+use Rattle.weighed_mesh.proofs.Mesh.{OwnMesh as OwnVolume}
 use Rattle.closed_bed.specs.Standing.{FarWall}
 use Rattle.closed_bed.proofs.Values.{Closes, call-accepted, call-closed}
 use Rattle.closed_bed.proofs.Enclosing.{closed-enclosed}
 use Rattle.closed_bed.proofs.Outcome.{closedExtent, origin, farCorner, closedInput, Close, closeDims, closeExit, close-is, Close16, closeDims16, closeExit16, close-is-16, Close8, closeDims8, closeExit8, close-is-8, BedClose, bedCloseDims, bedCloseExit, bed-close-is, BedClose16, bedCloseDims16, bedCloseExit16, bed-close-is-16, BedClose8, bedCloseDims8, bedCloseExit8, bed-close-is-8}
 use Rattle.weighed_bed.specs.Told.{Told}
-use Rattle.weighed_bed.proofs.Agree.{pillars-sixfold}
+use Rattle.weighed_bed.proofs.Agree.{pillars-sixfold, own-mesh-agree}
 use Rattle.weighed_bed.proofs.Fits.{OwnMesh, own-mesh-done, own-mesh-sum}
 use Rattle.full_tank.specs.Tank.{Full, fullWeight}
 use Rattle.full_tank.proofs.Filled.{faces-weigh}
@@ -48,6 +50,8 @@ pub record WeighsFull (u : Served) (dims : Extent) : Type 0 where
   pub weight : weightOf u ≡ pos (fullWeight (point dims))
   -- a call of the weighing on them is answered 0, and has that sum
   pub weighed : (t : Told) → OwnMesh u t → (t .says .answer ≡ 0) × (sumIn (t .says) ≡ pos (fullWeight (point dims)))
+  -- and a call of the volume on them, where it is answered 0
+  pub volume : (t : Volumed) → OwnVolume u t → t .says .volume ≡ pos (fullWeight (point dims))
 
 -- ---- a call that closed a grid, and a mesh call on what it left
 
@@ -75,18 +79,25 @@ module _ {dims : Extent} {wall : Float} {sdf old exit : List Float} {r : ℕ} (c
       ∙ ap (λ (k : Call). sumZ (faceSum (k .grid)) (edges (k .grid) (k .box) (k .flags))) made
       ∙ faces-weigh (point dims) sdf wall (length old) (call-accepted c) far fine numbers full (call .flags)
 
+  enclosed : Enclosed (u .call .grid) (u .call .box)
+  enclosed = subst (λ (k : Call). Enclosed (k .grid) (k .box)) (sym made) (closed-enclosed (point dims) sdf wall (call-accepted c .far))
+
   even : Even (links (indicesOf u))
-  even =
-      subst (λ (l : List ℕ). Even (links l)) (sym (indices-back u done))
-      (skin-law (u .call .grid) (u .call .box) (u .call .flags)
-      (subst (λ (k : Call). Enclosed (k .grid) (k .box)) (sym made) (closed-enclosed (point dims) sdf wall (call-accepted c .far))))
+  even = subst (λ (l : List ℕ). Even (links l)) (sym (indices-back u done)) (skin-law (u .call .grid) (u .call .box) (u .call .flags) enclosed)
+
+  weighed : (t : Told) → OwnMesh u t → (t .says .answer ≡ 0) × (sumIn (t .says) ≡ pos (fullWeight (point dims)))
+  weighed t o = (own-mesh-done u t done o, own-mesh-sum u t done o ∙ pillars-sixfold (positionsOf u) (indicesOf u) even ∙ weight)
+
+  -- the volume's call agrees with the weighing of the same lists
+  volume : (t : Volumed) → OwnVolume u t → t .says .volume ≡ pos (fullWeight (point dims))
+  volume t o =
+      let s : Told = record { positions = t .positions; first = 0; indices = t .indices; says = answered (t .positions) 0 (t .indices); told = refl } in
+      let own : OwnMesh u s = record { positions = o .positions; first = refl; indices = o .indices } in
+      sym (own-mesh-agree u s t done enclosed (o .positions) (o .indices) (record { first = refl; positions = refl; indices = refl; weighed = weighed s own .0; volumed = o .weighed }))
+      ∙ weighed s own .1
 
   pub weighs-full : WeighsFull u dims
-  weighs-full =
-      record {
-        weight = weight;
-        weighed = λ t o. (own-mesh-done u t done o, own-mesh-sum u t done o ∙ pillars-sixfold (positionsOf u) (indicesOf u) even ∙ weight);
-      }
+  weighs-full = record { weight = weight; weighed = weighed; volume = volume }
 
 -- ---- close, then surface_nets, for each width
 

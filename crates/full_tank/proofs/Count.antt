@@ -25,7 +25,7 @@ use Rattle.full_tank.proofs.Areas.{Whole, whole-corners, corners-whole}
 
 -- ---- on one axis
 
-within : (m k : ℕ) → 1 ≤ k → k ≤ m → T (between 1 m k)
+pub within : (m k : ℕ) → 1 ≤ k → k ≤ m → T (between 1 m k)
 within m k l h = and-i (leb 1 k) (leb k m) (le→leb 1 k l) (le→leb k m h)
 
 abbrev found : ℕ → ℕ → ℕ

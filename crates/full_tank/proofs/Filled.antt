@@ -46,7 +46,7 @@ use Rattle.full_tank.specs.Tank.{Full, fullWeight}
 use Rattle.full_tank.proofs.Tank.{InTank, Near, Tank}
 use Rattle.full_tank.proofs.Edges.{point-level, edges-exact}
 use Rattle.full_tank.proofs.Areas.{areas-exact}
-use Rattle.full_tank.proofs.Count.{cells-between}
+use Rattle.full_tank.proofs.Count.{within, cells-between}
 
 -- ---- steps of a whole number
 
@@ -105,9 +105,6 @@ module _ (d : GridPoint) (sdf : List Float) (wall : Float) (room : ℕ) (ok : Ac
       go o axisY = o .y
       go o axisZ = o .z
 
-  between-in : (m k : ℕ) → (1 ≤ k) × (k ≤ m) → T (between 1 m k)
-  between-in m k h = and-i (leb 1 k) (leb k m) (le→leb 1 k (h .0)) (le→leb k m (h .1))
-
   from : (p : GridPoint) → InTank d p → T (inSludge closed box p)
   from p h =
       let x = h axisX in
@@ -115,8 +112,8 @@ module _ (d : GridPoint) (sdf : List Float) (wall : Float) (room : ℕ) (ok : Ac
       let z = h axisZ in
       let i : T (inBox box p) = in-box box p (record { x = (omega arith, omega arith); y = (omega arith, omega arith); z = (omega arith, omega arith) }) in
       let o : T (inOpen d p) =
-      and-i (between 1 (d .x) (p .x)) (between 1 (d .y) (p .y) && between 1 (d .z) (p .z)) (between-in (d .x) (p .x) x)
-      (and-i (between 1 (d .y) (p .y)) (between 1 (d .z) (p .z)) (between-in (d .y) (p .y) y) (between-in (d .z) (p .z) z)) in
+      and-i (between 1 (d .x) (p .x)) (between 1 (d .y) (p .y) && between 1 (d .z) (p .z)) (within (d .x) (p .x) (x .0) (x .1))
+      (and-i (between 1 (d .y) (p .y)) (between 1 (d .z) (p .z)) (within (d .y) (p .y) (y .0) (y .1)) (within (d .z) (p .z) (z .0) (z .1))) in
       let e : value closed p ≡ value (openField d sdf) (openPoint p) = closed-point d sdf wall p i ∙ value-open (openField d sdf) wall p (is-true (inOpen d p) o) in
       let l : index d (openPoint p) < length sdf =
       le-trans (volume d (openPoint p) (omega arith) (omega arith) (omega arith)) (le-of-eq (sym (right-length d (length sdf) (failed refl (ok .sized))))) in

@@ -1,5 +1,5 @@
--- Two weights as numbers, and a full tank of 2 by 4 by 3 points meshed and weighed by the kernel from the definitions alone. The numbers are worked out by hand: 6·256³ is
--- 100663296, and there are 2·4·7, none and 1·3·2 cells. Assumes nothing.
+-- Two weights as numbers, and a full tank of 2 by 3 by 2 points meshed and weighed by the kernel from the definitions alone. The numbers are worked out by hand: 6·256³ is
+-- 100663296, and there are 2·4·7, none and 1·2·1 cells. Assumes nothing.
 use Prim.Native.Nat.{ℕ}
 use mathlib.Core.Bool.{Bool, true, false, cond}
 use mathlib.Core.Path.{_≡_, refl}
@@ -33,12 +33,12 @@ opened = tt
 
 -- -0.75 at one point, and -1.0 at the others
 abbrev sludge : Field
-sludge = record { dims = point 2 4 3; dist = λ (i : ℕ). cond (eqb i 5) (fin true 3 (negsuc 1)) (fin true 1 (pos 0)) }
+sludge = record { dims = point 2 3 2; dist = λ (i : ℕ). cond (eqb i 5) (fin true 3 (negsuc 1)) (fin true 1 (pos 0)) }
 
 -- the wall is 2 ^ 25
 abbrev tank : Field
 tank = closedField sludge (wallAt 149)
 
-pub tank-weight : sumZ (faceSum tank) (edges tank (wholeBox (closedDims (point 2 4 3))) (allThree false)) ≡ pos 603979776
+pub tank-weight : sumZ (faceSum tank) (edges tank (wholeBox (closedDims (point 2 3 2))) (allThree false)) ≡ pos 201326592
 unfolding opened
 tank-weight = refl

@@ -128,6 +128,23 @@ def dims():
     return {"dims": three() if random.random() < 0.4 else (3, 3, 3)} if random.random() < 0.8 else {}
 
 
+def small():
+    """dimensions that a layer of nine points fits, or others; none so large that memory for them is slow to take"""
+    made = (3, 3, random.randrange(1, 4)) if random.random() < 0.8 else three()
+    if not isinstance(made, (tuple, list)):
+        return made
+    return [size if size not in (2 ** 24, 2 ** 24 + 1) else 2 ** 24 + 2 for size in made]
+
+
+def layer():
+    kind = random.random()
+    return floats(9) if kind < 0.5 else floats(0) if kind < 0.8 else buffer()
+
+
+def real():
+    return random.choice((1.0, 2.0 ** 30, 0.0, -1.0, float("nan"), float("inf"), 1e300, -0.0, 3, 10 ** 400, None, "text", number()))
+
+
 CALLS = {
     "surface_nets": lambda: repr(bed.surface_nets(buffer(), **dims(), **words({**BOX, "max_plane": flags}))),
     "counts": lambda: bed.counts(buffer(), **dims(), **words({**BOX, "max_plane": flags})),
@@ -136,6 +153,13 @@ CALLS = {
     "Block": lambda: repr(bed.Block(**words({**BOX, "max_plane": flags}))),
     "cut_fixtures": lambda: bed.cut_fixtures(file() if random.random() < 0.7 else buffer(), buffer(), **dims()),
     "volume": lambda: bed.volume(*lists()[::2]),
+    "weigh": lambda: bed.weigh(*lists()[::2], **words({"first": number})),
+    "deepest": lambda: bed.deepest(buffer(), **words({"so_far": real}), **dims()),
+    "wall_for": lambda: bed.wall_for(real()),
+    "close": lambda: bed.close(buffer(), **words({"wall": real}), **dims()),
+    "close_layer": lambda: bed.close_layer(layer(), small(), number() if random.random() < 0.3 else random.randrange(6), real()),
+    "levels": lambda: bed.levels(buffer(), **dims(), **words(BOX)),
+    "levels_layer": lambda: bed.levels_layer(layer(), layer(), small(), random.choice((0, 1, 2, number())), floats(9) if random.random() < 0.8 else buffer(), **words(BOX)),
     "write_mesh": lambda: bed.write_mesh(bed.Mesh(*lists())),
     "write_record": lambda: bed.write_record(file() if random.random() < 0.6 else buffer(), number(), record()),
     "check_mesh": lambda: bed.check_mesh(file() if random.random() < 0.7 else buffer()),

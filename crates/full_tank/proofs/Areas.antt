@@ -8,7 +8,7 @@ use mathlib.Core.Logic.{inl, inr}
 use mathlib.Core.Path.{_≡_, refl, sym, ap, subst, _∙_}
 use lib.Dec.{T, eqb}
 use lib.Ieee.Fits.{and-i, and-l, and-r}
-use Rattle.lists.specs.Lists.{one, many}
+use Rattle.lists.specs.Lists.{one}
 use Rattle.lists.proofs.Lists.{All, none, more, all-each, all-then, total, total-same, total-scaled, many-every}
 use Rattle.lists.proofs.Tests.{less-or-not}
 use Rattle.rules.specs.Grid.{GridPoint, Axis, axisX, axisY, axisZ, Box, along, stepUp, stepDown, turned}
@@ -20,9 +20,9 @@ use Rattle.closed_bed.proofs.Sides.{sideOf}
 use Rattle.closed_bed.proofs.Standing.{corner-along}
 use Rattle.bounded_mesh.specs.Round.{distance, turning, areaRound, Placing, InCells, round}
 use Rattle.bounded_mesh.proofs.Edge.{Stands, stands}
-use Rattle.bounded_mesh.proofs.Squares.{down-up, side12, side24, side43, side31, above, below, square-is, across, whole, by-axes, split-four, squareSum, by-squares, Weights, by-cells}
-use Rattle.bounded_mesh.proofs.Weights.{most, allCorners, cornersIn, allFour, Corners, Eight, all-eight, low-square, high-square, four-in, four-out, two-ways, whole-weights}
-use Rattle.full_tank.proofs.Tank.{InTank, Near, Tank, up-along, up-tank, down-tank, near-tank, near-down, near-under, gap-high, gap-low}
+use Rattle.bounded_mesh.proofs.Squares.{side12, side24, side43, side31, above, below, square-is, across, whole, by-axes, split-four, squareSum, by-squares, Weights, by-cells}
+use Rattle.bounded_mesh.proofs.Weights.{most, allCorners, allFour, Corners, all-eight, low-square, high-square, four-in, four-out, two-ways, whole-weights}
+use Rattle.full_tank.proofs.Tank.{InTank, Near, Tank, up-along, up-tank, down-tank, near-tank, near-down, gap-high, gap-low}
 
 -- ---- axes
 
@@ -150,9 +150,6 @@ module _ {d : GridPoint} {n : GridPoint → Bool} {v : Placing} (k : Tank d n v)
 
     abbrev C : Axis
     C = turned (turned a)
-
-    abbrev A4 : Bool
-    A4 = allFour n a p
 
     all : T (n p) → T (n (stepUp B p)) → T (n (stepUp C p)) → T (n (stepUp B (stepUp C p))) → T (allFour n a p)
     all h0 h1 h2 h3 = four-in n a p (record { d0 = h0; d1 = h1; d2 = h2; d3 = h3 })

@@ -3,15 +3,14 @@ use Prim.Native.Nat.{ℕ, zero, suc, _+_, _-_, _*_, _≤_}
 use native.Mathlib.Omega.{arith}
 use mathlib.Core.Bool.{Bool, true, false, _&&_}
 use mathlib.Core.List.{List, [], _∷_}
-use mathlib.Core.Logic.{inl, inr}
-use mathlib.Core.Path.{_≡_, refl, sym, ap, _∙_}
+use mathlib.Core.Path.{_≡_, refl, ap, _∙_}
 use lib.Dec.{T, leb, le→leb}
 use lib.Ieee.Fits.{and-i, and-l, and-r}
 use Rattle.lists.specs.Lists.{one, upTo}
 use Rattle.lists.proofs.Lists.{all-each, total, total-same, total-scaled}
 use Rattle.lists.proofs.Runs.{upTo-none, upTo-last}
-use Rattle.lists.proofs.Tests.{one-of, one-not, same-test, less-or-not}
-use Rattle.rules.specs.Grid.{GridPoint, Axis, axisX, axisY, axisZ, between}
+use Rattle.lists.proofs.Tests.{one-of, one-not, same-test}
+use Rattle.rules.specs.Grid.{GridPoint, axisX, axisY, axisZ, between}
 use Rattle.rules.specs.Faces.{points}
 use Rattle.closing.specs.Closed.{closedDims}
 use Rattle.closed_bed.specs.Standing.{wholeBox}

@@ -8,26 +8,26 @@ use mathlib.Core.List.{List}
 use mathlib.Core.Logic.{inl, inr}
 use mathlib.Core.Path.{_≡_, refl, sym, ap, subst, _∙_}
 use lib.Dec.{T, leb, le→leb}
-use lib.IntN.{ℤ, pos, _+ℤ_, _-ℤ_, +ℤ-negℤ-cancel}
-use lib.Ieee.{Float, nan, binary32, fits}
+use lib.IntN.{pos, _+ℤ_, _-ℤ_, +ℤ-negℤ-cancel}
+use lib.Ieee.{Float, nan, binary32}
 use lib.Ieee.Bits.{is-true}
 use lib.Ieee.Fits.{and-i, and-l, and-r}
-use lib.ListN.{length, getD}
+use lib.ListN.{length}
 use Rattle.lists.specs.Floats.{Binary32}
-use Rattle.lists.specs.Lists.{one, many}
+use Rattle.lists.specs.Lists.{one}
 use Rattle.lists.proofs.Lists.{total, many-some, many-less}
 use Rattle.lists.proofs.Tests.{failed, less-or-not}
 use Rattle.rules.specs.Grid.{GridPoint, Axis, axisX, axisY, axisZ, Box, Field, along, index, between, inBox, isCell, value}
 use Rattle.rules.specs.Cell.{Vector, float, negative, negatives, cornerOf, values}
 use Rattle.rules.specs.Vertices.{surfaceCell, vertexPosition}
 use Rattle.rules.specs.Faces.{Flags, edges, shorter, points}
-use Rattle.rules.specs.Call.{badDimensions, badDistance}
+use Rattle.rules.specs.Call.{badDistance}
 use Rattle.rules.proofs.Indexes.{Small, small, volume, right-length, index-below, in-box, is-cell, corner-in-box}
 use Rattle.rules.proofs.FourCells.{corner-value}
 use Rattle.rounding.proofs.Operations.{of-whole}
 use Rattle.volume.specs.Steps.{steps}
 use Rattle.volume.proofs.Coordinate.{value-steps}
-use Rattle.skin.specs.Enclosed.{Inner, Enclosed}
+use Rattle.skin.specs.Enclosed.{Enclosed}
 use Rattle.weighed_mesh.specs.Facing.{stepsOf, onAxis, vertexSteps}
 use Rattle.weighed_mesh.proofs.Faces.{sumZ, faceSum}
 use Rattle.closing.specs.Closed.{closedDims, inOpen, openPoint, openField, closedList}
@@ -39,7 +39,6 @@ use Rattle.closed_bed.proofs.Sides.{sideOf}
 use Rattle.closed_bed.proofs.Standing.{corner-along, stands}
 use Rattle.bounded_mesh.specs.Round.{inSteps, InCells}
 use Rattle.bounded_mesh.specs.Placed.{inSludge, placed}
-use Rattle.bounded_mesh.proofs.Squares.{whole}
 use Rattle.bounded_mesh.proofs.Weights.{allCorners}
 use Rattle.bounded_mesh.proofs.Meshed.{placed-within, inner, Difference, faces-difference}
 use Rattle.full_tank.specs.Tank.{Full, fullWeight}
@@ -91,9 +90,6 @@ module _ (d : GridPoint) (sdf : List Float) (wall : Float) (room : ℕ) (ok : Ac
 
   abbrev box : Box
   box = wholeBox (closedDims d)
-
-  abbrev n : GridPoint → Bool
-  n = inSludge closed box
 
   to : (p : GridPoint) → T (inSludge closed box p) → InTank d p
   to p t =

@@ -1,12 +1,12 @@
 -- Two weights as numbers, and a full tank of 2 by 3 by 2 points meshed and weighed by the kernel from the definitions alone. The numbers are worked out by hand: 6·256³ is
 -- 100663296, and there are 2·4·7, none and 1·2·1 cells. Assumes nothing.
 use Prim.Native.Nat.{ℕ}
-use mathlib.Core.Bool.{Bool, true, false, cond}
+use mathlib.Core.Bool.{true, false, cond}
 use mathlib.Core.Path.{_≡_, refl}
 use lib.Count.{trailingZeros}
 use lib.Dec.{eqb}
 use lib.IntN.{pos, negsuc}
-use lib.Ieee.{Float, fin, add, sub, mul, div, lt, ofInt, round, size, units, odd, neg, sum, span, climb}
+use lib.Ieee.{fin, add, sub, mul, div, lt, ofInt, round, size, units, odd, neg, sum, span, climb}
 use Rattle.lists.specs.Lists.{run, upTo, keep, many, joined}
 use Rattle.rules.specs.Grid.{GridPoint, Field}
 use Rattle.rules.specs.Cell.{fraction, pointBetween, crossingPoint, crossingPoints, summed, crossings, centroid, position}

@@ -1,6 +1,6 @@
 -- The points of a tank in its closed grid, from 1 to the dimension on every axis, and a vertex for every cell, that of a border cell on the plane of the outermost
 -- points. Where a step leaves the tank. Assumes nothing.
-use Prim.Native.Nat.{ℕ, _+_, _-_, _*_, _≤_, _<_}
+use Prim.Native.Nat.{ℕ, _+_, _-_, _*_, _≤_}
 use native.Mathlib.Nat.{le-trans}
 use native.Mathlib.Omega.{arith}
 use mathlib.Core.Bool.{Bool}

@@ -8,6 +8,9 @@ use crate::scale::Scale;
 use crate::weighing::{as_number, in_grid_steps};
 use bed::Block;
 
+/// 2^99: for a point as deep as this below zero the wall that `bed::wall_for` tells is still 2^25 times as far.
+const FAR_ENOUGH: f32 = f32::from_bits((127 + 99) << 23);
+
 pub struct Told<'a> {
     pub whole: &'a Block,
     pub blocks: &'a [Block],
@@ -89,6 +92,11 @@ impl Told<'_> {
             format!("by a border of points of {}, one layer at min and two at max on each axis: {vertices} vertices, {triangles} triangles", f64::from(*wall)),
         );
         lines.rests("proved: inside the border every distance is the box's own, and everywhere else the wall's");
+        lines.rests(if self.measured.looked.deepest <= FAR_ENOUGH {
+            "proved: the vertices of the border's cells stand on the planes of the box's outermost points, bit for bit"
+        } else {
+            "not claimed: where the wall stands; a point lies deeper below zero than any wall that is taken is far enough for"
+        });
         lines.rests(match closed.beyond {
             0 => "counted: no vertex lies beyond the box's outermost points".into(),
             some => {
@@ -183,6 +191,12 @@ impl Told<'_> {
         lines.rests(format!(
             "counted: {} cells with all corners below zero, {} with some, {} of those between points of the grid, {} edges that change sign; by code that shares nothing with the library",
             counts.below, counts.surface, counts.open_surface, counts.changes
+        ));
+        let (low, high) = counts.bounds();
+        lines.rests(format!(
+            "proved: the volume of a closed bed with these counts lies from {} to {}",
+            in_grid_steps(low),
+            in_grid_steps(high)
         ));
     }
 

@@ -144,7 +144,7 @@ impl Told<'_> {
         if matches!(&self.measured.closed, Some(Ok(closed)) if closed.by_layers) {
             lines.rests("not proved: the sum over the layers, each weighed by itself and added up by this command");
         }
-        lines.rests("not claimed: how far the rounded mesh is from the sludge; measured, it is low by about an eighth of a cubed step for each step of wall (docs/ACCURACY.md)");
+        lines.rests("not claimed: how far the rounded mesh is from the sludge; on the beds of docs/ACCURACY.md within 0.03 grid steps of mean level");
         self.below_zero(lines);
     }
 

@@ -111,11 +111,18 @@ fn errors(bed: &Bed, size: u32, width: Width) -> (f64, f64) {
     (volume / truth - 1.0, worst)
 }
 
-/// What may not be: a slope more than 0.05 % off at 129 points, any bed more than 0.15 %; floats whose volume is not ten times as near at 257 points as at 33;
+/// What may not be: a slope more than 0.05 % off at 129 points, any bed more than 0.15 %; any volume more than 0.03 steps of mean level over the tank; floats whose volume is not ten times as near at 257 points as at 33;
 /// and a level of a height more than a unit of its distances off.
 fn too_far(bed: &Bed, width: Width, found: &[(f64, f64); 4]) -> bool {
     let slope = bed.name == "slope" && found[2].0.abs() > 0.0005;
     let volume = found[2].0.abs() > 0.0015;
+    let mean_level =
+        |(&(volume, _), size): (&(f64, f64), u32)| volume * bed.volume * f64::from(size - 1);
+    let mean = found
+        .iter()
+        .zip(SIZES)
+        .map(mean_level)
+        .any(|level| level.abs() > 0.03);
     let falls = 10.0 * found[3].0.abs() <= found[0].0.abs();
     let unit = match width {
         Width::Float32 => 0.001,
@@ -124,7 +131,7 @@ fn too_far(bed: &Bed, width: Width, found: &[(f64, f64); 4]) -> bool {
     };
     let straight = matches!(bed.shape, beds::Shape::Height(_));
     let level = straight && found.iter().any(|&(_, level)| level > unit);
-    slope || volume || level || matches!(width, Width::Float32) && !falls
+    slope || volume || mean || level || matches!(width, Width::Float32) && !falls
 }
 
 fn main() -> ExitCode {

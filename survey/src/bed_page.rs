@@ -114,7 +114,9 @@ impl Told<'_> {
             false => lines.found("hole", "not ruled out, of the closed bed"),
         }
         if closed.by_layers {
-            lines.rests("not proved: that the layers' answers, each asked by itself, make up the whole grid's");
+            lines.rests(
+                "not proved: that this command hands on the closed grid's layers in their order",
+            );
         }
     }
 
@@ -142,7 +144,8 @@ impl Told<'_> {
         );
         lines.rests("proved: the exact sum over the closed bed's triangles, coordinates rounded down to 1/256");
         if matches!(&self.measured.closed, Some(Ok(closed)) if closed.by_layers) {
-            lines.rests("not proved: the sum over the layers, each weighed by itself and added up by this command");
+            lines.rests("proved: the sums of the layers, each weighed from its own positions and those of the layer below, make up the whole's");
+            lines.rests("counted: added up by this command");
         }
         lines.rests("not claimed: how far the rounded mesh is from the sludge; on the beds of docs/ACCURACY.md within 0.03 grid steps of mean level");
         self.below_zero(lines);
@@ -192,7 +195,6 @@ impl Told<'_> {
             "counted: {} cells with all corners below zero, {} with some, {} of those between points of the grid, {} edges that change sign; by code that shares nothing with the library",
             counts.below, counts.surface, counts.open_surface, counts.changes
         ));
-        let (low, high) = counts.bounds();
         lines.rests(format!(
             "proved: the volume of a closed bed with these counts lies from {} to {}",
             in_grid_steps(low),

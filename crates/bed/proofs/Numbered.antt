@@ -1,0 +1,61 @@
+-- What the boundary's words and loose numbers stand for, on numbers no two of which are alike: a word, a corner, a flag or a length that is read at another's place, in
+-- the definition and in the code alike, would show here. Computed by the kernel; the wanted records are written out by include/bed.h's order. Assumes nothing.
+use mathlib.Core.Bool.{true, false}
+use mathlib.Core.List.{[], _∷_}
+use mathlib.Core.Path.{_≡_, refl}
+use Rattle.rules.specs.Grid.{GridPoint, Box}
+use Rattle.rules.specs.Faces.{Flags}
+use Rattle.rules.specs.Call.{Room, Answer}
+use Rattle.grid.specs.declared.Block.{Block}
+use Rattle.bed.specs.Boundary.{asked, roomAsked, said}
+use Rattle.bed.specs.Layered.{blockAsked}
+use Rattle.bed.specs.Words12.{blockWords}
+
+abbrev wantedBlock : Block
+wantedBlock =
+    record {
+      dims = record { x = 11; y = 12; z = 13 };
+      low = record { x = 21; y = 22; z = 23 };
+      high = record { x = 31; y = 32; z = 33 };
+      «max_plane» = record { x = false; y = true; z = false };
+    }
+
+-- twelve words: dims, min, max, max_plane, each x, y, z; a flag is set by any word but 0
+pub twelve-words : blockWords (11 ∷ 12 ∷ 13 ∷ 21 ∷ 22 ∷ 23 ∷ 31 ∷ 32 ∷ 33 ∷ 0 ∷ 5 ∷ 0 ∷ []) ≡ wantedBlock
+twelve-words = refl
+
+-- twelve arguments of a bed taken layer by layer
+pub twelve-arguments : blockAsked 11 12 13 21 22 23 31 32 33 false true false ≡ wantedBlock
+twelve-arguments = refl
+
+-- the same of the call: its dimensions, its box and its flags
+abbrev wantedDimensions : GridPoint
+wantedDimensions = record { x = 11; y = 12; z = 13 }
+
+pub call-dimensions : asked [] 11 12 13 21 22 23 31 32 33 false true false .grid .dims ≡ wantedDimensions
+call-dimensions = refl
+
+abbrev wantedBox : Box
+wantedBox = record { low = record { x = 21; y = 22; z = 23 }; high = record { x = 31; y = 32; z = 33 } }
+
+pub call-box : asked [] 11 12 13 21 22 23 31 32 33 false true false .box ≡ wantedBox
+call-box = refl
+
+abbrev wantedFlags : Flags
+wantedFlags = record { x = false; y = true; z = false }
+
+pub call-flags : asked [] 11 12 13 21 22 23 31 32 33 false true false .flags ≡ wantedFlags
+call-flags = refl
+
+-- seven lengths, and an answer with its counts
+abbrev wantedRoom : Room
+wantedRoom = record { positions = 1; normals = 2; cells = 3; strides = 4; crossings = 5; map = 6; indices = 7 }
+
+pub seven-lengths : roomAsked 1 2 3 4 5 6 7 ≡ wantedRoom
+seven-lengths = refl
+
+abbrev wantedAnswer : Answer
+wantedAnswer = record { number = 6; vertices = 8; indices = 18 }
+
+pub answer-and-counts : said 6 8 18 ≡ wantedAnswer
+answer-and-counts = refl

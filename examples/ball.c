@@ -20,6 +20,9 @@ struct mesh {
     uint64_t vertices, indices_used;
 };
 
+static const struct bed_box whole = {
+    { SIDE, SIDE, SIDE }, { 0, 0, 0 }, { SIDE - 1, SIDE - 1, SIDE - 1 }, { 0, 0, 0 } };
+
 static float sdf[POINTS];
 static int16_t sent[POINTS];
 static uint32_t map[POINTS];
@@ -36,11 +39,7 @@ static void fill_with_ball(float middle, float radius) {
 /* V and I, with nothing lent but, in words, the map. */
 static uint32_t count_whole_grid(struct mesh *m) {
     return bed_answer(
-        sdf, POINTS,
-        SIDE, SIDE, SIDE,
-        0, 0, 0,
-        SIDE - 1, SIDE - 1, SIDE - 1,
-        false, false, false,
+        sdf, POINTS, &whole,
         0, 0, 0, 0, 0, POINTS, 0,
         &m->vertices, &m->indices_used);
 }
@@ -48,11 +47,7 @@ static uint32_t count_whole_grid(struct mesh *m) {
 static uint32_t mesh_whole_grid(struct mesh *m) {
     size_t vertices = m->vertices, indices = m->indices_used;
     return bed_surface_nets(
-        sdf, POINTS,
-        SIDE, SIDE, SIDE,
-        0, 0, 0,
-        SIDE - 1, SIDE - 1, SIDE - 1,
-        false, false, false,
+        sdf, POINTS, &whole,
         m->positions, 3 * vertices,
         m->normals, 3 * vertices,
         m->cells, 3 * vertices,
@@ -120,11 +115,7 @@ static uint32_t count_in_16_bits(uint64_t *vertices, uint64_t *indices) {
     for (int i = 0; i < POINTS; i++)
         sent[i] = (int16_t)floorf(20 * sdf[i]);
     return bed_surface_nets_i16(
-        sent, POINTS,
-        SIDE, SIDE, SIDE,
-        0, 0, 0,
-        SIDE - 1, SIDE - 1, SIDE - 1,
-        false, false, false,
+        sent, POINTS, &whole,
         NULL, 0, NULL, 0, NULL, 0, NULL, 0, NULL, 0,
         map, POINTS,
         NULL, 0,

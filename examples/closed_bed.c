@@ -44,8 +44,8 @@ static void close_bed(void) {
 /* Whether the box that leaves out `less` layers at max on each axis is enclosed. */
 static bool enclosed(const float *sdf, uint32_t x, uint32_t y, uint32_t z, uint32_t less) {
     bool yes = false;
-    expect_done(bed_is_enclosed(
-        sdf, (size_t)x * y * z, x, y, z, 0, 0, 0, x - 1 - less, y - 1 - less, z - 1 - less, &yes));
+    struct bed_box box = { { x, y, z }, { 0, 0, 0 }, { x - 1 - less, y - 1 - less, z - 1 - less }, { 0, 0, 0 } };
+    expect_done(bed_is_enclosed(sdf, (size_t)x * y * z, &box, &yes));
     return yes;
 }
 
@@ -58,8 +58,9 @@ static uint8_t crossings[CELLS];
 static uint64_t vertex_count, index_count;
 
 static void mesh(const float *sdf, uint32_t x, uint32_t y, uint32_t z) {
+    struct bed_box box = { { x, y, z }, { 0, 0, 0 }, { x - 1, y - 1, z - 1 }, { 0, 0, 0 } };
     expect_done(bed_surface_nets(
-        sdf, (size_t)x * y * z, x, y, z, 0, 0, 0, x - 1, y - 1, z - 1, false, false, false,
+        sdf, (size_t)x * y * z, &box,
         positions, 3 * CELLS, normals, 3 * CELLS, cells, 3 * CELLS, strides, CELLS, crossings, CELLS,
         map, BORDERED, indices, 18 * CELLS, &vertex_count, &index_count));
 }

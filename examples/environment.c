@@ -68,12 +68,13 @@ static float grid[POINTS];
 
 static void call(struct outcome *o)
 {
+    static const struct bed_box whole = {
+        { SIDE, SIDE, SIDE }, { 0, 0, 0 }, { SIDE - 1, SIDE - 1, SIDE - 1 }, { 1, 1, 1 } };
     o->answer = bed_surface_nets(
-        grid, POINTS, SIDE, SIDE, SIDE, 0, 0, 0, SIDE - 1, SIDE - 1, SIDE - 1, true, true, true,
+        grid, POINTS, &whole,
         o->positions, 3 * CELLS, o->normals, 3 * CELLS, o->cells, 3 * CELLS, o->strides, CELLS,
         o->crossings, CELLS, o->map, POINTS, o->indices, 18 * CELLS, &o->vertices, &o->index_count);
-    o->enclosed_answer = bed_is_enclosed(
-        grid, POINTS, SIDE, SIDE, SIDE, 0, 0, 0, SIDE - 1, SIDE - 1, SIDE - 1, &o->enclosed);
+    o->enclosed_answer = bed_is_enclosed(grid, POINTS, &whole, &o->enclosed);
 }
 
 static void call_through_guard(struct outcome *o)

@@ -71,8 +71,10 @@ int main(int count, char **words) {
         perror("layers");
         return 1;
     }
+    static const struct bed_box whole = {
+        { SIDE, SIDE, SIDE }, { 0, 0, 0 }, { SIDE - 1, SIDE - 1, SIDE - 1 }, { 0, 0, 0 } };
     uint32_t answer = bed_layers_start(
-        &bed, SIDE, SIDE, SIDE, 0, 0, 0, SIDE - 1, SIDE - 1, SIDE - 1, false, false, false,
+        &bed, &whole,
         kept_distances, 2 * PLANE, kept_map, 2 * PLANE, kept_positions, 3 * PLANE);
     uint64_t all_vertices = 0, all_indices = 0, again = 0;
     float layer[PLANE];

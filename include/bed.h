@@ -30,18 +30,41 @@
 extern "C" {
 #endif
 
-/* The version of this header and of the library that it was made for, as text and as numbers. There is no function that
- * asks the library: link the libbed.a or libbed.so that this header came with. */
-#define BED_VERSION "0.1.0"
+/* The version of this header, as text, as numbers, and as one number: major * 65536 + minor * 256 + patch, 0x000200 for 0.2.0. */
+#define BED_VERSION "0.2.0"
 #define BED_VERSION_STRING BED_VERSION
 #define BED_VERSION_MAJOR 0
-#define BED_VERSION_MINOR 1
+#define BED_VERSION_MINOR 2
 #define BED_VERSION_PATCH 0
+#define BED_VERSION_NUMBER (UINT32_C(65536) * BED_VERSION_MAJOR + UINT32_C(256) * BED_VERSION_MINOR + BED_VERSION_PATCH)
+
+/* The version of the library, as one number: BED_VERSION_NUMBER where it is the one that this header came with. Another minor
+ * version may take other arguments, and calling it by this header is then undefined: compare before the first call where the
+ * library is found at run time. Libraries before 0.2.0 have no such function. */
+uint32_t bed_version(void);
+
+/* Dimensions, a box and its max plane as one block of twelve 32-bit words, in this order, each for x, y and z. Every function
+ * that takes dimensions takes them so; what it does not read of the block it says.
+ *
+ *   dims             the grid's dimensions, in points.
+ *   min, max         the box's corner points, both included. Its cells run from min to max - 1; a cell is named by its lowest
+ *                    corner.
+ *   max_plane        for each axis, whether faces are also made of grid edges along it that end on the box's max side, as blocks
+ *                    at a tank wall need it: 0 is no, any other number is yes. See bed_surface_nets for blocks that share a layer
+ *                    of cells.
+ */
+struct bed_box {
+    uint32_t dims[3];
+    uint32_t min[3];
+    uint32_t max[3];
+    uint32_t max_plane[3];
+};
 
 /* What holds of every pointer that is passed here, unless a function says more:
  *
  *   - Each is aligned for its type.
  *   - A list is a pointer and its length in elements; the pointer may be null only where the length is 0.
+ *   - box is never null, and all of its twelve words are set, to anything where a function does not read them. It is only read.
  *   - Nothing that may be written overlaps anything else that is passed. What is only read may overlap what is only read.
  *   - What a single number or flag is written to, vertex_count, index_count, byte_count, triangle_count, volume, enclosed and
  *     holds, is never null and is written on every answer. What stood there before never matters, but a bool holds false or true
@@ -122,14 +145,9 @@ enum bed_call_answer {
 /* Meshes a box of a grid of distances.
  *
  * In:
- *   sdf              the distances, x innermost: point (x, y, z) stands at x + dim_x * (y + dim_y * z).
+ *   sdf              the distances, x innermost: point (x, y, z) stands at x + dims[0] * (y + dims[1] * z).
  *                    Below zero is inside; 0.0 and -0.0 are not. Only points of the box are looked at.
- *   dim_x .. dim_z   the grid's dimensions, in points.
- *   min_x .. max_z   the box's corner points, both included. Its cells run from min to max - 1; a cell is
- *                    named by its lowest corner.
- *   max_plane_x ..   for each axis, whether faces are also made of grid edges along it that end on the
- *   max_plane_z      box's max side, as blocks at a tank wall need it. See below for blocks that share
- *                    a layer of cells.
+ *   box              the grid's dimensions, the box's corners and its max plane on each axis.
  *
  * Lent for writing, each a pointer and its length in elements:
  *   positions        three floats a vertex, in grid coordinates.
@@ -185,10 +203,7 @@ enum bed_call_answer {
  */
 uint32_t bed_surface_nets(
     const float *sdf, size_t sdf_len,
-    uint32_t dim_x, uint32_t dim_y, uint32_t dim_z,
-    uint32_t min_x, uint32_t min_y, uint32_t min_z,
-    uint32_t max_x, uint32_t max_y, uint32_t max_z,
-    bool max_plane_x, bool max_plane_y, bool max_plane_z,
+    const struct bed_box *box,
     float *positions, size_t positions_len,
     float *normals, size_t normals_len,
     uint32_t *cells, size_t cells_len,
@@ -202,7 +217,7 @@ uint32_t bed_surface_nets(
  * reads the distances of the box and writes the two counts.
  *
  * In:
- *   sdf .. max_plane_z      as in bed_surface_nets.
+ *   sdf, box                as in bed_surface_nets.
  *   positions_len ..        the lengths of its seven lists, in elements and in its order. They are only
  *   indices_len             compared.
  *
@@ -220,10 +235,7 @@ uint32_t bed_surface_nets(
  */
 uint32_t bed_answer(
     const float *sdf, size_t sdf_len,
-    uint32_t dim_x, uint32_t dim_y, uint32_t dim_z,
-    uint32_t min_x, uint32_t min_y, uint32_t min_z,
-    uint32_t max_x, uint32_t max_y, uint32_t max_z,
-    bool max_plane_x, bool max_plane_y, bool max_plane_z,
+    const struct bed_box *box,
     uint64_t positions_len, uint64_t normals_len, uint64_t cells_len,
     uint64_t strides_len, uint64_t crossings_len,
     uint64_t stride_to_index_len, uint64_t indices_len,
@@ -239,10 +251,7 @@ uint32_t bed_answer(
  */
 uint32_t bed_surface_nets_i16(
     const int16_t *sdf, size_t sdf_len,
-    uint32_t dim_x, uint32_t dim_y, uint32_t dim_z,
-    uint32_t min_x, uint32_t min_y, uint32_t min_z,
-    uint32_t max_x, uint32_t max_y, uint32_t max_z,
-    bool max_plane_x, bool max_plane_y, bool max_plane_z,
+    const struct bed_box *box,
     float *positions, size_t positions_len,
     float *normals, size_t normals_len,
     uint32_t *cells, size_t cells_len,
@@ -255,10 +264,7 @@ uint32_t bed_surface_nets_i16(
 /* The same of signed 8-bit distances, as the portable head delivers them. */
 uint32_t bed_surface_nets_i8(
     const int8_t *sdf, size_t sdf_len,
-    uint32_t dim_x, uint32_t dim_y, uint32_t dim_z,
-    uint32_t min_x, uint32_t min_y, uint32_t min_z,
-    uint32_t max_x, uint32_t max_y, uint32_t max_z,
-    bool max_plane_x, bool max_plane_y, bool max_plane_z,
+    const struct bed_box *box,
     float *positions, size_t positions_len,
     float *normals, size_t normals_len,
     uint32_t *cells, size_t cells_len,
@@ -271,10 +277,7 @@ uint32_t bed_surface_nets_i8(
 /* bed_answer for signed 16-bit and for signed 8-bit distances. */
 uint32_t bed_answer_i16(
     const int16_t *sdf, size_t sdf_len,
-    uint32_t dim_x, uint32_t dim_y, uint32_t dim_z,
-    uint32_t min_x, uint32_t min_y, uint32_t min_z,
-    uint32_t max_x, uint32_t max_y, uint32_t max_z,
-    bool max_plane_x, bool max_plane_y, bool max_plane_z,
+    const struct bed_box *box,
     uint64_t positions_len, uint64_t normals_len, uint64_t cells_len,
     uint64_t strides_len, uint64_t crossings_len,
     uint64_t stride_to_index_len, uint64_t indices_len,
@@ -282,10 +285,7 @@ uint32_t bed_answer_i16(
 
 uint32_t bed_answer_i8(
     const int8_t *sdf, size_t sdf_len,
-    uint32_t dim_x, uint32_t dim_y, uint32_t dim_z,
-    uint32_t min_x, uint32_t min_y, uint32_t min_z,
-    uint32_t max_x, uint32_t max_y, uint32_t max_z,
-    bool max_plane_x, bool max_plane_y, bool max_plane_z,
+    const struct bed_box *box,
     uint64_t positions_len, uint64_t normals_len, uint64_t cells_len,
     uint64_t strides_len, uint64_t crossings_len,
     uint64_t stride_to_index_len, uint64_t indices_len,
@@ -295,7 +295,7 @@ uint32_t bed_answer_i8(
  * lies from min + 1 to max - 2 on each axis. It reads the distances of the box and writes one yes or no.
  *
  * Answers BED_DONE, BED_BAD_DIMENSIONS, BED_BAD_BOX or BED_BAD_GRID_LENGTH, tried in the order of their
- * numbers; sdf, the dimensions and the box are as in bed_surface_nets. What bed_surface_nets refuses for
+ * numbers; sdf and box are as in bed_surface_nets, but that box->max_plane is not read. What bed_surface_nets refuses for
  * other reasons is tested all the same: a distance that is not a number is not below zero.
  *
  * Out, on every answer:
@@ -320,9 +320,7 @@ uint32_t bed_answer_i8(
  */
 uint32_t bed_is_enclosed(
     const float *sdf, size_t sdf_len,
-    uint32_t dim_x, uint32_t dim_y, uint32_t dim_z,
-    uint32_t min_x, uint32_t min_y, uint32_t min_z,
-    uint32_t max_x, uint32_t max_y, uint32_t max_z,
+    const struct bed_box *box,
     bool *enclosed);
 
 /* bed_is_enclosed of signed 16-bit and of signed 8-bit distances: the answer and the yes or no are those of
@@ -330,26 +328,13 @@ uint32_t bed_is_enclosed(
  * bed_surface_nets_i16 or bed_surface_nets_i8 makes. */
 uint32_t bed_is_enclosed_i16(
     const int16_t *sdf, size_t sdf_len,
-    uint32_t dim_x, uint32_t dim_y, uint32_t dim_z,
-    uint32_t min_x, uint32_t min_y, uint32_t min_z,
-    uint32_t max_x, uint32_t max_y, uint32_t max_z,
+    const struct bed_box *box,
     bool *enclosed);
 
 uint32_t bed_is_enclosed_i8(
     const int8_t *sdf, size_t sdf_len,
-    uint32_t dim_x, uint32_t dim_y, uint32_t dim_z,
-    uint32_t min_x, uint32_t min_y, uint32_t min_z,
-    uint32_t max_x, uint32_t max_y, uint32_t max_z,
+    const struct bed_box *box,
     bool *enclosed);
-
-/* Dimensions, a box and its max plane as one block of twelve 32-bit words, in this order, each for x, y and z.
- * A word of max_plane is no where it is 0, and yes where it is any other number. */
-struct bed_box {
-    uint32_t dims[3];
-    uint32_t min[3];
-    uint32_t max[3];
-    uint32_t max_plane[3];
-};
 
 /* What closing a grid, or a layer, answers. The conditions are tried in this order, and the first that holds
  * answers: 1, 71, 3, 72, 73, 74. BED_CLOSE_HEIGHT is of a layer alone. */
@@ -773,10 +758,10 @@ enum bed_fixture_answer {
  *
  * In:
  *   file             the bytes of the file, all of them and no more.
- *   dim_x .. dim_z   the grid's dimensions, in points, as in bed_surface_nets.
+ *   box              the grid's dimensions in box->dims. Nothing else of box is read.
  *
  * Lent for reading and writing:
- *   sdf              the distances, x innermost, exactly dim_x * dim_y * dim_z of them.
+ *   sdf              the distances, x innermost, exactly dims[0] * dims[1] * dims[2] of them.
  *
  * What is written on BED_DONE: each point whose distance is below the negated value of the solid there takes
  * that negated value. Every other point keeps its bits, one that is not a number too. The whole file is
@@ -792,7 +777,7 @@ enum bed_fixture_answer {
  */
 uint32_t bed_cut_fixtures(
     const uint8_t *file, size_t file_len,
-    uint32_t dim_x, uint32_t dim_y, uint32_t dim_z,
+    const struct bed_box *box,
     float *sdf, size_t sdf_len);
 
 /* What the volume of a mesh answers. The conditions are tried in the order of their numbers and the first
@@ -908,9 +893,9 @@ enum bed_layers_answer {
     /* As BED_BAD_DIMENSIONS and BED_BAD_BOX. */
     BED_LAYERS_DIMENSIONS = 1,
     BED_LAYERS_BOX = 2,
-    /* The layer is not dim_x * dim_y long. */
+    /* The layer is not dims[0] * dims[1] long. */
     BED_LAYERS_LENGTH = 3,
-    /* kept_distances or kept_map is shorter than 2 * dim_x * dim_y, or kept_positions than 3 * dim_x * dim_y. */
+    /* kept_distances or kept_map is shorter than 2 * dims[0] * dims[1], or kept_positions than 3 * dims[0] * dims[1]. */
     BED_LAYERS_MEMORY = 4,
     /* A point of the layer inside the box is not finite or above 2^124 in magnitude. */
     BED_LAYERS_DISTANCE = 5,
@@ -924,7 +909,7 @@ enum bed_layers_answer {
 /* Where a bed stands between two layers: plain numbers, which you may copy, store and send on. Whatever
  * numbers stand here, a call stays within the lists that are lent to it. */
 struct bed_layers {
-    /* The grid's dimensions and the box, as they were given to the start. */
+    /* The grid's dimensions and the box, as the start was given them: with the max planes the words of a bed_box. */
     uint32_t dim_x, dim_y, dim_z;
     uint32_t min_x, min_y, min_z;
     uint32_t max_x, max_y, max_z;
@@ -949,11 +934,12 @@ struct bed_layers {
 
 /* Begins a bed that is taken layer by layer: for a head that sends one z layer at a time and cannot hold the
  * grid. Returns BED_LAYERS_DONE, _DIMENSIONS, _BOX or _MEMORY; on BED_LAYERS_DONE *layers is the state before the
- * first layer, else it is untouched. Kept memory is only measured here, and written by bed_layers_offer alone:
+ * first layer, else it is untouched. box is as in bed_surface_nets, and is not needed after the start. Kept memory is
+ * only measured here, and written by bed_layers_offer alone:
  *
- *     kept_distances   2 * dim_x * dim_y numbers: two layers
- *     kept_map         2 * dim_x * dim_y numbers: their maps
- *     kept_positions   3 * dim_x * dim_y numbers: the positions of the last layer of cells
+ *     kept_distances   2 * dims[0] * dims[1] numbers: two layers
+ *     kept_map         2 * dims[0] * dims[1] numbers: their maps
+ *     kept_positions   3 * dims[0] * dims[1] numbers: the positions of the last layer of cells
  *
  * Lend the same three to every offer, and leave them and the state as they are between layers. Neither they nor *layers
  * need a memset: what they held before the start never matters.
@@ -963,20 +949,17 @@ struct bed_layers {
  * BED_NO_VERTEX is a point of the box without one; kept_positions begins with the positions of those vertices, the first of
  * them being the vertex number layers->first. All else in them is as the offer found it.
  *
- * layers is never null, aligned, and overlaps none of the lists. The three lists are only measured here, and a pointer may be
+ * layers is never null, aligned, and overlaps neither box nor a list. The three lists are only measured here, and a pointer may be
  * null only where its length is 0.
  */
 uint32_t bed_layers_start(
     struct bed_layers *layers,
-    uint32_t dim_x, uint32_t dim_y, uint32_t dim_z,
-    uint32_t min_x, uint32_t min_y, uint32_t min_z,
-    uint32_t max_x, uint32_t max_y, uint32_t max_z,
-    bool max_plane_x, bool max_plane_y, bool max_plane_z,
+    const struct bed_box *box,
     const float *kept_distances, size_t kept_distances_len,
     const uint32_t *kept_map, size_t kept_map_len,
     const float *kept_positions, size_t kept_positions_len);
 
-/* Offers the next layer, dim_x * dim_y distances, from min z to max z. The first is only kept, with counts 0, 0;
+/* Offers the next layer, dims[0] * dims[1] distances, from min z to max z. The first is only kept, with counts 0, 0;
  * the layer z + 1 brings out all vertices and faces of the cells at z, to the first 3V, 3V, 3V, V, V and I numbers
  * of the lists lent for output. Strides are those of the whole grid, and vertex numbers run on from layer to layer.
  * All output joined, each list in the order of the layers, is that of bed_surface_nets on the whole grid.

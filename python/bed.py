@@ -28,7 +28,7 @@ try:
 except ImportError:
     numpy = None
 
-VERSION = "0.1.0"
+VERSION = "0.2.0"
 NO_VERTEX = 4294967295
 WORDS = {
     1: "a dimension is 0 or above 16777217, or the product of the dimensions is above 1073741824",
@@ -201,8 +201,8 @@ class _BedBox(ctypes.Structure):
     _fields_ = [("dims", _NUMBER * 3), ("min", _NUMBER * 3), ("max", _NUMBER * 3), ("max_plane", _NUMBER * 3)]
 
 
-def _bed_box(dims, low=(0, 0, 0), high=(0, 0, 0)):
-    return ctypes.byref(_BedBox(*(tuple(_passed(three)) for three in (dims, low, high))))
+def _bed_box(dims, low=(0, 0, 0), high=(0, 0, 0), max_plane=(False, False, False)):
+    return ctypes.byref(_BedBox(*(tuple(_passed(three)) for three in (dims, low, high, max_plane))))
 
 
 def _lists(*kinds):
@@ -216,7 +216,7 @@ def _out(*kinds):
 def _signatures():
     """what each function of include/bed.h that is called here takes"""
     box, flags, counts = [_NUMBER] * 6, [_FLAG] * 3, _out(_COUNT, _COUNT)
-    dims, words, kept = [_NUMBER] * 3, [_NUMBER] * 7, (_FLOAT, _NUMBER, _FLOAT)
+    block, words, kept = _out(_BedBox), [_NUMBER] * 7, (_FLOAT, _NUMBER, _FLOAT)
     vertices = (_FLOAT, _FLOAT, _NUMBER, _NUMBER, _BYTE)
     all_of = {
         "bed_check_plan": _lists(_Block) + box + flags + _out(_FLAG),
@@ -224,23 +224,23 @@ def _signatures():
         "bed_write_record": _lists(_BYTE) + [_COUNT] + words,
         "bed_read_mesh": _lists(_BYTE, _FLOAT, _FLOAT, _NUMBER) + counts,
         "bed_check_mesh": _lists(_BYTE) + counts,
-        "bed_cut_fixtures": _lists(_BYTE) + dims + _lists(_FLOAT),
+        "bed_cut_fixtures": _lists(_BYTE) + block + _lists(_FLOAT),
         "bed_volume": _lists(_FLOAT, _NUMBER) + _out(ctypes.c_int64),
-        "bed_layers_start": _out(_State) + dims + box + flags + _lists(*kept),
+        "bed_layers_start": _out(_State) + block + _lists(*kept),
         "bed_layers_offer": _out(_State) + _lists(_FLOAT, *kept, *vertices, _NUMBER) + counts,
     }
     all_of["bed_weigh"] = _lists(_FLOAT) + [_NUMBER] + _lists(_NUMBER) + _out(_COUNT, ctypes.c_int64, ctypes.c_int64)
     all_of["bed_wall_for"] = [_FLOAT]
-    block = _out(_BedBox)
+    all_of["bed_version"] = []
     for kind, ending in _DISTANCES.values():
         all_of["bed_close" + ending] = _lists(kind) + block + [_FLOAT] + _lists(_FLOAT)
         all_of["bed_close_layer" + ending] = _lists(kind) + block + [_NUMBER, _FLOAT] + _lists(_FLOAT)
         all_of["bed_deepest" + ending] = [_FLOAT] + _lists(kind)
         all_of["bed_levels" + ending] = _lists(kind) + block + _lists(_FLOAT)
         all_of["bed_levels_layer" + ending] = _lists(kind, kind) + block + [_NUMBER] + _lists(_FLOAT)
-        asked = _lists(kind) + dims + box
-        all_of["bed_surface_nets" + ending] = asked + flags + _lists(*vertices, _NUMBER, _NUMBER) + counts
-        all_of["bed_answer" + ending] = asked + flags + [_COUNT] * 7 + counts
+        asked = _lists(kind) + block
+        all_of["bed_surface_nets" + ending] = asked + _lists(*vertices, _NUMBER, _NUMBER) + counts
+        all_of["bed_answer" + ending] = asked + [_COUNT] * 7 + counts
         all_of["bed_is_enclosed" + ending] = asked + _out(_FLAG)
     return all_of
 
@@ -248,12 +248,20 @@ def _signatures():
 def _loaded():
     beside = os.path.join(os.path.dirname(os.path.abspath(__file__)), "libbed.so")
     named = os.environ.get("BED_SHARED") or (beside if os.path.exists(beside) else None)
-    library = ctypes.CDLL(named or ctypes.util.find_library("bed") or "libbed.so.0")
+    library = ctypes.CDLL(named or ctypes.util.find_library("bed") or "libbed.so.0.2")
     for name, arguments in _signatures().items():
         function = getattr(library, name)
         told = _FLOAT if name.startswith(("bed_deepest", "bed_wall_for")) else ctypes.c_uint32
         function.argtypes, function.restype = arguments, told
+    # another version may take other arguments
+    if _version(library) != VERSION:
+        raise ImportError(f"the library is version {_version(library)}, and this module is for {VERSION}")
     return library
+
+
+def _version(library):
+    number = library.bed_version()
+    return f"{number >> 16}.{number >> 8 & 255}.{number & 255}"
 
 
 def _environment():
@@ -376,7 +384,7 @@ def _box(dims, low, high):
 def _asked(distances, dims, low, high, max_plane):
     """the grid, what the names of its functions end with, and the grid with the box and the max plane as the library takes them"""
     grid, dims, ending = _grid(distances, dims)
-    return grid, ending, [*_lent(grid), *_passed(dims, *_box(dims, low, high)), *_flags(max_plane)]
+    return grid, ending, [*_lent(grid), _bed_box(dims, *_box(dims, low, high), _flags(max_plane))]
 
 
 def _counted(grid, ending, asked):
@@ -395,6 +403,11 @@ def _vertex_rooms(vertices):
 
 
 # ---- the functions of include/bed.h
+
+def version():
+    """The library's version, which is VERSION: another one is not loaded."""
+    return _version(_library)
+
 
 def counts(distances, dims=None, min=(0, 0, 0), max=None, max_plane=(False, False, False)):
     """How many vertices and indices surface_nets makes of the same words."""
@@ -418,7 +431,7 @@ def is_enclosed(distances, dims=None, min=(0, 0, 0), max=None):
     """Whether every distance below zero lies from min + 1 to max - 2; then the mesh has no hole."""
     grid, dims, ending = _grid(distances, dims)
     enclosed = _FLAG()
-    _done(_call("bed_is_enclosed" + ending, *_lent(grid), *_passed(dims, *_box(dims, min, max)), ctypes.byref(enclosed)))
+    _done(_call("bed_is_enclosed" + ending, *_lent(grid), _bed_box(dims, *_box(dims, min, max)), ctypes.byref(enclosed)))
     return enclosed.value
 
 
@@ -446,7 +459,7 @@ def cut_fixtures(file, distances, dims=None):
         raise TypeError("the distances are changed in their place: float32 is wanted")
     sizes = _grid(distances, dims)[1]
     grid = _written(_FLOAT, distances, "the distances are changed")
-    _done(_call("bed_cut_fixtures", *_lent(_apart(_read(_BYTE, file), grid)), *_passed(sizes), *_lent(grid)))
+    _done(_call("bed_cut_fixtures", *_lent(_apart(_read(_BYTE, file), grid)), _bed_box(sizes), *_lent(grid)))
 
 
 def _apart(read, written):
@@ -594,7 +607,7 @@ class Layers:
     def __init__(self, dims, min=(0, 0, 0), max=None, max_plane=(False, False, False)):
         dims = _three("dims", dims)
         self._points, self._state = dims[0] * dims[1], _State()
-        self._asked = [*_passed(dims, *_box(dims, min, max)), *_flags(max_plane)]
+        self._asked = _bed_box(dims, *_box(dims, min, max), _flags(max_plane))
         self._kept = [_room(kind, 0) for kind in (_FLOAT, _NUMBER, _FLOAT)]
         # dimensions and box are judged before memory is measured, and none is taken for bad ones
         answer = self._start()
@@ -604,7 +617,7 @@ class Layers:
         _done(answer, LAYER_WORDS)
 
     def _start(self):
-        return _call("bed_layers_start", ctypes.byref(self._state), *self._asked, *_lent(*self._kept))
+        return _call("bed_layers_start", ctypes.byref(self._state), self._asked, *_lent(*self._kept))
 
     @property
     def taken(self):

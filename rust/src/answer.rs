@@ -3,6 +3,7 @@
 use crate::distance::Distance;
 use crate::environment::DefaultEnvironment;
 use crate::lent::{Counts, MaxPlane};
+use crate::raw::BedBox;
 use crate::refusal::Refusal;
 
 /// The lengths of the seven lists of [`Lent`](crate::Lent), in elements.
@@ -50,6 +51,7 @@ pub fn answer<D: Distance>(
     max_plane: MaxPlane,
     lengths: LentLengths,
 ) -> Result<Counts, Refusal> {
+    let block = BedBox::new(dims, min, max, max_plane);
     let mut counts = Counts::default();
     let _environment = DefaultEnvironment::enter();
     // SAFETY: the pointer and the length come from a slice, which is aligned and never null; the counts are
@@ -58,18 +60,7 @@ pub fn answer<D: Distance>(
         D::ANSWER(
             sdf.as_ptr(),
             sdf.len(),
-            dims[0],
-            dims[1],
-            dims[2],
-            min[0],
-            min[1],
-            min[2],
-            max[0],
-            max[1],
-            max[2],
-            max_plane.x,
-            max_plane.y,
-            max_plane.z,
+            &block,
             lengths.positions,
             lengths.normals,
             lengths.cells,

@@ -3,6 +3,7 @@
 use crate::distance::Distance;
 use crate::environment::DefaultEnvironment;
 use crate::lent::Counts;
+use crate::raw::BedBox;
 use crate::refusal::Refusal;
 
 /// Whether every distance below zero in the box from `min` to `max`, both included, lies from min + 1 to
@@ -28,25 +29,11 @@ pub fn is_enclosed<D: Distance>(
     min: [u32; 3],
     max: [u32; 3],
 ) -> Result<bool, Refusal> {
+    let block = BedBox::with(dims, min, max);
     let mut enclosed = false;
     let _environment = DefaultEnvironment::enter();
     // SAFETY: the pointer and length come from a slice, which is aligned and never null, and `enclosed`
     // is a variable of its own.
-    let answer = unsafe {
-        D::IS_ENCLOSED(
-            sdf.as_ptr(),
-            sdf.len(),
-            dims[0],
-            dims[1],
-            dims[2],
-            min[0],
-            min[1],
-            min[2],
-            max[0],
-            max[1],
-            max[2],
-            &mut enclosed,
-        )
-    };
+    let answer = unsafe { D::IS_ENCLOSED(sdf.as_ptr(), sdf.len(), &block, &mut enclosed) };
     Refusal::of(answer, Counts::default()).map(|_| enclosed)
 }

@@ -1,7 +1,7 @@
 //! Fixtures cut out of a grid: the file and the grid are lent, and nothing is opened or allocated.
 
 use crate::environment::DefaultEnvironment;
-use crate::raw::bed_cut_fixtures;
+use crate::raw::{bed_cut_fixtures, BedBox};
 use std::fmt;
 
 /// Why fixtures were not cut out: the answers 1, 3 and 51 to 56. A refused call changes nothing.
@@ -98,9 +98,7 @@ pub fn cut_fixtures(file: &[u8], dims: [u32; 3], sdf: &mut [f32]) -> Result<(), 
         bed_cut_fixtures(
             file.as_ptr(),
             file.len(),
-            dims[0],
-            dims[1],
-            dims[2],
+            &BedBox::of(dims),
             sdf.as_mut_ptr(),
             sdf.len(),
         )

@@ -2,7 +2,7 @@
 
 use crate::environment::DefaultEnvironment;
 use crate::lent::{Counts, MaxPlane};
-use crate::raw::{bed_layers_offer, bed_layers_start};
+use crate::raw::{bed_layers_offer, bed_layers_start, BedBox};
 use std::fmt;
 
 /// Where a bed stands between two layers: plain numbers, which may be copied, stored and sent on. Whatever
@@ -134,24 +134,14 @@ impl Layers {
         max_plane: MaxPlane,
         kept: &Kept,
     ) -> Result<Layers, LayerRefusal> {
+        let block = BedBox::new(dims, min, max, max_plane);
         let mut layers = Layers::default();
         let _environment = DefaultEnvironment::enter();
         // SAFETY: the pointers and lengths come from slices, and `layers` is a variable of its own.
         let answer = unsafe {
             bed_layers_start(
                 &mut layers,
-                dims[0],
-                dims[1],
-                dims[2],
-                min[0],
-                min[1],
-                min[2],
-                max[0],
-                max[1],
-                max[2],
-                max_plane.x,
-                max_plane.y,
-                max_plane.z,
+                &block,
                 kept.distances.as_ptr(),
                 kept.distances.len(),
                 kept.map.as_ptr(),

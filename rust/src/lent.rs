@@ -2,6 +2,7 @@
 
 use crate::distance::Distance;
 use crate::environment::DefaultEnvironment;
+use crate::raw::BedBox;
 use crate::refusal::Refusal;
 
 /// The vertex count V and the index count I of a mesh.
@@ -81,6 +82,7 @@ pub fn surface_nets_lent<D: Distance>(
     max_plane: MaxPlane,
     lent: &mut Lent,
 ) -> Result<Counts, Refusal> {
+    let block = BedBox::new(dims, min, max, max_plane);
     let mut counts = Counts::default();
     let _environment = DefaultEnvironment::enter();
     // SAFETY: every pointer and length come from a slice, which is aligned and never null; the lent
@@ -89,18 +91,7 @@ pub fn surface_nets_lent<D: Distance>(
         D::SURFACE_NETS(
             sdf.as_ptr(),
             sdf.len(),
-            dims[0],
-            dims[1],
-            dims[2],
-            min[0],
-            min[1],
-            min[2],
-            max[0],
-            max[1],
-            max[2],
-            max_plane.x,
-            max_plane.y,
-            max_plane.z,
+            &block,
             lent.positions.as_mut_ptr(),
             lent.positions.len(),
             lent.normals.as_mut_ptr(),

@@ -2,6 +2,7 @@
 //! environment; the crate's other functions see to that themselves.
 
 use crate::layers::Layers;
+use crate::lent::MaxPlane;
 use crate::plan::Block;
 
 /// Dimensions, a box and its max plane as twelve words, as C's `struct bed_box` lies in memory. A flag is set by any word but 0.
@@ -35,30 +36,34 @@ impl BedBox {
             ..Self::of(dims)
         }
     }
+
+    /// Dimensions, a box and its max plane.
+    pub fn new(dims: [u32; 3], min: [u32; 3], max: [u32; 3], max_plane: MaxPlane) -> Self {
+        Self {
+            max_plane: [max_plane.x, max_plane.y, max_plane.z].map(u32::from),
+            ..Self::with(dims, min, max)
+        }
+    }
 }
 
 extern "C" {
+    /// The library's version as one number, major · 65536 + minor · 256 + patch.
+    ///
+    /// # Safety
+    ///
+    /// Nothing is lent.
+    pub fn bed_version() -> u32;
+
     /// Meshes the box min..=max of a grid into lent buffers and returns the answer number, 0 to 7.
     ///
     /// # Safety
     ///
-    /// Every pointer is followed by the length of what it points to, in elements. Nothing may overlap
-    /// anything else. Every pointer must be aligned, and only one with length 0 may be null.
+    /// Every pointer to a list is followed by the list's length, in elements. Nothing that may be written may
+    /// overlap anything else. Every pointer must be aligned, and only that of a list of length 0 may be null.
     pub fn bed_surface_nets(
         sdf: *const f32,
         sdf_len: usize,
-        dim_x: u32,
-        dim_y: u32,
-        dim_z: u32,
-        min_x: u32,
-        min_y: u32,
-        min_z: u32,
-        max_x: u32,
-        max_y: u32,
-        max_z: u32,
-        max_plane_x: bool,
-        max_plane_y: bool,
-        max_plane_z: bool,
+        block: *const BedBox,
         positions: *mut f32,
         positions_len: usize,
         normals: *mut f32,
@@ -85,18 +90,7 @@ extern "C" {
     pub fn bed_answer(
         sdf: *const f32,
         sdf_len: usize,
-        dim_x: u32,
-        dim_y: u32,
-        dim_z: u32,
-        min_x: u32,
-        min_y: u32,
-        min_z: u32,
-        max_x: u32,
-        max_y: u32,
-        max_z: u32,
-        max_plane_x: bool,
-        max_plane_y: bool,
-        max_plane_z: bool,
+        block: *const BedBox,
         positions_len: u64,
         normals_len: u64,
         cells_len: u64,
@@ -116,18 +110,7 @@ extern "C" {
     pub fn bed_surface_nets_i16(
         sdf: *const i16,
         sdf_len: usize,
-        dim_x: u32,
-        dim_y: u32,
-        dim_z: u32,
-        min_x: u32,
-        min_y: u32,
-        min_z: u32,
-        max_x: u32,
-        max_y: u32,
-        max_z: u32,
-        max_plane_x: bool,
-        max_plane_y: bool,
-        max_plane_z: bool,
+        block: *const BedBox,
         positions: *mut f32,
         positions_len: usize,
         normals: *mut f32,
@@ -154,18 +137,7 @@ extern "C" {
     pub fn bed_surface_nets_i8(
         sdf: *const i8,
         sdf_len: usize,
-        dim_x: u32,
-        dim_y: u32,
-        dim_z: u32,
-        min_x: u32,
-        min_y: u32,
-        min_z: u32,
-        max_x: u32,
-        max_y: u32,
-        max_z: u32,
-        max_plane_x: bool,
-        max_plane_y: bool,
-        max_plane_z: bool,
+        block: *const BedBox,
         positions: *mut f32,
         positions_len: usize,
         normals: *mut f32,
@@ -192,18 +164,7 @@ extern "C" {
     pub fn bed_answer_i16(
         sdf: *const i16,
         sdf_len: usize,
-        dim_x: u32,
-        dim_y: u32,
-        dim_z: u32,
-        min_x: u32,
-        min_y: u32,
-        min_z: u32,
-        max_x: u32,
-        max_y: u32,
-        max_z: u32,
-        max_plane_x: bool,
-        max_plane_y: bool,
-        max_plane_z: bool,
+        block: *const BedBox,
         positions_len: u64,
         normals_len: u64,
         cells_len: u64,
@@ -223,18 +184,7 @@ extern "C" {
     pub fn bed_answer_i8(
         sdf: *const i8,
         sdf_len: usize,
-        dim_x: u32,
-        dim_y: u32,
-        dim_z: u32,
-        min_x: u32,
-        min_y: u32,
-        min_z: u32,
-        max_x: u32,
-        max_y: u32,
-        max_z: u32,
-        max_plane_x: bool,
-        max_plane_y: bool,
-        max_plane_z: bool,
+        block: *const BedBox,
         positions_len: u64,
         normals_len: u64,
         cells_len: u64,
@@ -255,15 +205,7 @@ extern "C" {
     pub fn bed_is_enclosed(
         sdf: *const f32,
         sdf_len: usize,
-        dim_x: u32,
-        dim_y: u32,
-        dim_z: u32,
-        min_x: u32,
-        min_y: u32,
-        min_z: u32,
-        max_x: u32,
-        max_y: u32,
-        max_z: u32,
+        block: *const BedBox,
         enclosed: *mut bool,
     ) -> u32;
 
@@ -275,15 +217,7 @@ extern "C" {
     pub fn bed_is_enclosed_i16(
         sdf: *const i16,
         sdf_len: usize,
-        dim_x: u32,
-        dim_y: u32,
-        dim_z: u32,
-        min_x: u32,
-        min_y: u32,
-        min_z: u32,
-        max_x: u32,
-        max_y: u32,
-        max_z: u32,
+        block: *const BedBox,
         enclosed: *mut bool,
     ) -> u32;
 
@@ -295,15 +229,7 @@ extern "C" {
     pub fn bed_is_enclosed_i8(
         sdf: *const i8,
         sdf_len: usize,
-        dim_x: u32,
-        dim_y: u32,
-        dim_z: u32,
-        min_x: u32,
-        min_y: u32,
-        min_z: u32,
-        max_x: u32,
-        max_y: u32,
-        max_z: u32,
+        block: *const BedBox,
         enclosed: *mut bool,
     ) -> u32;
 
@@ -400,9 +326,7 @@ extern "C" {
     pub fn bed_cut_fixtures(
         file: *const u8,
         file_len: usize,
-        dim_x: u32,
-        dim_y: u32,
-        dim_z: u32,
+        block: *const BedBox,
         sdf: *mut f32,
         sdf_len: usize,
     ) -> u32;
@@ -646,18 +570,7 @@ extern "C" {
     /// As above; `layers` points to a state, which is written on 0 alone. The kept memory is only measured.
     pub fn bed_layers_start(
         layers: *mut Layers,
-        dim_x: u32,
-        dim_y: u32,
-        dim_z: u32,
-        min_x: u32,
-        min_y: u32,
-        min_z: u32,
-        max_x: u32,
-        max_y: u32,
-        max_z: u32,
-        max_plane_x: bool,
-        max_plane_y: bool,
-        max_plane_z: bool,
+        block: *const BedBox,
         kept_distances: *const f32,
         kept_distances_len: usize,
         kept_map: *const u32,
@@ -702,18 +615,7 @@ extern "C" {
 pub type SurfaceNets<D> = unsafe extern "C" fn(
     *const D,
     usize,
-    u32,
-    u32,
-    u32,
-    u32,
-    u32,
-    u32,
-    u32,
-    u32,
-    u32,
-    bool,
-    bool,
-    bool,
+    *const BedBox,
     *mut f32,
     usize,
     *mut f32,
@@ -736,18 +638,7 @@ pub type SurfaceNets<D> = unsafe extern "C" fn(
 pub type Answer<D> = unsafe extern "C" fn(
     *const D,
     usize,
-    u32,
-    u32,
-    u32,
-    u32,
-    u32,
-    u32,
-    u32,
-    u32,
-    u32,
-    bool,
-    bool,
-    bool,
+    *const BedBox,
     u64,
     u64,
     u64,
@@ -760,20 +651,7 @@ pub type Answer<D> = unsafe extern "C" fn(
 ) -> u32;
 
 /// The type of [`bed_is_enclosed`], and of the same function over other distances.
-pub type IsEnclosed<D> = unsafe extern "C" fn(
-    *const D,
-    usize,
-    u32,
-    u32,
-    u32,
-    u32,
-    u32,
-    u32,
-    u32,
-    u32,
-    u32,
-    *mut bool,
-) -> u32;
+pub type IsEnclosed<D> = unsafe extern "C" fn(*const D, usize, *const BedBox, *mut bool) -> u32;
 
 /// The type of [`bed_close`], and of the same function over other distances.
 pub type Close<D> =

@@ -2,6 +2,7 @@
 //! library's own function gives other bits there, or the test could not see a guard that does nothing.
 #![cfg(any(target_arch = "x86_64", target_arch = "aarch64"))]
 
+use bed::raw::BedBox;
 use bed::{counts, is_enclosed, raw, surface_nets_lent, Counts, Lent, MaxPlane, Refusal};
 
 const SIDE: u32 = 6;
@@ -128,18 +129,7 @@ fn unguarded<D>(own: raw::SurfaceNets<D>, grid: &[D], lent: &mut Lent) -> Result
         own(
             grid.as_ptr(),
             grid.len(),
-            SIDE,
-            SIDE,
-            SIDE,
-            0,
-            0,
-            0,
-            SIDE - 1,
-            SIDE - 1,
-            SIDE - 1,
-            true,
-            true,
-            true,
+            &BedBox::new([SIDE; 3], [0; 3], [SIDE - 1; 3], MaxPlane::ALL),
             lent.positions.as_mut_ptr(),
             lent.positions.len(),
             lent.normals.as_mut_ptr(),
@@ -255,15 +245,7 @@ fn a_subnormal_distance_is_seen() {
         raw::bed_is_enclosed(
             grid.as_ptr(),
             grid.len(),
-            SIDE,
-            SIDE,
-            SIDE,
-            0,
-            0,
-            0,
-            SIDE - 1,
-            SIDE - 1,
-            SIDE - 1,
+            &BedBox::with([SIDE; 3], [0; 3], max),
             &mut unguarded,
         )
     };

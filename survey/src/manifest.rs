@@ -4,7 +4,7 @@
 //!
 //! ```text
 //! bed manifest 1
-//! version 0.1.0
+//! version 0.2.0
 //! grid SHA-256 NAME
 //! fixtures SHA-256 NAME                                      where there are some
 //! plan SHA-256 NAME

@@ -41,6 +41,51 @@ static int rooms(void)
                : 1;
 }
 
+static const struct bed_box ball_box = { { 3, 3, 3 }, { 0, 0, 0 }, { 2, 2, 2 }, { 0, 0, 0 } };
+
+/* One point below zero in a box smaller than its grid, whose sides are all different. The box has two cells on one axis and three on
+ * the others, and the point is the second on each: of the six grid edges at it the box owns all but the one that ends on the max side
+ * of the short axis, and that one too with the max plane of this axis. So the mesh has 8 vertices, and 30 or 36 indices. */
+static int one_flag(int shorter)
+{
+    static const uint32_t yes[4] = { 1, 0x100, 0x80000000u, 0xFFFFFFFFu };
+    static float grid[7 * 8 * 9];
+    struct bed_box box = { { 7, 8, 9 }, { 1, 2, 3 }, { 4, 5, 6 }, { 0, 0, 0 } };
+    box.max[shorter]--;
+    for (int i = 0; i < 7 * 8 * 9; i++)
+        grid[i] = 1.0f;
+    grid[2 + 7 * (3 + 8 * 4)] = -1.0f;
+    for (int axis = 0; axis < 3; axis++)
+        for (int word = 0; word < 4; word++) {
+            uint64_t vertices = 0, indices = 0;
+            struct bed_layers layers;
+            float none[3 * 56] = { 0 };
+            uint32_t no_map[2 * 56] = { 0 };
+            box.max_plane[axis] = yes[word];
+            uint32_t answer = bed_answer(grid, 7 * 8 * 9, &box, 24, 24, 24, 8, 8, 7 * 8 * 9, 36, &vertices, &indices);
+            if (answer != BED_DONE || vertices != 8 || indices != (axis == shorter ? 36u : 30u))
+                return 1;
+            if (bed_layers_start(&layers, &box, none, 2 * 56, no_map, 2 * 56, none, 3 * 56) != BED_LAYERS_DONE)
+                return 1;
+            uint32_t kept[3] = { layers.max_plane_x, layers.max_plane_y, layers.max_plane_z };
+            for (int other = 0; other < 3; other++)
+                if ((kept[other] != 0) != (other == axis))
+                    return 1;
+            if (memcmp(&layers, &box, 9 * sizeof(uint32_t)) != 0)
+                return 1;
+            box.max_plane[axis] = 0;
+        }
+    return 0;
+}
+
+/* The library is the one that this header came with. */
+static int version(void)
+{
+    char numbers[32];
+    snprintf(numbers, sizeof numbers, "%d.%d.%d", BED_VERSION_MAJOR, BED_VERSION_MINOR, BED_VERSION_PATCH);
+    return bed_version() == BED_VERSION_NUMBER && strcmp(numbers, BED_VERSION) == 0 ? 0 : 1;
+}
+
 /* Ball layer by layer in memory that was not set, with the room that is always enough: what stands in kept memory after
  * each layer, as bed_layers_start says. */
 static int kept_memory(unsigned char before)
@@ -53,7 +98,7 @@ static int kept_memory(unsigned char before)
     memset(kept_positions, before, sizeof kept_positions);
     memset(map, before, sizeof map);
     memset(&layers, before, sizeof layers);
-    if (bed_layers_start(&layers, 3, 3, 3, 0, 0, 0, 2, 2, 2, false, false, false, distances, 18, map, 18, kept_positions, 27) != BED_LAYERS_DONE)
+    if (bed_layers_start(&layers, &ball_box, distances, 18, map, 18, kept_positions, 27) != BED_LAYERS_DONE)
         return 1;
     for (uint32_t t = 0; t < 3; t++) {
         float layer[9];
@@ -127,7 +172,7 @@ static int told(void)
     for (int i = 0; i < 27; i++)
         ball[i] = i == 13 ? -1.0f : 1.0f;
     enum bed_call_answer wanted = BED_VERTICES_SHORT;
-    uint32_t answer = bed_answer(ball, 27, 3, 3, 3, 0, 0, 0, 2, 2, 2, false, false, false, 0, 0, 0, 0, 0, 27, 0, &vertices, &indices);
+    uint32_t answer = bed_answer(ball, 27, &ball_box, 0, 0, 0, 0, 0, 27, 0, &vertices, &indices);
     return answer == (uint32_t)wanted && vertices == 8 && indices == 18 ? 0 : 1;
 }
 
@@ -135,6 +180,14 @@ int main(void)
 {
     if (names() != 0 || names_of_layers() != 0 || size() != 0 || rooms() != 0 || told() != 0) {
         puts("bed.h: not as it should be");
+        return 1;
+    }
+    if (version() != 0) {
+        puts("bed.h: another version than the library's");
+        return 1;
+    }
+    if (sizeof(struct bed_box) != 48 || one_flag(0) != 0 || one_flag(1) != 0 || one_flag(2) != 0) {
+        puts("bed.h: a max plane is taken for another's");
         return 1;
     }
     if (kept_memory(0) != 0 || kept_memory(255) != 0 || kept_memory(0x5a) != 0) {

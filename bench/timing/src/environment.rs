@@ -34,23 +34,8 @@ fn nanoseconds(mut refused: impl FnMut() -> bool) -> f64 {
 
 fn refused_without_guard() -> bool {
     let mut enclosed = false;
-    let sdf: &[f32] = black_box(&[]);
+    let (sdf, block): (&[f32], _) = (black_box(&[]), raw::BedBox::default());
     // SAFETY: pointer and length of a slice, and a variable of its own.
-    let answer = unsafe {
-        raw::bed_is_enclosed(
-            sdf.as_ptr(),
-            sdf.len(),
-            0,
-            0,
-            0,
-            0,
-            0,
-            0,
-            0,
-            0,
-            0,
-            &mut enclosed,
-        )
-    };
+    let answer = unsafe { raw::bed_is_enclosed(sdf.as_ptr(), sdf.len(), &block, &mut enclosed) };
     answer != 0
 }

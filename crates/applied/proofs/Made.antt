@@ -16,7 +16,7 @@ use Rattle.judge.specs.declared.Answer.{Answer}
 use Rattle.judge.specs.AsRules.{answerOf}
 use Rattle.lists.specs.Floats.{Binary32}
 use Rattle.surface_nets.specs.AsRules.{callMade}
-use Rattle.bed.specs.Boundary.{extent, planes, said}
+use Rattle.bed.specs.Boundary.{asked, said}
 use Rattle.promises.proofs.Runs.{Run, BedRun}
 use Rattle.promises.proofs.WholeRuns.{EightRun}
 use Rattle.closed_mesh.proofs.Outcome.{Mesh, Test}
@@ -94,56 +94,22 @@ module _ (grid : List Float) (dims low high : Extent) (plane : EachAxis) (r : An
         learnt = (answered, (left, numbers));
       }
 
--- a call of bed_surface_nets: V and I stand behind the last two parameters, where anything stood before
-module _ (grid : List Float) (dx dy dz lx ly lz hx hy hz : ℕ) (px py pz : Bool) (n v i : ℕ) (before after : Buffers)
-    (answered : said n v i ≡ answer (callMade grid (extent dx dy dz) (extent lx ly lz) (extent hx hy hz) (planes px py pz)) (room before))
-    (left : after ≡ afterwards (callMade grid (extent dx dy dz) (extent lx ly lz) (extent hx hy hz) (planes px py pz)) before) (numbers : Binary32 grid) where
+-- a call of bed_surface_nets, on twelve words: V and I stand behind the last two parameters, where anything stood before
+module _ (grid : List Float) (words : List ℕ) (n v i : ℕ) (before after : Buffers)
+    (answered : said n v i ≡ answer (asked grid words) (room before)) (left : after ≡ afterwards (asked grid words) before) (numbers : Binary32 grid) where
   abbrev pub bedRunOf : BedRun
   bedRunOf =
       record {
-        lifetimes = ([], ([], eight));
+        lifetimes = ([], ([], ([], eight)));
         args = (
           to grid,
           (
-            dx,
+            to words,
             (
-              dy,
+              to (before .positions),
               (
-                dz,
-                (
-                  lx,
-                  (
-                    ly,
-                    (
-                      lz,
-                      (
-                        hx,
-                        (
-                          hy,
-                          (
-                            hz,
-                            (
-                              px,
-                              (
-                                py,
-                                (
-                                  pz,
-                                  (
-                                    to (before .positions),
-                                    (
-                                      to (before .normals),
-                                      (to (before .cells), (to (before .strides), (to (before .crossings), (to (before .map), (to (before .indices), (to 5, (to 6, tt))))))),
-                                    ),
-                                  ),
-                                ),
-                              ),
-                            ),
-                          ),
-                        ),
-                      ),
-                    ),
-                  ),
-                ),
+                to (before .normals),
+                (to (before .cells), (to (before .strides), (to (before .crossings), (to (before .map), (to (before .indices), (to 5, (to 6, tt))))))),
               ),
             ),
           ),
@@ -156,44 +122,8 @@ module _ (grid : List Float) (dx dy dz lx ly lz hx hy hz : ℕ) (px py pz : Bool
                 (
                   tt,
                   (
-                    tt,
-                    (
-                      tt,
-                      (
-                        tt,
-                        (
-                          tt,
-                          (
-                            tt,
-                            (
-                              tt,
-                              (
-                                tt,
-                                (
-                                  tt,
-                                  (
-                                    tt,
-                                    (
-                                      tt,
-                                      (
-                                        tt,
-                                        (
-                                          after .positions,
-                                          (
-                                            after .normals,
-                                            (after .cells, (after .strides, (after .crossings, (after .map, (after .indices, (v, (i, tt))))))),
-                                          ),
-                                        ),
-                                      ),
-                                    ),
-                                  ),
-                                ),
-                              ),
-                            ),
-                          ),
-                        ),
-                      ),
-                    ),
+                    after .positions,
+                    (after .normals, (after .cells, (after .strides, (after .crossings, (after .map, (after .indices, (v, (i, tt)))))))),
                   ),
                 ),
               );

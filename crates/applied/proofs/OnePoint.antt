@@ -226,7 +226,7 @@ whole = runOf grid dims lowest highest noPlane (counts 8 36) (lent 8 36 77) whol
 
 -- the same call of the function for C
 abbrev pub bedWhole : BedRun
-bedWhole = bedRunOf grid 4 4 4 0 0 0 3 3 3 false false false 0 8 36 (lent 8 36 77) wholeLeft whole-answered whole-left grid-fits
+bedWhole = bedRunOf grid (4 ∷ 4 ∷ 4 ∷ 0 ∷ 0 ∷ 0 ∷ 3 ∷ 3 ∷ 3 ∷ 0 ∷ 0 ∷ 0 ∷ []) 0 8 36 (lent 8 36 77) wholeLeft whole-answered whole-left grid-fits
 
 abbrev pub wholeMesh : Mesh
 wholeMesh = meshOutcome grid dims lowest highest noPlane (counts 8 36) (lent 8 36 77) wholeLeft whole-answered whole-left grid-fits

@@ -1,14 +1,16 @@
 -- What the boundary's words and loose numbers stand for, on numbers no two of which are alike: a word, a corner, a flag or a length that is read at another's place, in
 -- the definition and in the code alike, would show here. Computed by the kernel; the wanted records are written out by include/bed.h's order. Assumes nothing.
 use mathlib.Core.Bool.{true, false}
-use mathlib.Core.List.{[], _∷_}
+use Prim.Native.Nat.{ℕ}
+use mathlib.Core.List.{List, [], _∷_}
 use mathlib.Core.Path.{_≡_, refl}
 use Rattle.rules.specs.Grid.{GridPoint, Box}
 use Rattle.rules.specs.Faces.{Flags}
-use Rattle.rules.specs.Call.{Room, Answer}
+use Rattle.rules.specs.Call.{Call, Room, Answer}
 use Rattle.grid.specs.declared.Block.{Block}
 use Rattle.bed.specs.Boundary.{asked, roomAsked, said}
-use Rattle.bed.specs.Layered.{blockAsked}
+use Rattle.bed.specs.Layered.{wordsStarted}
+use Rattle.bed.specs.Version.{version}
 use Rattle.bed.specs.Words12.{blockWords}
 
 abbrev wantedBlock : Block
@@ -24,28 +26,41 @@ wantedBlock =
 pub twelve-words : blockWords (11 ∷ 12 ∷ 13 ∷ 21 ∷ 22 ∷ 23 ∷ 31 ∷ 32 ∷ 33 ∷ 0 ∷ 5 ∷ 0 ∷ []) ≡ wantedBlock
 twelve-words = refl
 
--- twelve arguments of a bed taken layer by layer
-pub twelve-arguments : blockAsked 11 12 13 21 22 23 31 32 33 false true false ≡ wantedBlock
-twelve-arguments = refl
-
 -- the same of the call: its dimensions, its box and its flags
 abbrev wantedDimensions : GridPoint
 wantedDimensions = record { x = 11; y = 12; z = 13 }
 
-pub call-dimensions : asked [] 11 12 13 21 22 23 31 32 33 false true false .grid .dims ≡ wantedDimensions
-call-dimensions = refl
-
 abbrev wantedBox : Box
 wantedBox = record { low = record { x = 21; y = 22; z = 23 }; high = record { x = 31; y = 32; z = 33 } }
-
-pub call-box : asked [] 11 12 13 21 22 23 31 32 33 false true false .box ≡ wantedBox
-call-box = refl
 
 abbrev wantedFlags : Flags
 wantedFlags = record { x = false; y = true; z = false }
 
-pub call-flags : asked [] 11 12 13 21 22 23 31 32 33 false true false .flags ≡ wantedFlags
+abbrev call : Call
+call = asked [] (11 ∷ 12 ∷ 13 ∷ 21 ∷ 22 ∷ 23 ∷ 31 ∷ 32 ∷ 33 ∷ 0 ∷ 5 ∷ 0 ∷ [])
+
+pub call-dimensions : call .grid .dims ≡ wantedDimensions
+call-dimensions = refl
+
+pub call-box : call .box ≡ wantedBox
+call-box = refl
+
+pub call-flags : call .flags ≡ wantedFlags
 call-flags = refl
+
+-- and of a bed that is taken layer by layer, as its state holds it after a start: no layer taken, no vertex; a flag is then 1
+abbrev old : List ℕ
+old = 1 ∷ 2 ∷ 3 ∷ 4 ∷ 5 ∷ 6 ∷ 7 ∷ 8 ∷ 9 ∷ 10 ∷ 11 ∷ 12 ∷ 13 ∷ 14 ∷ 15 ∷ []
+
+pub state-started : wordsStarted 0 wantedBlock old ≡ 11 ∷ 12 ∷ 13 ∷ 21 ∷ 22 ∷ 23 ∷ 31 ∷ 32 ∷ 33 ∷ 0 ∷ 1 ∷ 0 ∷ 0 ∷ 0 ∷ 0 ∷ []
+state-started = refl
+
+pub state-kept : wordsStarted 4 wantedBlock old ≡ old
+state-kept = refl
+
+-- the version, 0.2.0
+pub version-number : version ≡ 0x000200
+version-number = refl
 
 -- seven lengths, and an answer with its counts
 abbrev wantedRoom : Room

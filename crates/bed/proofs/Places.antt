@@ -10,12 +10,9 @@ use contract.Lifetimes.{Lfts}
 use denote.Triple.Clauses.{Lasts, atExit}
 use borrow.Fn.Kinds.{PK, RK, Out, Dens, resT, endedOf}
 use Rattle.rules.specs.Call.{Room, Answer, answer, room}
-use Rattle.grid.specs.declared.Extent.{Extent}
-use Rattle.grid.specs.declared.EachAxis.{EachAxis}
 use Rattle.grid.specs.Block.{point}
 use Rattle.grid.specs.Values.{asFloats}
 use Rattle.whole_box.specs.LentLists.{buffersGiven}
-use Rattle.surface_nets.specs.AsRules.{callMade}
 use Rattle.skin.specs.Scan.{answers, examined}
 use Rattle.mesh_file.specs.Mesh.{Mesh, mesh, Held}
 use Rattle.mesh_file.specs.Writing.{writing, written}
@@ -26,12 +23,13 @@ use Rattle.fixtures.specs.Cut.{cutAnswer, cutGrid}
 use Rattle.layers.specs.Memory.{memory, lengths, startAnswer}
 use Rattle.layers.specs.Offer.{output, left, roomIn, layerAnswer, stateAfter, leaves}
 use Rattle.layers.specs.Words.{stateOf, wordsOn}
+use Rattle.volume.specs.Answers.{weighed, weighing}
 use Rattle.weigh.specs.Answers.{told, weight}
 use Rattle.levels.specs.Call as level-specs
 use Rattle.bed.specs.Words12 as words12
-use Rattle.bed.specs.Boundary.{extent, planes, roomAsked, said}
-use Rattle.bed.specs.Layered.{blockAsked, wordsStarted}
-use Rattle.bed.specs.Words12.{dimsAsked as dimsIn}
+use Rattle.bed.specs.Boundary.{asked, roomAsked, said}
+use Rattle.bed.specs.Layered.{wordsStarted}
+use Rattle.bed.specs.Version.{version}
 use Rattle.closing.specs.Answers.{closeAnswer, closedRoom, layerAnswer as closedAnswer, layerRoom}
 use Rattle.closing.specs.Wall.{deepest, wallFor}
 use Rattle.bed.proofs.bed_surface_nets.Kinds as nets-kinds
@@ -86,8 +84,12 @@ use Rattle.bed.proofs.layered.bed_layers_start.Kinds as start-kinds
 use Rattle.bed.proofs.layered.bed_layers_start.Reads as start
 use Rattle.bed.proofs.layered.bed_layers_offer.Kinds as offer-kinds
 use Rattle.bed.proofs.layered.bed_layers_offer.Reads as offer
+use Rattle.bed.proofs.weighing.bed_volume.Kinds as volume-kinds
+use Rattle.bed.proofs.weighing.bed_volume.Reads as volume
 use Rattle.bed.proofs.weights.bed_weigh.Kinds as weigh-kinds
 use Rattle.bed.proofs.weights.bed_weigh.Reads as weigh
+use Rattle.bed.proofs.version.bed_version.Kinds as version-kinds
+use Rattle.bed.proofs.version.bed_version.Reads as version-reads
 use Rattle.bed.proofs.levelled.bed_levels.Kinds as levels-kinds
 use Rattle.bed.proofs.levelled.bed_levels.Reads as levels
 use Rattle.bed.proofs.levelled.bed_levels_i16.Kinds as levels-i16-kinds
@@ -110,133 +112,114 @@ pub record Called (n : ℕ) (ps : List (PK n)) (r : RK n) (Learnt : Out n ps r) 
   pub last : Lasts (endedOf n ps r) lifetimes args
   pub fits : Learnt lifetimes args result (atExit (endedOf n ps r) lifetimes args last)
 
--- ---- bed_surface_nets, bed_surface_nets_i16, bed_surface_nets_i8: sdf, dimensions, min, max, the max plane on each axis, seven lists, V, I
+-- ---- bed_surface_nets, bed_surface_nets_i16, bed_surface_nets_i8: sdf, the twelve words, seven lists, V, I
 
 abbrev pub NetsCall : Type 0
-NetsCall = Called 10 nets-kinds.ps nets-kinds.r nets.Learnt
+NetsCall = Called 11 nets-kinds.ps nets-kinds.r nets.Learnt
 
 abbrev pub NetsCall16 : Type 0
-NetsCall16 = Called 10 nets-i16-kinds.ps nets-i16-kinds.r nets-i16.Learnt
+NetsCall16 = Called 11 nets-i16-kinds.ps nets-i16-kinds.r nets-i16.Learnt
 
 abbrev pub NetsCall8 : Type 0
-NetsCall8 = Called 10 nets-i8-kinds.ps nets-i8-kinds.r nets-i8.Learnt
+NetsCall8 = Called 11 nets-i8-kinds.ps nets-i8-kinds.r nets-i8.Learnt
 
 -- what the three say of a grid, by the places behind it, which are the same
-abbrev pub SaidOf : List Float → (κs : Lfts 10) → Dens κs (drop 1 nets-kinds.ps) → ℕ → ℕ → ℕ → Type 0
+abbrev pub SaidOf : List Float → (κs : Lfts 11) → Dens κs (drop 1 nets-kinds.ps) → ℕ → ℕ → ℕ → Type 0
 SaidOf grid κs places number v i =
-    let (dx, (dy, (dz, (lx, (ly, (lz, (hx, (hy, (hz, (px, (py, (pz, (positions, (normals, (cells, (strides, (crossings, (map, (indices, _))))))))))))))))))) = places in
-    said number v i ≡ answer (callMade grid (extent dx dy dz) (extent lx ly lz) (extent hx hy hz) (planes px py pz))
-    (room (buffersGiven positions normals cells strides crossings map indices))
+    let (words, (positions, (normals, (cells, (strides, (crossings, (map, (indices, _)))))))) = places in
+    said number v i ≡ answer (asked grid (words .now)) (room (buffersGiven positions normals cells strides crossings map indices))
 
 pub surface-nets-by-place : (u : NetsCall)
     → (let (sdf, more) = u .args in
-    let (_, (_, (_, (_, (_, (_, (_, (_, (_, (_, (_, (_, (_, (_, (_, (_, (_, (_, (_, (_, (v, (i, _)))))))))))))))))))))) = u .last in
+    let (_, (_, (_, (_, (_, (_, (_, (_, (_, (v, (i, _))))))))))) = u .last in
     SaidOf (sdf .now) (u .lifetimes) more (u .result) v i)
 surface-nets-by-place u = u .fits .0
 
 pub surface-nets-i16-by-place : (u : NetsCall16)
     → (let (sdf, more) = u .args in
-    let (_, (_, (_, (_, (_, (_, (_, (_, (_, (_, (_, (_, (_, (_, (_, (_, (_, (_, (_, (_, (v, (i, _)))))))))))))))))))))) = u .last in
+    let (_, (_, (_, (_, (_, (_, (_, (_, (_, (v, (i, _))))))))))) = u .last in
     SaidOf (asFloats (sdf .now)) (u .lifetimes) more (u .result) v i)
 surface-nets-i16-by-place u = u .fits .0
 
 pub surface-nets-i8-by-place : (u : NetsCall8)
     → (let (sdf, more) = u .args in
-    let (_, (_, (_, (_, (_, (_, (_, (_, (_, (_, (_, (_, (_, (_, (_, (_, (_, (_, (_, (_, (v, (i, _)))))))))))))))))))))) = u .last in
+    let (_, (_, (_, (_, (_, (_, (_, (_, (_, (v, (i, _))))))))))) = u .last in
     SaidOf (asFloats (sdf .now)) (u .lifetimes) more (u .result) v i)
 surface-nets-i8-by-place u = u .fits .0
 
--- ---- bed_answer: sdf, dimensions, min, max, the max plane on each axis, the lengths of the seven lists, V, I
+-- ---- bed_answer: sdf, the twelve words, the lengths of the seven lists, V, I
 
 abbrev pub AskCall : Type 0
-AskCall = Called 3 ask-kinds.ps ask-kinds.r ask.Learnt
+AskCall = Called 4 ask-kinds.ps ask-kinds.r ask.Learnt
 
 module _ (u : AskCall) where
   abbrev pub gridAsked : List Float
   gridAsked = let (sdf, _) = u .args in sdf .now
 
-  abbrev pub dimsAsked : Extent
-  dimsAsked = let (_, (dx, (dy, (dz, _)))) = u .args in extent dx dy dz
-
-  abbrev pub lowAsked : Extent
-  lowAsked = let (_, (_, (_, (_, (lx, (ly, (lz, _))))))) = u .args in extent lx ly lz
-
-  abbrev pub highAsked : Extent
-  highAsked = let (_, (_, (_, (_, (_, (_, (_, (hx, (hy, (hz, _)))))))))) = u .args in extent hx hy hz
-
-  abbrev pub planeAsked : EachAxis
-  planeAsked = let (_, (_, (_, (_, (_, (_, (_, (_, (_, (_, (px, (py, (pz, _))))))))))))) = u .args in planes px py pz
+  abbrev pub wordsAsked : List ℕ
+  wordsAsked = let (_, (words, _)) = u .args in words .now
 
   abbrev pub lengthsAsked : Room
   lengthsAsked =
-      let (_, (_, (_, (_, (_, (_, (_, (_, (_, (_, (_, (_, (_, (positions, (normals, (cells, (strides, (crossings, (map, (indices, _)))))))))))))))))))) = u .args in
+      let (_, (_, (positions, (normals, (cells, (strides, (crossings, (map, (indices, _))))))))) = u .args in
       roomAsked positions normals cells strides crossings map indices
 
   -- the answer number with V and I
   abbrev pub answerAsked : Answer
-  answerAsked = let (_, (_, (_, (_, (_, (_, (_, (_, (_, (_, (_, (_, (_, (_, (_, (_, (_, (_, (_, (_, (v, (i, _)))))))))))))))))))))) = u .last in said (u .result) v i
+  answerAsked = let (_, (_, (_, (_, (_, (_, (_, (_, (_, (v, (i, _))))))))))) = u .last in said (u .result) v i
 
-  pub answer-by-place : answerAsked ≡ answer (callMade gridAsked dimsAsked lowAsked highAsked planeAsked) lengthsAsked
+  pub answer-by-place : answerAsked ≡ answer (asked gridAsked wordsAsked) lengthsAsked
   answer-by-place = u .fits
 
 -- bed_answer_i16, bed_answer_i8: the same, of whole numbers, by the places behind the grid
 
 abbrev pub AskCall16 : Type 0
-AskCall16 = Called 3 ask-i16-kinds.ps ask-i16-kinds.r ask-i16.Learnt
+AskCall16 = Called 4 ask-i16-kinds.ps ask-i16-kinds.r ask-i16.Learnt
 
 abbrev pub AskCall8 : Type 0
-AskCall8 = Called 3 ask-i8-kinds.ps ask-i8-kinds.r ask-i8.Learnt
+AskCall8 = Called 4 ask-i8-kinds.ps ask-i8-kinds.r ask-i8.Learnt
 
-abbrev pub AnsweredOf : List Float → (κs : Lfts 3) → Dens κs (drop 1 ask-kinds.ps) → ℕ → ℕ → ℕ → Type 0
+abbrev pub AnsweredOf : List Float → (κs : Lfts 4) → Dens κs (drop 1 ask-kinds.ps) → ℕ → ℕ → ℕ → Type 0
 AnsweredOf grid κs places number v i =
-    let (dx, (dy, (dz, (lx, (ly, (lz, (hx, (hy, (hz, (px, (py, (pz, (positions, (normals, (cells, (strides, (crossings, (map, (indices, _))))))))))))))))))) = places in
-    said number v i ≡ answer (callMade grid (extent dx dy dz) (extent lx ly lz) (extent hx hy hz) (planes px py pz))
-    (roomAsked positions normals cells strides crossings map indices)
+    let (words, (positions, (normals, (cells, (strides, (crossings, (map, (indices, _)))))))) = places in
+    said number v i ≡ answer (asked grid (words .now)) (roomAsked positions normals cells strides crossings map indices)
 
 pub answer-i16-by-place : (u : AskCall16)
     → (let (sdf, more) = u .args in
-    let (_, (_, (_, (_, (_, (_, (_, (_, (_, (_, (_, (_, (_, (_, (_, (_, (_, (_, (_, (_, (v, (i, _)))))))))))))))))))))) = u .last in
+    let (_, (_, (_, (_, (_, (_, (_, (_, (_, (v, (i, _))))))))))) = u .last in
     AnsweredOf (asFloats (sdf .now)) (u .lifetimes) more (u .result) v i)
 answer-i16-by-place u = u .fits
 
 pub answer-i8-by-place : (u : AskCall8)
     → (let (sdf, more) = u .args in
-    let (_, (_, (_, (_, (_, (_, (_, (_, (_, (_, (_, (_, (_, (_, (_, (_, (_, (_, (_, (_, (v, (i, _)))))))))))))))))))))) = u .last in
+    let (_, (_, (_, (_, (_, (_, (_, (_, (_, (v, (i, _))))))))))) = u .last in
     AnsweredOf (asFloats (sdf .now)) (u .lifetimes) more (u .result) v i)
 answer-i8-by-place u = u .fits
 
--- ---- bed_is_enclosed, bed_is_enclosed_i16, bed_is_enclosed_i8: sdf, dimensions, min, max, the yes or no
+-- ---- bed_is_enclosed, bed_is_enclosed_i16, bed_is_enclosed_i8: sdf, the twelve words, the yes or no
 
 abbrev pub EnclosedCall : Type 0
-EnclosedCall = Called 2 enclosed-kinds.ps enclosed-kinds.r enclosed.Learnt
+EnclosedCall = Called 3 enclosed-kinds.ps enclosed-kinds.r enclosed.Learnt
 
 abbrev pub EnclosedCall16 : Type 0
-EnclosedCall16 = Called 2 enclosed-i16-kinds.ps enclosed-i16-kinds.r enclosed-i16.Learnt
+EnclosedCall16 = Called 3 enclosed-i16-kinds.ps enclosed-i16-kinds.r enclosed-i16.Learnt
 
 abbrev pub EnclosedCall8 : Type 0
-EnclosedCall8 = Called 2 enclosed-i8-kinds.ps enclosed-i8-kinds.r enclosed-i8.Learnt
+EnclosedCall8 = Called 3 enclosed-i8-kinds.ps enclosed-i8-kinds.r enclosed-i8.Learnt
 
-abbrev pub ExaminedOf : List Float → (κs : Lfts 2) → Dens κs (drop 1 enclosed-kinds.ps) → ℕ → Bool → Type 0
-ExaminedOf grid κs places number yes' =
-    let (dx, (dy, (dz, (lx, (ly, (lz, (hx, (hy, (hz, _))))))))) = places in
-    answers number yes' ≡ examined grid (extent dx dy dz) (extent lx ly lz) (extent hx hy hz)
+abbrev pub ExaminedOf : List Float → List ℕ → ℕ → Bool → Type 0
+ExaminedOf grid words number yes' = answers number yes' ≡ examined grid (words12.dimsAsked words) (words12.lowAsked words) (words12.highAsked words)
 
 pub is-enclosed-by-place : (u : EnclosedCall)
-    → (let (sdf, more) = u .args in
-    let (_, (_, (_, (_, (_, (_, (_, (_, (_, (_, (yes', _))))))))))) = u .last in
-    ExaminedOf (sdf .now) (u .lifetimes) more (u .result) yes')
+    → (let (sdf, (words, _)) = u .args in let (_, (_, (yes', _))) = u .last in ExaminedOf (sdf .now) (words .now) (u .result) yes')
 is-enclosed-by-place u = u .fits
 
 pub is-enclosed-i16-by-place : (u : EnclosedCall16)
-    → (let (sdf, more) = u .args in
-    let (_, (_, (_, (_, (_, (_, (_, (_, (_, (_, (yes', _))))))))))) = u .last in
-    ExaminedOf (asFloats (sdf .now)) (u .lifetimes) more (u .result) yes')
+    → (let (sdf, (words, _)) = u .args in let (_, (_, (yes', _))) = u .last in ExaminedOf (asFloats (sdf .now)) (words .now) (u .result) yes')
 is-enclosed-i16-by-place u = u .fits
 
 pub is-enclosed-i8-by-place : (u : EnclosedCall8)
-    → (let (sdf, more) = u .args in
-    let (_, (_, (_, (_, (_, (_, (_, (_, (_, (_, (yes', _))))))))))) = u .last in
-    ExaminedOf (asFloats (sdf .now)) (u .lifetimes) more (u .result) yes')
+    → (let (sdf, (words, _)) = u .args in let (_, (_, (yes', _))) = u .last in ExaminedOf (asFloats (sdf .now)) (words .now) (u .result) yes')
 is-enclosed-i8-by-place u = u .fits
 
 -- ---- bed_write_mesh: positions, normals, indices, the file, its number of bytes
@@ -331,26 +314,27 @@ module _ (u : CheckCall) where
       × Bytes fileChecked))
   check-by-place = u .fits
 
--- ---- bed_cut_fixtures: the file, dimensions, the grid
+-- ---- bed_cut_fixtures: the file, the twelve words, the grid
 
 abbrev pub CutCall : Type 0
-CutCall = Called 2 cut-kinds.ps cut-kinds.r cut.Learnt
+CutCall = Called 3 cut-kinds.ps cut-kinds.r cut.Learnt
 
 pub cut-fixtures-by-place : (u : CutCall)
-    → (let (file, (dx, (dy, (dz, (sdf, _))))) = u .args in
-    let (_, (_, (_, (_, (left, _))))) = u .last in
-    (u .result ≡ cutAnswer (file .now) (point (extent dx dy dz)) (length (sdf .now))) × (left ≡ cutGrid (file .now) (point (extent dx dy dz)) (sdf .now)))
+    → (let (file, (words, (sdf, _))) = u .args in
+    let (_, (_, (left, _))) = u .last in
+    let d = point (words12.dimsAsked (words .now)) in
+    (u .result ≡ cutAnswer (file .now) d (length (sdf .now))) × (left ≡ cutGrid (file .now) d (sdf .now)))
 cut-fixtures-by-place u = u .fits
 
--- ---- bed_layers_start: the state, dimensions, min, max, the max plane on each axis, the three lists of kept memory
+-- ---- bed_layers_start: the state, the twelve words, the three lists of kept memory
 
 abbrev pub StartCall : Type 0
-StartCall = Called 4 start-kinds.ps start-kinds.r start.Learnt
+StartCall = Called 5 start-kinds.ps start-kinds.r start.Learnt
 
 pub layers-start-by-place : (u : StartCall)
-    → (let (layers, (dx, (dy, (dz, (lx, (ly, (lz, (hx, (hy, (hz, (px, (py, (pz, (distances, (map, (positions, _)))))))))))))))) = u .args in
+    → (let (layers, (words, (distances, (map, (positions, _))))) = u .args in
     let (layers', _) = u .last in
-    let k = blockAsked dx dy dz lx ly lz hx hy hz px py pz in
+    let k = words12.blockWords (words .now) in
     (u .result ≡ startAnswer k (lengths (memory (distances .now) (map .now) (positions .now)))) × (layers' ≡ wordsStarted (u .result) k (layers .now)))
 layers-start-by-place u = u .fits
 
@@ -377,7 +361,7 @@ CloseCall = Called 3 close-kinds.ps close-kinds.r close-reads.Learnt
 pub close-by-place : (u : CloseCall)
     → (let (sdf, (words, (wall, (closed, _)))) = u .args in
     let (_, (_, (_, (left, _)))) = u .last in
-    let d = point (dimsIn (words .now)) in
+    let d = point (words12.dimsAsked (words .now)) in
     (u .result ≡ closeAnswer d (length (sdf .now)) wall (length (closed .now))) × (left ≡ closedRoom d wall (sdf .now) (closed .now)))
 close-by-place u = u .fits
 
@@ -387,7 +371,7 @@ CloseCall-i16 = Called 3 close-i16-kinds.ps close-i16-kinds.r close-i16-reads.Le
 pub close-i16-by-place : (u : CloseCall-i16)
     → (let (sdf, (words, (wall, (closed, _)))) = u .args in
     let (_, (_, (_, (left, _)))) = u .last in
-    let d = point (dimsIn (words .now)) in
+    let d = point (words12.dimsAsked (words .now)) in
     (u .result ≡ closeAnswer d (length (sdf .now)) wall (length (closed .now))) × (left ≡ closedRoom d wall (asFloats (sdf .now)) (closed .now)))
 close-i16-by-place u = u .fits
 
@@ -397,7 +381,7 @@ CloseCall-i8 = Called 3 close-i8-kinds.ps close-i8-kinds.r close-i8-reads.Learnt
 pub close-i8-by-place : (u : CloseCall-i8)
     → (let (sdf, (words, (wall, (closed, _)))) = u .args in
     let (_, (_, (_, (left, _)))) = u .last in
-    let d = point (dimsIn (words .now)) in
+    let d = point (words12.dimsAsked (words .now)) in
     (u .result ≡ closeAnswer d (length (sdf .now)) wall (length (closed .now))) × (left ≡ closedRoom d wall (asFloats (sdf .now)) (closed .now)))
 close-i8-by-place u = u .fits
 
@@ -409,7 +393,7 @@ LayerCall = Called 3 layer-kinds.ps layer-kinds.r layer-reads.Learnt
 pub close-layer-by-place : (u : LayerCall)
     → (let (layer, (words, (z, (wall, (closed, _))))) = u .args in
     let (_, (_, (_, (_, (left, _))))) = u .last in
-    let d = point (dimsIn (words .now)) in
+    let d = point (words12.dimsAsked (words .now)) in
     (u .result ≡ closedAnswer d z (length (layer .now)) wall (length (closed .now))) × (left ≡ layerRoom d wall z (layer .now) (closed .now)))
 close-layer-by-place u = u .fits
 
@@ -419,7 +403,7 @@ LayerCall-i16 = Called 3 layer-i16-kinds.ps layer-i16-kinds.r layer-i16-reads.Le
 pub close-layer-i16-by-place : (u : LayerCall-i16)
     → (let (layer, (words, (z, (wall, (closed, _))))) = u .args in
     let (_, (_, (_, (_, (left, _))))) = u .last in
-    let d = point (dimsIn (words .now)) in
+    let d = point (words12.dimsAsked (words .now)) in
     (u .result ≡ closedAnswer d z (length (layer .now)) wall (length (closed .now))) × (left ≡ layerRoom d wall z (asFloats (layer .now)) (closed .now)))
 close-layer-i16-by-place u = u .fits
 
@@ -429,9 +413,17 @@ LayerCall-i8 = Called 3 layer-i8-kinds.ps layer-i8-kinds.r layer-i8-reads.Learnt
 pub close-layer-i8-by-place : (u : LayerCall-i8)
     → (let (layer, (words, (z, (wall, (closed, _))))) = u .args in
     let (_, (_, (_, (_, (left, _))))) = u .last in
-    let d = point (dimsIn (words .now)) in
+    let d = point (words12.dimsAsked (words .now)) in
     (u .result ≡ closedAnswer d z (length (layer .now)) wall (length (closed .now))) × (left ≡ layerRoom d wall z (asFloats (layer .now)) (closed .now)))
 close-layer-i8-by-place u = u .fits
+
+-- ---- bed_version: nothing
+
+abbrev pub VersionCall : Type 0
+VersionCall = Called 0 version-kinds.ps version-kinds.r version-reads.Learnt
+
+pub version-by-place : (u : VersionCall) → u .result ≡ version
+version-by-place u = u .fits
 
 -- ---- bed_deepest: what was found so far, the list; bed_wall_for: what was found
 
@@ -458,6 +450,17 @@ WallCall = Called 0 wall-kinds.ps wall-kinds.r wall-reads.Learnt
 
 pub wall-for-by-place : (u : WallCall) → (let (found, _) = u .args in u .result ≡ wallFor found)
 wall-for-by-place u = u .fits
+
+-- ---- bed_volume: positions, indices, six times the volume
+
+abbrev pub VolumeCall : Type 0
+VolumeCall = Called 3 volume-kinds.ps volume-kinds.r volume.Learnt
+
+pub volume-by-place : (u : VolumeCall)
+    → (let (positions, (indices, _)) = u .args in
+    let (_, (_, (sixfold, _))) = u .last in
+    weighed (u .result) sixfold ≡ weighing (positions .now) (indices .now))
+volume-by-place u = u .fits
 
 -- ---- bed_weigh: positions, the number of the first vertex, indices, the low and the high word of the sum, the shadow
 

@@ -1,4 +1,5 @@
--- What the boundary's loose numbers stand for.
+-- What the boundary's words and loose numbers stand for.
 pub mod Boundary
 pub mod Layered
+pub mod Version
 pub mod Words12

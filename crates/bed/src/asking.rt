@@ -3,27 +3,13 @@
 ghost use mathlib.Core.Path.{_≡_};
 ghost use Rattle.rules.specs.Call.{answer};
 ghost use Rattle.bed.specs.Boundary.{asked, roomAsked, said};
-use grid::Block;
-use grid::EachAxis;
-use grid::Extent;
 use judge::Lengths;
 
 // The answer number, with V and I behind the last two.
 #[no_mangle]
 pub extern "C" fn bed_answer(
     sdf: &[f32],
-    dim_x: u32,
-    dim_y: u32,
-    dim_z: u32,
-    min_x: u32,
-    min_y: u32,
-    min_z: u32,
-    max_x: u32,
-    max_y: u32,
-    max_z: u32,
-    max_plane_x: bool,
-    max_plane_y: bool,
-    max_plane_z: bool,
+    words: &[u32; 12],
     positions_len: u64,
     normals_len: u64,
     cells_len: u64,
@@ -35,35 +21,10 @@ pub extern "C" fn bed_answer(
     index_count: &mut u64,
 ) -> u32
     ensures { λ r. ⌜ said r (now («vertex_count» .exit)) (now («index_count» .exit))
-        ≡ answer (asked (now (sdf .entry)) «dim_x» «dim_y» «dim_z» «min_x» «min_y» «min_z» «max_x» «max_y» «max_z» «max_plane_x» «max_plane_y» «max_plane_z»)
+        ≡ answer (asked (now (sdf .entry)) (now (words .entry)))
         (roomAsked «positions_len» «normals_len» «cells_len» «strides_len» «crossings_len» «stride_to_index_len» «indices_len») ⌝ }
 {
-    let dims = Extent {
-        x: dim_x,
-        y: dim_y,
-        z: dim_z,
-    };
-    let low = Extent {
-        x: min_x,
-        y: min_y,
-        z: min_z,
-    };
-    let high = Extent {
-        x: max_x,
-        y: max_y,
-        z: max_z,
-    };
-    let max_plane = EachAxis {
-        x: max_plane_x,
-        y: max_plane_y,
-        z: max_plane_z,
-    };
-    let k = Block {
-        dims,
-        low,
-        high,
-        max_plane,
-    };
+    let k = crate::words::block_of(words);
     let room = Lengths {
         positions: positions_len as usize,
         normals: normals_len as usize,

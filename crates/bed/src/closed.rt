@@ -7,7 +7,6 @@ ghost use Rattle.grid.specs.Values.{asFloats};
 ghost use Rattle.closing.specs.Answers.{closeAnswer, closedRoom, layerAnswer, layerRoom};
 ghost use Rattle.closing.specs.Wall.{deepest, wallFor};
 ghost use Rattle.bed.specs.Words12.{dimsAsked};
-use grid::Extent;
 
 // ---- a grid in memory: the answer number, 0, 1, 3 or 72 to 74
 
@@ -16,11 +15,7 @@ pub extern "C" fn bed_close(sdf: &[f32], words: &[u32; 12], wall: f32, closed: &
     ensures { λ r. ⌜ r ≡ closeAnswer (point (dimsAsked (now (words .entry)))) (length (now (sdf .entry))) wall (length (now (closed .entry))) ⌝ }
     ensures { λ _. ⌜ now (closed .exit) ≡ closedRoom (point (dimsAsked (now (words .entry)))) wall (now (sdf .entry)) (now (closed .entry)) ⌝ }
 {
-    let dims = Extent {
-        x: words[0],
-        y: words[1],
-        z: words[2],
-    };
+    let dims = crate::words::dims_of(words);
     closing::close(sdf, dims, wall, closed)
 }
 
@@ -34,11 +29,7 @@ pub extern "C" fn bed_close_i16(
     ensures { λ r. ⌜ r ≡ closeAnswer (point (dimsAsked (now (words .entry)))) (length (now (sdf .entry))) wall (length (now (closed .entry))) ⌝ }
     ensures { λ _. ⌜ now (closed .exit) ≡ closedRoom (point (dimsAsked (now (words .entry)))) wall (asFloats (now (sdf .entry))) (now (closed .entry)) ⌝ }
 {
-    let dims = Extent {
-        x: words[0],
-        y: words[1],
-        z: words[2],
-    };
+    let dims = crate::words::dims_of(words);
     closing::close_i16(sdf, dims, wall, closed)
 }
 
@@ -47,11 +38,7 @@ pub extern "C" fn bed_close_i8(sdf: &[i8], words: &[u32; 12], wall: f32, closed:
     ensures { λ r. ⌜ r ≡ closeAnswer (point (dimsAsked (now (words .entry)))) (length (now (sdf .entry))) wall (length (now (closed .entry))) ⌝ }
     ensures { λ _. ⌜ now (closed .exit) ≡ closedRoom (point (dimsAsked (now (words .entry)))) wall (asFloats (now (sdf .entry))) (now (closed .entry)) ⌝ }
 {
-    let dims = Extent {
-        x: words[0],
-        y: words[1],
-        z: words[2],
-    };
+    let dims = crate::words::dims_of(words);
     closing::close_i8(sdf, dims, wall, closed)
 }
 
@@ -68,11 +55,7 @@ pub extern "C" fn bed_close_layer(
     ensures { λ r. ⌜ r ≡ layerAnswer (point (dimsAsked (now (words .entry)))) z (length (now (layer .entry))) wall (length (now (closed .entry))) ⌝ }
     ensures { λ _. ⌜ now (closed .exit) ≡ layerRoom (point (dimsAsked (now (words .entry)))) wall z (now (layer .entry)) (now (closed .entry)) ⌝ }
 {
-    let dims = Extent {
-        x: words[0],
-        y: words[1],
-        z: words[2],
-    };
+    let dims = crate::words::dims_of(words);
     closing::close_layer(layer, dims, z, wall, closed)
 }
 
@@ -87,11 +70,7 @@ pub extern "C" fn bed_close_layer_i16(
     ensures { λ r. ⌜ r ≡ layerAnswer (point (dimsAsked (now (words .entry)))) z (length (now (layer .entry))) wall (length (now (closed .entry))) ⌝ }
     ensures { λ _. ⌜ now (closed .exit) ≡ layerRoom (point (dimsAsked (now (words .entry)))) wall z (asFloats (now (layer .entry))) (now (closed .entry)) ⌝ }
 {
-    let dims = Extent {
-        x: words[0],
-        y: words[1],
-        z: words[2],
-    };
+    let dims = crate::words::dims_of(words);
     closing::close_layer_i16(layer, dims, z, wall, closed)
 }
 
@@ -106,11 +85,7 @@ pub extern "C" fn bed_close_layer_i8(
     ensures { λ r. ⌜ r ≡ layerAnswer (point (dimsAsked (now (words .entry)))) z (length (now (layer .entry))) wall (length (now (closed .entry))) ⌝ }
     ensures { λ _. ⌜ now (closed .exit) ≡ layerRoom (point (dimsAsked (now (words .entry)))) wall z (asFloats (now (layer .entry))) (now (closed .entry)) ⌝ }
 {
-    let dims = Extent {
-        x: words[0],
-        y: words[1],
-        z: words[2],
-    };
+    let dims = crate::words::dims_of(words);
     closing::close_layer_i8(layer, dims, z, wall, closed)
 }
 

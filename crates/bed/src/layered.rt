@@ -6,62 +6,24 @@ ghost use Rattle.layers.specs.Offer.{left, roomIn, layerAnswer, stateAfter, lea
 ghost use Rattle.layers.specs.Words.{stateOf, wordsOn};
 ghost use Rattle.layers.specs.Lent.{memoryBefore, memoryAfter, outputBefore, outputAfter};
 ghost use Rattle.bed.specs.Boundary.{said};
-ghost use Rattle.bed.specs.Layered.{blockAsked, wordsStarted};
-use grid::Block;
-use grid::EachAxis;
-use grid::Extent;
+ghost use Rattle.bed.specs.Layered.{wordsStarted};
+ghost use Rattle.bed.specs.Words12.{blockWords};
 
 // The answer number, 0, 1, 2 or 4. The lent memory is only measured, and the state is written on 0 alone.
 #[no_mangle]
 pub extern "C" fn bed_layers_start(
     layers: &mut [u32; 15],
-    dim_x: u32,
-    dim_y: u32,
-    dim_z: u32,
-    min_x: u32,
-    min_y: u32,
-    min_z: u32,
-    max_x: u32,
-    max_y: u32,
-    max_z: u32,
-    max_plane_x: bool,
-    max_plane_y: bool,
-    max_plane_z: bool,
+    words: &[u32; 12],
     kept_distances: &[f32],
     kept_map: &[u32],
     kept_positions: &[f32],
 ) -> u32
-    ensures { λ r. ⌜ r ≡ startAnswer (blockAsked «dim_x» «dim_y» «dim_z» «min_x» «min_y» «min_z» «max_x» «max_y» «max_z» «max_plane_x» «max_plane_y» «max_plane_z»)
+    ensures { λ r. ⌜ r ≡ startAnswer (blockWords (now (words .entry)))
         (lengths (memory (now («kept_distances» .entry)) (now («kept_map» .entry)) (now («kept_positions» .entry)))) ⌝ }
     ensures { λ r. ⌜ now (layers .exit) ≡ wordsStarted r
-        (blockAsked «dim_x» «dim_y» «dim_z» «min_x» «min_y» «min_z» «max_x» «max_y» «max_z» «max_plane_x» «max_plane_y» «max_plane_z») (now (layers .entry)) ⌝ }
+        (blockWords (now (words .entry))) (now (layers .entry)) ⌝ }
 {
-    let dims = Extent {
-        x: dim_x,
-        y: dim_y,
-        z: dim_z,
-    };
-    let low = Extent {
-        x: min_x,
-        y: min_y,
-        z: min_z,
-    };
-    let high = Extent {
-        x: max_x,
-        y: max_y,
-        z: max_z,
-    };
-    let max_plane = EachAxis {
-        x: max_plane_x,
-        y: max_plane_y,
-        z: max_plane_z,
-    };
-    let k = Block {
-        dims,
-        low,
-        high,
-        max_plane,
-    };
+    let k = crate::words::block_of(words);
     let distances = kept_distances.len();
     let map = kept_map.len();
     let positions = kept_positions.len();

@@ -4,27 +4,13 @@ ghost use Rattle.rules.specs.Call.{answer, afterwards, room};
 ghost use Rattle.whole_box.specs.LentLists.{buffersBefore, buffersAfter};
 ghost use Rattle.grid.specs.Values.{asFloats, Wholes};
 ghost use Rattle.bed.specs.Boundary.{asked, roomAsked, said};
-use grid::Block;
-use grid::EachAxis;
-use grid::Extent;
 use judge::Lengths;
 
 // Signed 16-bit distances.
 #[no_mangle]
 pub extern "C" fn bed_surface_nets_i16(
     sdf: &[i16],
-    dim_x: u32,
-    dim_y: u32,
-    dim_z: u32,
-    min_x: u32,
-    min_y: u32,
-    min_z: u32,
-    max_x: u32,
-    max_y: u32,
-    max_z: u32,
-    max_plane_x: bool,
-    max_plane_y: bool,
-    max_plane_z: bool,
+    words: &[u32; 12],
     positions: &mut [f32],
     normals: &mut [f32],
     cells: &mut [u32],
@@ -36,39 +22,20 @@ pub extern "C" fn bed_surface_nets_i16(
     index_count: &mut u64,
 ) -> u32
     ensures { λ r. ⌜ said r (now («vertex_count» .exit)) (now («index_count» .exit))
-        ≡ answer (asked (asFloats (now (sdf .entry))) «dim_x» «dim_y» «dim_z» «min_x» «min_y» «min_z» «max_x» «max_y» «max_z» «max_plane_x» «max_plane_y» «max_plane_z»)
+        ≡ answer (asked (asFloats (now (sdf .entry))) (now (words .entry)))
         (room (buffersBefore positions normals cells strides crossings «stride_to_index» indices)) ⌝ }
     ensures { λ _. ⌜ buffersAfter positions normals cells strides crossings «stride_to_index» indices
-        ≡ afterwards (asked (asFloats (now (sdf .entry))) «dim_x» «dim_y» «dim_z» «min_x» «min_y» «min_z» «max_x» «max_y» «max_z» «max_plane_x» «max_plane_y» «max_plane_z»)
+        ≡ afterwards (asked (asFloats (now (sdf .entry))) (now (words .entry)))
         (buffersBefore positions normals cells strides crossings «stride_to_index» indices) ⌝ }
     ensures { λ _. ⌜ Wholes 16 (now (sdf .entry)) ⌝ }
 {
-    let dims = Extent {
-        x: dim_x,
-        y: dim_y,
-        z: dim_z,
-    };
-    let low = Extent {
-        x: min_x,
-        y: min_y,
-        z: min_z,
-    };
-    let high = Extent {
-        x: max_x,
-        y: max_y,
-        z: max_z,
-    };
-    let max_plane = EachAxis {
-        x: max_plane_x,
-        y: max_plane_y,
-        z: max_plane_z,
-    };
+    let k = crate::words::block_of(words);
     let a = surface_nets::surface_nets_i16(
         sdf,
-        dims,
-        low,
-        high,
-        max_plane,
+        k.dims,
+        k.low,
+        k.high,
+        k.max_plane,
         positions,
         normals,
         cells,
@@ -86,18 +53,7 @@ pub extern "C" fn bed_surface_nets_i16(
 #[no_mangle]
 pub extern "C" fn bed_surface_nets_i8(
     sdf: &[i8],
-    dim_x: u32,
-    dim_y: u32,
-    dim_z: u32,
-    min_x: u32,
-    min_y: u32,
-    min_z: u32,
-    max_x: u32,
-    max_y: u32,
-    max_z: u32,
-    max_plane_x: bool,
-    max_plane_y: bool,
-    max_plane_z: bool,
+    words: &[u32; 12],
     positions: &mut [f32],
     normals: &mut [f32],
     cells: &mut [u32],
@@ -109,39 +65,20 @@ pub extern "C" fn bed_surface_nets_i8(
     index_count: &mut u64,
 ) -> u32
     ensures { λ r. ⌜ said r (now («vertex_count» .exit)) (now («index_count» .exit))
-        ≡ answer (asked (asFloats (now (sdf .entry))) «dim_x» «dim_y» «dim_z» «min_x» «min_y» «min_z» «max_x» «max_y» «max_z» «max_plane_x» «max_plane_y» «max_plane_z»)
+        ≡ answer (asked (asFloats (now (sdf .entry))) (now (words .entry)))
         (room (buffersBefore positions normals cells strides crossings «stride_to_index» indices)) ⌝ }
     ensures { λ _. ⌜ buffersAfter positions normals cells strides crossings «stride_to_index» indices
-        ≡ afterwards (asked (asFloats (now (sdf .entry))) «dim_x» «dim_y» «dim_z» «min_x» «min_y» «min_z» «max_x» «max_y» «max_z» «max_plane_x» «max_plane_y» «max_plane_z»)
+        ≡ afterwards (asked (asFloats (now (sdf .entry))) (now (words .entry)))
         (buffersBefore positions normals cells strides crossings «stride_to_index» indices) ⌝ }
     ensures { λ _. ⌜ Wholes 8 (now (sdf .entry)) ⌝ }
 {
-    let dims = Extent {
-        x: dim_x,
-        y: dim_y,
-        z: dim_z,
-    };
-    let low = Extent {
-        x: min_x,
-        y: min_y,
-        z: min_z,
-    };
-    let high = Extent {
-        x: max_x,
-        y: max_y,
-        z: max_z,
-    };
-    let max_plane = EachAxis {
-        x: max_plane_x,
-        y: max_plane_y,
-        z: max_plane_z,
-    };
+    let k = crate::words::block_of(words);
     let a = surface_nets::surface_nets_i8(
         sdf,
-        dims,
-        low,
-        high,
-        max_plane,
+        k.dims,
+        k.low,
+        k.high,
+        k.max_plane,
         positions,
         normals,
         cells,
@@ -159,18 +96,7 @@ pub extern "C" fn bed_surface_nets_i8(
 #[no_mangle]
 pub extern "C" fn bed_answer_i16(
     sdf: &[i16],
-    dim_x: u32,
-    dim_y: u32,
-    dim_z: u32,
-    min_x: u32,
-    min_y: u32,
-    min_z: u32,
-    max_x: u32,
-    max_y: u32,
-    max_z: u32,
-    max_plane_x: bool,
-    max_plane_y: bool,
-    max_plane_z: bool,
+    words: &[u32; 12],
     positions_len: u64,
     normals_len: u64,
     cells_len: u64,
@@ -182,35 +108,10 @@ pub extern "C" fn bed_answer_i16(
     index_count: &mut u64,
 ) -> u32
     ensures { λ r. ⌜ said r (now («vertex_count» .exit)) (now («index_count» .exit))
-        ≡ answer (asked (asFloats (now (sdf .entry))) «dim_x» «dim_y» «dim_z» «min_x» «min_y» «min_z» «max_x» «max_y» «max_z» «max_plane_x» «max_plane_y» «max_plane_z»)
+        ≡ answer (asked (asFloats (now (sdf .entry))) (now (words .entry)))
         (roomAsked «positions_len» «normals_len» «cells_len» «strides_len» «crossings_len» «stride_to_index_len» «indices_len») ⌝ }
 {
-    let dims = Extent {
-        x: dim_x,
-        y: dim_y,
-        z: dim_z,
-    };
-    let low = Extent {
-        x: min_x,
-        y: min_y,
-        z: min_z,
-    };
-    let high = Extent {
-        x: max_x,
-        y: max_y,
-        z: max_z,
-    };
-    let max_plane = EachAxis {
-        x: max_plane_x,
-        y: max_plane_y,
-        z: max_plane_z,
-    };
-    let k = Block {
-        dims,
-        low,
-        high,
-        max_plane,
-    };
+    let k = crate::words::block_of(words);
     let room = Lengths {
         positions: positions_len as usize,
         normals: normals_len as usize,
@@ -230,18 +131,7 @@ pub extern "C" fn bed_answer_i16(
 #[no_mangle]
 pub extern "C" fn bed_answer_i8(
     sdf: &[i8],
-    dim_x: u32,
-    dim_y: u32,
-    dim_z: u32,
-    min_x: u32,
-    min_y: u32,
-    min_z: u32,
-    max_x: u32,
-    max_y: u32,
-    max_z: u32,
-    max_plane_x: bool,
-    max_plane_y: bool,
-    max_plane_z: bool,
+    words: &[u32; 12],
     positions_len: u64,
     normals_len: u64,
     cells_len: u64,
@@ -253,35 +143,10 @@ pub extern "C" fn bed_answer_i8(
     index_count: &mut u64,
 ) -> u32
     ensures { λ r. ⌜ said r (now («vertex_count» .exit)) (now («index_count» .exit))
-        ≡ answer (asked (asFloats (now (sdf .entry))) «dim_x» «dim_y» «dim_z» «min_x» «min_y» «min_z» «max_x» «max_y» «max_z» «max_plane_x» «max_plane_y» «max_plane_z»)
+        ≡ answer (asked (asFloats (now (sdf .entry))) (now (words .entry)))
         (roomAsked «positions_len» «normals_len» «cells_len» «strides_len» «crossings_len» «stride_to_index_len» «indices_len») ⌝ }
 {
-    let dims = Extent {
-        x: dim_x,
-        y: dim_y,
-        z: dim_z,
-    };
-    let low = Extent {
-        x: min_x,
-        y: min_y,
-        z: min_z,
-    };
-    let high = Extent {
-        x: max_x,
-        y: max_y,
-        z: max_z,
-    };
-    let max_plane = EachAxis {
-        x: max_plane_x,
-        y: max_plane_y,
-        z: max_plane_z,
-    };
-    let k = Block {
-        dims,
-        low,
-        high,
-        max_plane,
-    };
+    let k = crate::words::block_of(words);
     let room = Lengths {
         positions: positions_len as usize,
         normals: normals_len as usize,

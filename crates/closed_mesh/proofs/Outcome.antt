@@ -15,7 +15,8 @@ use Rattle.judge.specs.AsRules.{answerOf}
 use Rattle.whole_box.specs.LentLists.{buffersGiven}
 use Rattle.skin.specs.declared.Enclosed.{Enclosed as Tested}
 use Rattle.skin.specs.Scan.{answers, gridOf, boxFrom}
-use Rattle.bed.specs.Boundary.{extent, planes, said}
+use Rattle.bed.specs.Boundary.{said}
+use Rattle.bed.specs.Words12.{dimsAsked, lowAsked, highAsked, planesAsked}
 use Rattle.surface_nets.proofs.surface_nets.Kinds as mesh-kinds
 use Rattle.surface_nets.proofs.surface_nets.Reads as mesh
 use Rattle.skin.proofs.is_enclosed.Kinds as test-kinds
@@ -90,42 +91,42 @@ module _ (t : Test) where
 -- ---- the same two for C
 
 abbrev pub BedMesh : Type 0
-BedMesh = Outcome 10 bed-mesh-kinds.ps bed-mesh-kinds.r bed-mesh.Learnt
+BedMesh = Outcome 11 bed-mesh-kinds.ps bed-mesh-kinds.r bed-mesh.Learnt
 
 module _ (o : BedMesh) where
   abbrev pub bedMeshInput : Input
   bedMeshInput =
-      let (sdf, (dx, (dy, (dz, (lx, (ly, (lz, (hx, (hy, (hz, _)))))))))) = o .args in
-      input (now sdf) (extent dx dy dz) (extent lx ly lz) (extent hx hy hz)
+      let (sdf, (words, _)) = o .args in
+      input (now sdf) (dimsAsked (now words)) (lowAsked (now words)) (highAsked (now words))
 
   abbrev pub bedMeshPlane : EachAxis
-  bedMeshPlane = let (x, (y, (z, _))) = o .args .1 .1 .1 .1 .1 .1 .1 .1 .1 .1 in planes x y z
+  bedMeshPlane = planesAsked (now (o .args .1 .0))
 
   abbrev pub bedMeshAnswer : Answer
   bedMeshAnswer =
-      let (_, (_, (_, (_, (_, (_, (_, (_, (_, (_, (_, (_, (_, (_, (_, (_, (_, (_, (_, (_, (vertices, (indices, _)))))))))))))))))))))) = o .exit in
+      let (_, (_, (_, (_, (_, (_, (_, (_, (_, (vertices, (indices, _))))))))))) = o .exit in
       said (o .result) (now vertices) (now indices)
 
   abbrev pub bedMeshEntry : Buffers
   bedMeshEntry =
-      let (_, (_, (_, (_, (_, (_, (_, (_, (_, (_, (_, (_, (_, (positions, (normals, (cells, (strides, (crossings, (map, (indices, _)))))))))))))))))))) = o .args in
+      let (_, (_, (positions, (normals, (cells, (strides, (crossings, (map, (indices, _))))))))) = o .args in
       buffersGiven positions normals cells strides crossings map indices
 
   abbrev pub bedMeshExit : Buffers
   bedMeshExit =
-      let (_, (_, (_, (_, (_, (_, (_, (_, (_, (_, (_, (_, (_, (positions, (normals, (cells, (strides, (crossings, (map, (indices, _)))))))))))))))))))) = o .exit in
+      let (_, (_, (positions, (normals, (cells, (strides, (crossings, (map, (indices, _))))))))) = o .exit in
       buffersGiven positions normals cells strides crossings map indices
 
 abbrev pub BedTest : Type 0
-BedTest = Outcome 2 bed-test-kinds.ps bed-test-kinds.r bed-test.Learnt
+BedTest = Outcome 3 bed-test-kinds.ps bed-test-kinds.r bed-test.Learnt
 
 module _ (t : BedTest) where
   abbrev pub bedTestInput : Input
   bedTestInput =
-      let (sdf, (dx, (dy, (dz, (lx, (ly, (lz, (hx, (hy, (hz, _)))))))))) = t .args in
-      input (now sdf) (extent dx dy dz) (extent lx ly lz) (extent hx hy hz)
+      let (sdf, (words, _)) = t .args in
+      input (now sdf) (dimsAsked (now words)) (lowAsked (now words)) (highAsked (now words))
 
   abbrev pub bedTested : Tested
   bedTested =
-      let (_, (_, (_, (_, (_, (_, (_, (_, (_, (_, (enclosed, _))))))))))) = t .exit in
+      let (_, (_, (enclosed, _))) = t .exit in
       answers (t .result) (now enclosed)

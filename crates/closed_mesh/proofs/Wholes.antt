@@ -13,7 +13,8 @@ use Rattle.whole_box.specs.LentLists.{buffersGiven}
 use Rattle.skin.specs.declared.Enclosed.{Enclosed as Tested}
 use Rattle.skin.specs.Links.{links}
 use Rattle.skin.specs.Scan.{answers}
-use Rattle.bed.specs.Boundary.{extent, planes, said}
+use Rattle.bed.specs.Boundary.{said}
+use Rattle.bed.specs.Words12.{dimsAsked, lowAsked, highAsked, planesAsked}
 use Rattle.closed_mesh.proofs.Outcome.{Outcome, Input, input, Test, testInput, BedTest, bedTestInput, bedTested}
 use Rattle.closed_mesh.proofs.Closed.{Even, Meshed, mesh-closed-yes}
 use Rattle.closed_mesh.proofs.Calls.{moved}
@@ -52,17 +53,17 @@ pub is-enclosed-i16-as-floats : (t : Test16) (u : Test) → test16Input t ≡ te
 is-enclosed-i16-as-floats t u same = same-test same (t .learnt) (u .learnt)
 
 abbrev pub BedTest16 : Type 0
-BedTest16 = Outcome 2 bed-test-16-kinds.ps bed-test-16-kinds.r bed-test-16.Learnt
+BedTest16 = Outcome 3 bed-test-16-kinds.ps bed-test-16-kinds.r bed-test-16.Learnt
 
 module _ (t : BedTest16) where
   abbrev pub bedTest16Input : Input
   bedTest16Input =
-      let (sdf, (dx, (dy, (dz, (lx, (ly, (lz, (hx, (hy, (hz, _)))))))))) = t .args in
-      input (asFloats (now sdf)) (extent dx dy dz) (extent lx ly lz) (extent hx hy hz)
+      let (sdf, (words, _)) = t .args in
+      input (asFloats (now sdf)) (dimsAsked (now words)) (lowAsked (now words)) (highAsked (now words))
 
   abbrev pub bedTested16 : Tested
   bedTested16 =
-      let (_, (_, (_, (_, (_, (_, (_, (_, (_, (_, (enclosed, _))))))))))) = t .exit in
+      let (_, (_, (enclosed, _))) = t .exit in
       answers (t .result) (now enclosed)
 
 pub bed-is-enclosed-i16-once : (t t' : BedTest16) → bedTest16Input t ≡ bedTest16Input t' → bedTested16 t ≡ bedTested16 t'
@@ -106,30 +107,30 @@ pub surface-nets-i16-closed : (t : Test16) (o : Mesh16) → test16Input t ≡ me
 surface-nets-i16-closed t o same yes' done = mesh-closed-yes (mesh-16-is o done) (moved same (t .learnt) yes')
 
 abbrev pub BedMesh16 : Type 0
-BedMesh16 = Outcome 10 bed-mesh-16-kinds.ps bed-mesh-16-kinds.r bed-mesh-16.Learnt
+BedMesh16 = Outcome 11 bed-mesh-16-kinds.ps bed-mesh-16-kinds.r bed-mesh-16.Learnt
 
 module _ (o : BedMesh16) where
   abbrev pub bedMesh16Input : Input
   bedMesh16Input =
-      let (sdf, (dx, (dy, (dz, (lx, (ly, (lz, (hx, (hy, (hz, _)))))))))) = o .args in
-      input (asFloats (now sdf)) (extent dx dy dz) (extent lx ly lz) (extent hx hy hz)
+      let (sdf, (words, _)) = o .args in
+      input (asFloats (now sdf)) (dimsAsked (now words)) (lowAsked (now words)) (highAsked (now words))
 
   abbrev pub bedMesh16Plane : EachAxis
-  bedMesh16Plane = let (x, (y, (z, _))) = o .args .1 .1 .1 .1 .1 .1 .1 .1 .1 .1 in planes x y z
+  bedMesh16Plane = planesAsked (now (o .args .1 .0))
 
   abbrev pub bedMesh16Answer : Answer
   bedMesh16Answer =
-      let (_, (_, (_, (_, (_, (_, (_, (_, (_, (_, (_, (_, (_, (_, (_, (_, (_, (_, (_, (_, (vertices, (indices, _)))))))))))))))))))))) = o .exit in
+      let (_, (_, (_, (_, (_, (_, (_, (_, (_, (vertices, (indices, _))))))))))) = o .exit in
       said (o .result) (now vertices) (now indices)
 
   abbrev pub bedMesh16Entry : Buffers
   bedMesh16Entry =
-      let (_, (_, (_, (_, (_, (_, (_, (_, (_, (_, (_, (_, (_, (positions, (normals, (cells, (strides, (crossings, (map, (indices, _)))))))))))))))))))) = o .args in
+      let (_, (_, (positions, (normals, (cells, (strides, (crossings, (map, (indices, _))))))))) = o .args in
       buffersGiven positions normals cells strides crossings map indices
 
   abbrev pub bedMesh16Exit : Buffers
   bedMesh16Exit =
-      let (_, (_, (_, (_, (_, (_, (_, (_, (_, (_, (_, (_, (_, (positions, (normals, (cells, (strides, (crossings, (map, (indices, _)))))))))))))))))))) = o .exit in
+      let (_, (_, (positions, (normals, (cells, (strides, (crossings, (map, (indices, _))))))))) = o .exit in
       buffersGiven positions normals cells strides crossings map indices
 
   pub bed-mesh-16-is : o .result ≡ 0 → Meshed bedMesh16Input bedMesh16Plane bedMesh16Answer bedMesh16Entry bedMesh16Exit
@@ -156,17 +157,17 @@ pub is-enclosed-i8-as-floats : (t : Test8) (u : Test) → test8Input t ≡ testI
 is-enclosed-i8-as-floats t u same = same-test same (t .learnt) (u .learnt)
 
 abbrev pub BedTest8 : Type 0
-BedTest8 = Outcome 2 bed-test-8-kinds.ps bed-test-8-kinds.r bed-test-8.Learnt
+BedTest8 = Outcome 3 bed-test-8-kinds.ps bed-test-8-kinds.r bed-test-8.Learnt
 
 module _ (t : BedTest8) where
   abbrev pub bedTest8Input : Input
   bedTest8Input =
-      let (sdf, (dx, (dy, (dz, (lx, (ly, (lz, (hx, (hy, (hz, _)))))))))) = t .args in
-      input (asFloats (now sdf)) (extent dx dy dz) (extent lx ly lz) (extent hx hy hz)
+      let (sdf, (words, _)) = t .args in
+      input (asFloats (now sdf)) (dimsAsked (now words)) (lowAsked (now words)) (highAsked (now words))
 
   abbrev pub bedTested8 : Tested
   bedTested8 =
-      let (_, (_, (_, (_, (_, (_, (_, (_, (_, (_, (enclosed, _))))))))))) = t .exit in
+      let (_, (_, (enclosed, _))) = t .exit in
       answers (t .result) (now enclosed)
 
 pub bed-is-enclosed-i8-once : (t t' : BedTest8) → bedTest8Input t ≡ bedTest8Input t' → bedTested8 t ≡ bedTested8 t'
@@ -210,30 +211,30 @@ pub surface-nets-i8-closed : (t : Test8) (o : Mesh8) → test8Input t ≡ mesh8I
 surface-nets-i8-closed t o same yes' done = mesh-closed-yes (mesh-8-is o done) (moved same (t .learnt) yes')
 
 abbrev pub BedMesh8 : Type 0
-BedMesh8 = Outcome 10 bed-mesh-8-kinds.ps bed-mesh-8-kinds.r bed-mesh-8.Learnt
+BedMesh8 = Outcome 11 bed-mesh-8-kinds.ps bed-mesh-8-kinds.r bed-mesh-8.Learnt
 
 module _ (o : BedMesh8) where
   abbrev pub bedMesh8Input : Input
   bedMesh8Input =
-      let (sdf, (dx, (dy, (dz, (lx, (ly, (lz, (hx, (hy, (hz, _)))))))))) = o .args in
-      input (asFloats (now sdf)) (extent dx dy dz) (extent lx ly lz) (extent hx hy hz)
+      let (sdf, (words, _)) = o .args in
+      input (asFloats (now sdf)) (dimsAsked (now words)) (lowAsked (now words)) (highAsked (now words))
 
   abbrev pub bedMesh8Plane : EachAxis
-  bedMesh8Plane = let (x, (y, (z, _))) = o .args .1 .1 .1 .1 .1 .1 .1 .1 .1 .1 in planes x y z
+  bedMesh8Plane = planesAsked (now (o .args .1 .0))
 
   abbrev pub bedMesh8Answer : Answer
   bedMesh8Answer =
-      let (_, (_, (_, (_, (_, (_, (_, (_, (_, (_, (_, (_, (_, (_, (_, (_, (_, (_, (_, (_, (vertices, (indices, _)))))))))))))))))))))) = o .exit in
+      let (_, (_, (_, (_, (_, (_, (_, (_, (_, (vertices, (indices, _))))))))))) = o .exit in
       said (o .result) (now vertices) (now indices)
 
   abbrev pub bedMesh8Entry : Buffers
   bedMesh8Entry =
-      let (_, (_, (_, (_, (_, (_, (_, (_, (_, (_, (_, (_, (_, (positions, (normals, (cells, (strides, (crossings, (map, (indices, _)))))))))))))))))))) = o .args in
+      let (_, (_, (positions, (normals, (cells, (strides, (crossings, (map, (indices, _))))))))) = o .args in
       buffersGiven positions normals cells strides crossings map indices
 
   abbrev pub bedMesh8Exit : Buffers
   bedMesh8Exit =
-      let (_, (_, (_, (_, (_, (_, (_, (_, (_, (_, (_, (_, (_, (positions, (normals, (cells, (strides, (crossings, (map, (indices, _)))))))))))))))))))) = o .exit in
+      let (_, (_, (positions, (normals, (cells, (strides, (crossings, (map, (indices, _))))))))) = o .exit in
       buffersGiven positions normals cells strides crossings map indices
 
   pub bed-mesh-8-is : o .result ≡ 0 → Meshed bedMesh8Input bedMesh8Plane bedMesh8Answer bedMesh8Entry bedMesh8Exit

@@ -13,8 +13,8 @@ cut-fixtures-once κs a o o' l l' =
     let g = l .1 ∙ sym (l' .1) in
     λ i. record { result = s i; last = (tt, (tt, (g i, tt))) }
 
-pub bed-cut-fixtures-once : OneOutcome 2 bed-cut-fixtures-kinds.ps bed-cut-fixtures-kinds.r bed-cut-fixtures.Learnt
+pub bed-cut-fixtures-once : OneOutcome 3 bed-cut-fixtures-kinds.ps bed-cut-fixtures-kinds.r bed-cut-fixtures.Learnt
 bed-cut-fixtures-once κs a o o' l l' =
     let s = l .0 ∙ sym (l' .0) in
     let g = l .1 ∙ sym (l' .1) in
-    λ i. record { result = s i; last = (tt, (tt, (tt, (tt, (g i, tt))))) }
+    λ i. record { result = s i; last = (tt, (tt, (g i, tt))) }

@@ -69,7 +69,7 @@ step-once κs a o o' l l' = let s = l ∙ sym l' in λ i. record { result = tt; 
 
 -- ---- for C
 
-pub bed-layers-start-once : OneOutcome 4 bed-layers-start-kinds.ps bed-layers-start-kinds.r bed-layers-start.Learnt
+pub bed-layers-start-once : OneOutcome 5 bed-layers-start-kinds.ps bed-layers-start-kinds.r bed-layers-start.Learnt
 bed-layers-start-once κs a o o' l l' =
     let s = l .0 ∙ sym (l' .0) in
     let w : o .last .0 ≡ o' .last .0 = cc in

@@ -12,7 +12,7 @@ use Rattle.judge.specs.AsRules.{answerOf}
 use Rattle.whole_box.specs.LentLists.{buffers, buffersGiven}
 use Rattle.surface_nets.specs.AsRules.{callMade}
 use Rattle.levels.specs.Call.{boxFrom}
-use Rattle.bed.specs.Boundary.{extent, planes, said}
+use Rattle.bed.specs.Boundary.{asked, said}
 use Rattle.bed.specs.Words12.{dimsAsked, lowAsked, highAsked}
 use Rattle.bed.proofs.Places.{Called, LevelsCall, LevelsCall16, LevelsCall8, LevelsLayerCall, LevelsLayerCall16, LevelsLayerCall8, NetsCall, NetsCall16, NetsCall8}
 use Rattle.levelled_bed.proofs.Told.{Levelled}
@@ -296,23 +296,23 @@ meshRun8 u done = record { said = u .fits .0; left = u .fits .1 .0; done = done 
 -- bed_surface_nets, bed_surface_nets_i16, bed_surface_nets_i8
 
 pub meshCall : (u : NetsCall) → u .result ≡ 0
-    → (let (sdf, (dx, (dy, (dz, (lx, (ly, (lz, (hx, (hy, (hz, (px, (py, (pz, (positions, (normals, (cells, (strides, (crossings, (map, (indices, _)))))))))))))))))))) = u .args in
-    let (_, (_, (_, (_, (_, (_, (_, (_, (_, (_, (_, (_, (_, (positions', (normals', (cells', (strides', (crossings', (map', (indices', (v, (i, _)))))))))))))))))))))) = u .last in
-    Meshed (callMade (sdf .now) (extent dx dy dz) (extent lx ly lz) (extent hx hy hz) (planes px py pz)) (said (u .result) v i)
+    → (let (sdf, (words, (positions, (normals, (cells, (strides, (crossings, (map, (indices, _))))))))) = u .args in
+    let (_, (_, (positions', (normals', (cells', (strides', (crossings', (map', (indices', (v, (i, _))))))))))) = u .last in
+    Meshed (asked (sdf .now) (words .now)) (said (u .result) v i)
     (buffersGiven positions normals cells strides crossings map indices) (buffers positions' normals' cells' strides' crossings' map' indices'))
 meshCall u done = record { said = u .fits .0; left = u .fits .1 .0; done = done }
 
 pub meshCall16 : (u : NetsCall16) → u .result ≡ 0
-    → (let (sdf, (dx, (dy, (dz, (lx, (ly, (lz, (hx, (hy, (hz, (px, (py, (pz, (positions, (normals, (cells, (strides, (crossings, (map, (indices, _)))))))))))))))))))) = u .args in
-    let (_, (_, (_, (_, (_, (_, (_, (_, (_, (_, (_, (_, (_, (positions', (normals', (cells', (strides', (crossings', (map', (indices', (v, (i, _)))))))))))))))))))))) = u .last in
-    Meshed (callMade (asFloats (sdf .now)) (extent dx dy dz) (extent lx ly lz) (extent hx hy hz) (planes px py pz)) (said (u .result) v i)
+    → (let (sdf, (words, (positions, (normals, (cells, (strides, (crossings, (map, (indices, _))))))))) = u .args in
+    let (_, (_, (positions', (normals', (cells', (strides', (crossings', (map', (indices', (v, (i, _))))))))))) = u .last in
+    Meshed (asked (asFloats (sdf .now)) (words .now)) (said (u .result) v i)
     (buffersGiven positions normals cells strides crossings map indices) (buffers positions' normals' cells' strides' crossings' map' indices'))
 meshCall16 u done = record { said = u .fits .0; left = u .fits .1 .0; done = done }
 
 pub meshCall8 : (u : NetsCall8) → u .result ≡ 0
-    → (let (sdf, (dx, (dy, (dz, (lx, (ly, (lz, (hx, (hy, (hz, (px, (py, (pz, (positions, (normals, (cells, (strides, (crossings, (map, (indices, _)))))))))))))))))))) = u .args in
-    let (_, (_, (_, (_, (_, (_, (_, (_, (_, (_, (_, (_, (_, (positions', (normals', (cells', (strides', (crossings', (map', (indices', (v, (i, _)))))))))))))))))))))) = u .last in
-    Meshed (callMade (asFloats (sdf .now)) (extent dx dy dz) (extent lx ly lz) (extent hx hy hz) (planes px py pz)) (said (u .result) v i)
+    → (let (sdf, (words, (positions, (normals, (cells, (strides, (crossings, (map, (indices, _))))))))) = u .args in
+    let (_, (_, (positions', (normals', (cells', (strides', (crossings', (map', (indices', (v, (i, _))))))))))) = u .last in
+    Meshed (asked (asFloats (sdf .now)) (words .now)) (said (u .result) v i)
     (buffersGiven positions normals cells strides crossings map indices) (buffers positions' normals' cells' strides' crossings' map' indices'))
 meshCall8 u done = record { said = u .fits .0; left = u .fits .1 .0; done = done }
 

@@ -14,7 +14,9 @@ use Rattle.rules.specs.Call.{Call, Room, Answer, answers, answer, roomAnswer, r
 use Rattle.rules.specs.Call.{badDimensions, badBox, badLength, badDistance, badVertexRoom, badIndexRoom}
 use Rattle.judge.proofs.Judging.{Enough, room-enough}
 use Rattle.surface_nets.specs.AsRules.{callMade}
-use Rattle.bed.proofs.Places.{AskCall, gridAsked, dimsAsked, lowAsked, highAsked, planeAsked, lengthsAsked, answerAsked, answer-by-place}
+use Rattle.bed.specs.Boundary.{asked}
+use Rattle.bed.specs.Words12 as words12
+use Rattle.bed.proofs.Places.{AskCall, gridAsked, wordsAsked, lengthsAsked, answerAsked, answer-by-place}
 use Rattle.promises.specs.Served.{Served}
 use Rattle.promises.specs.Told.{Question, Tells, mapAlone, exactly, withRoom}
 use Rattle.promises.proofs.Runs.{BedRun, bedGrid, bedDims, bedLow, bedHigh, bedPlane, bedServed}
@@ -115,7 +117,7 @@ module _ (q : Question) (u : Served) (same : q .call ≡ u .call) where
 abbrev pub bedQuestion : AskCall → Question
 bedQuestion a =
     record {
-      call = callMade (gridAsked a) (dimsAsked a) (lowAsked a) (highAsked a) (planeAsked a);
+      call = asked (gridAsked a) (wordsAsked a);
       rooms = lengthsAsked a;
       says = answerAsked a;
       answered = answer-by-place a;
@@ -123,10 +125,10 @@ bedQuestion a =
 
 pub record SameAsked (a : AskCall) (u : BedRun) : Type 0 where
   pub grid : gridAsked a ≡ bedGrid u
-  pub dims : dimsAsked a ≡ bedDims u
-  pub low : lowAsked a ≡ bedLow u
-  pub high : highAsked a ≡ bedHigh u
-  pub plane : planeAsked a ≡ bedPlane u
+  pub dims : words12.dimsAsked (wordsAsked a) ≡ bedDims u
+  pub low : words12.lowAsked (wordsAsked a) ≡ bedLow u
+  pub high : words12.highAsked (wordsAsked a) ≡ bedHigh u
+  pub plane : words12.planesAsked (wordsAsked a) ≡ bedPlane u
 
 module _ (a : AskCall) (u : BedRun) (same : SameAsked a u) where
   same-call : bedQuestion a .call ≡ bedServed u .call

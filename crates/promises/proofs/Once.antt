@@ -113,6 +113,8 @@ use Rattle.surface_nets.proofs.surface_nets_i16.Kinds as surface-nets-i16-kinds
 use Rattle.surface_nets.proofs.surface_nets_i16.Reads as surface-nets-i16
 use Rattle.surface_nets.proofs.surface_nets_i8.Kinds as surface-nets-i8-kinds
 use Rattle.surface_nets.proofs.surface_nets_i8.Reads as surface-nets-i8
+use Rattle.bed.proofs.version.bed_version.Kinds as bed-version-kinds
+use Rattle.bed.proofs.version.bed_version.Reads as bed-version
 use Rattle.bed.proofs.bed_surface_nets.Kinds as bed-surface-nets-kinds
 use Rattle.bed.proofs.bed_surface_nets.Reads as bed-surface-nets
 use Rattle.bed.proofs.wholes.bed_surface_nets_i16.Kinds as bed-surface-nets-i16-kinds
@@ -358,48 +360,52 @@ surface-nets-i8-once κs a o o' l l' =
     }
 
 -- the functions that C and Rust link: the answer number, the seven lists, and V and I behind the last two
-pub bed-surface-nets-once : OneOutcome 10 bed-surface-nets-kinds.ps bed-surface-nets-kinds.r bed-surface-nets.Learnt
+pub bed-surface-nets-once : OneOutcome 11 bed-surface-nets-kinds.ps bed-surface-nets-kinds.r bed-surface-nets.Learnt
 bed-surface-nets-once κs a o o' l l' =
     let s = l .0 ∙ sym (l' .0) in
     let b = l .1 .0 ∙ sym (l' .1 .0) in
-    λ i. record { result = s i .number; last = (tt, (tt, (tt, (tt, (tt, (tt, (tt, (tt, (tt, (tt, (tt, (tt, (tt, seven (b i) (s i .vertices, (s i .indices, tt))))))))))))))) }
+    λ i. record { result = s i .number; last = (tt, (tt, seven (b i) (s i .vertices, (s i .indices, tt)))) }
 
-pub bed-surface-nets-i16-once : OneOutcome 10 bed-surface-nets-i16-kinds.ps bed-surface-nets-i16-kinds.r bed-surface-nets-i16.Learnt
+pub bed-surface-nets-i16-once : OneOutcome 11 bed-surface-nets-i16-kinds.ps bed-surface-nets-i16-kinds.r bed-surface-nets-i16.Learnt
 bed-surface-nets-i16-once κs a o o' l l' =
     let s = l .0 ∙ sym (l' .0) in
     let b = l .1 .0 ∙ sym (l' .1 .0) in
-    λ i. record { result = s i .number; last = (tt, (tt, (tt, (tt, (tt, (tt, (tt, (tt, (tt, (tt, (tt, (tt, (tt, seven (b i) (s i .vertices, (s i .indices, tt))))))))))))))) }
+    λ i. record { result = s i .number; last = (tt, (tt, seven (b i) (s i .vertices, (s i .indices, tt)))) }
 
-pub bed-surface-nets-i8-once : OneOutcome 10 bed-surface-nets-i8-kinds.ps bed-surface-nets-i8-kinds.r bed-surface-nets-i8.Learnt
+pub bed-surface-nets-i8-once : OneOutcome 11 bed-surface-nets-i8-kinds.ps bed-surface-nets-i8-kinds.r bed-surface-nets-i8.Learnt
 bed-surface-nets-i8-once κs a o o' l l' =
     let s = l .0 ∙ sym (l' .0) in
     let b = l .1 .0 ∙ sym (l' .1 .0) in
-    λ i. record { result = s i .number; last = (tt, (tt, (tt, (tt, (tt, (tt, (tt, (tt, (tt, (tt, (tt, (tt, (tt, seven (b i) (s i .vertices, (s i .indices, tt))))))))))))))) }
+    λ i. record { result = s i .number; last = (tt, (tt, seven (b i) (s i .vertices, (s i .indices, tt)))) }
+
+-- the version, which nothing is asked for
+pub bed-version-once : OneOutcome 0 bed-version-kinds.ps bed-version-kinds.r bed-version.Learnt
+bed-version-once κs a o o' l l' = let s = l ∙ sym l' in λ i. record { result = s i; last = o .last }
 
 -- the answer alone: the number, and V and I behind the last two
-pub bed-answer-once : OneOutcome 3 bed-answer-kinds.ps bed-answer-kinds.r bed-answer.Learnt
+pub bed-answer-once : OneOutcome 4 bed-answer-kinds.ps bed-answer-kinds.r bed-answer.Learnt
 bed-answer-once κs a o o' l l' =
     let s = l ∙ sym l' in
     λ i.
     record {
       result = s i .number;
-      last = (tt, (tt, (tt, (tt, (tt, (tt, (tt, (tt, (tt, (tt, (tt, (tt, (tt, (tt, (tt, (tt, (tt, (tt, (tt, (tt, (s i .vertices, (s i .indices, tt))))))))))))))))))))));
+      last = (tt, (tt, (tt, (tt, (tt, (tt, (tt, (tt, (tt, (s i .vertices, (s i .indices, tt)))))))))));
     }
 
-pub bed-answer-i16-once : OneOutcome 3 bed-answer-i16-kinds.ps bed-answer-i16-kinds.r bed-answer-i16.Learnt
+pub bed-answer-i16-once : OneOutcome 4 bed-answer-i16-kinds.ps bed-answer-i16-kinds.r bed-answer-i16.Learnt
 bed-answer-i16-once κs a o o' l l' =
     let s = l ∙ sym l' in
     λ i.
     record {
       result = s i .number;
-      last = (tt, (tt, (tt, (tt, (tt, (tt, (tt, (tt, (tt, (tt, (tt, (tt, (tt, (tt, (tt, (tt, (tt, (tt, (tt, (tt, (s i .vertices, (s i .indices, tt))))))))))))))))))))));
+      last = (tt, (tt, (tt, (tt, (tt, (tt, (tt, (tt, (tt, (s i .vertices, (s i .indices, tt)))))))))));
     }
 
-pub bed-answer-i8-once : OneOutcome 3 bed-answer-i8-kinds.ps bed-answer-i8-kinds.r bed-answer-i8.Learnt
+pub bed-answer-i8-once : OneOutcome 4 bed-answer-i8-kinds.ps bed-answer-i8-kinds.r bed-answer-i8.Learnt
 bed-answer-i8-once κs a o o' l l' =
     let s = l ∙ sym l' in
     λ i.
     record {
       result = s i .number;
-      last = (tt, (tt, (tt, (tt, (tt, (tt, (tt, (tt, (tt, (tt, (tt, (tt, (tt, (tt, (tt, (tt, (tt, (tt, (tt, (tt, (s i .vertices, (s i .indices, tt))))))))))))))))))))));
+      last = (tt, (tt, (tt, (tt, (tt, (tt, (tt, (tt, (tt, (s i .vertices, (s i .indices, tt)))))))))));
     }

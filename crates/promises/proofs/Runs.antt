@@ -9,7 +9,8 @@ use Rattle.grid.specs.declared.EachAxis.{EachAxis}
 use Rattle.judge.specs.AsRules.{answerOf}
 use Rattle.whole_box.specs.LentLists.{buffers, buffersGiven}
 use Rattle.surface_nets.specs.AsRules.{callMade}
-use Rattle.bed.specs.Boundary.{extent, planes, said}
+use Rattle.bed.specs.Boundary.{said}
+use Rattle.bed.specs.Words12 as words12
 use Rattle.promises.specs.Served.{Served}
 use Rattle.promises.proofs.OneOutcome.{Outcome, FitsContract}
 use Rattle.surface_nets.proofs.surface_nets.Kinds as surface-nets-kinds
@@ -59,32 +60,32 @@ served u =
 -- ---- bed_surface_nets
 
 pub record BedRun : Type 0 where
-  pub lifetimes : Lfts 10
+  pub lifetimes : Lfts 11
   pub args : Dens lifetimes bed-surface-nets-kinds.ps
-  pub outcome : Outcome 10 bed-surface-nets-kinds.ps bed-surface-nets-kinds.r lifetimes args
-  pub fits : FitsContract 10 bed-surface-nets-kinds.ps bed-surface-nets-kinds.r bed-surface-nets.Learnt lifetimes args outcome
+  pub outcome : Outcome 11 bed-surface-nets-kinds.ps bed-surface-nets-kinds.r lifetimes args
+  pub fits : FitsContract 11 bed-surface-nets-kinds.ps bed-surface-nets-kinds.r bed-surface-nets.Learnt lifetimes args outcome
 
 abbrev pub bedGrid : BedRun → List Float
 bedGrid u = u .args .0 .now
 
--- three loose numbers each
+-- the twelve words, taken apart
 abbrev pub bedDims : BedRun → Extent
-bedDims u = let n = u .args .1 in extent (n .0) (n .1 .0) (n .1 .1 .0)
+bedDims u = words12.dimsAsked (u .args .1 .0 .now)
 
 abbrev pub bedLow : BedRun → Extent
-bedLow u = let n = u .args .1 .1 .1 .1 in extent (n .0) (n .1 .0) (n .1 .1 .0)
+bedLow u = words12.lowAsked (u .args .1 .0 .now)
 
 abbrev pub bedHigh : BedRun → Extent
-bedHigh u = let n = u .args .1 .1 .1 .1 .1 .1 .1 in extent (n .0) (n .1 .0) (n .1 .1 .0)
+bedHigh u = words12.highAsked (u .args .1 .0 .now)
 
 abbrev pub bedPlane : BedRun → EachAxis
-bedPlane u = let n = u .args .1 .1 .1 .1 .1 .1 .1 .1 .1 .1 in planes (n .0) (n .1 .0) (n .1 .1 .0)
+bedPlane u = words12.planesAsked (u .args .1 .0 .now)
 
 -- V and I stand behind the last two parameters
 abbrev pub bedServed : BedRun → Served
 bedServed u =
-    let (positions, (normals, (cells, (strides, (crossings, (map, (indices, _))))))) = u .args .1 .1 .1 .1 .1 .1 .1 .1 .1 .1 .1 .1 .1 in
-    let (positions', (normals', (cells', (strides', (crossings', (map', (indices', (v, (i, _))))))))) = u .outcome .last .1 .1 .1 .1 .1 .1 .1 .1 .1 .1 .1 .1 .1 in
+    let (positions, (normals, (cells, (strides, (crossings, (map, (indices, _))))))) = u .args .1 .1 in
+    let (positions', (normals', (cells', (strides', (crossings', (map', (indices', (v, (i, _))))))))) = u .outcome .last .1 .1 in
     record {
       call = callMade (bedGrid u) (bedDims u) (bedLow u) (bedHigh u) (bedPlane u);
       before = buffersGiven positions normals cells strides crossings map indices;

@@ -15,8 +15,7 @@ use Rattle.grid.specs.Values.{asFloats}
 use Rattle.judge.specs.declared.Lengths.{Lengths}
 use Rattle.judge.specs.AsRules.{answerOf, roomOf}
 use Rattle.judge.proofs.Judging.{Enough}
-use Rattle.surface_nets.specs.AsRules.{callMade}
-use Rattle.bed.specs.Boundary.{extent, planes, roomAsked, said}
+use Rattle.bed.specs.Boundary.{asked, roomAsked, said}
 use Rattle.bed.proofs.Places.{AskCall, AskCall16, AskCall8, gridAsked, answer-i16-by-place, answer-i8-by-place}
 use Rattle.promises.specs.Told.{Question, Tells, withRoom}
 use Rattle.promises.proofs.OneOutcome.{Outcome, FitsContract}
@@ -77,19 +76,17 @@ answer-for-i8-as-floats u v g k r = same-said (judged v) (judged8 u) (λ i. call
 -- ---- bed_answer_i16, bed_answer_i8
 
 -- the call and the lengths by the places behind the grid, which are those of bed_answer
-abbrev pub callAsked : (κs : Lfts 3) → List Float → Dens κs (drop 1 ask-kinds.ps) → Call
-callAsked κs grid places =
-    let (dx, (dy, (dz, (lx, (ly, (lz, (hx, (hy, (hz, (px, (py, (pz, _)))))))))))) = places in
-    callMade grid (extent dx dy dz) (extent lx ly lz) (extent hx hy hz) (planes px py pz)
+abbrev pub callAsked : (κs : Lfts 4) → List Float → Dens κs (drop 1 ask-kinds.ps) → Call
+callAsked κs grid places = let (words, _) = places in asked grid (words .now)
 
-abbrev pub roomsAsked : (κs : Lfts 3) → Dens κs (drop 1 ask-kinds.ps) → Room
+abbrev pub roomsAsked : (κs : Lfts 4) → Dens κs (drop 1 ask-kinds.ps) → Room
 roomsAsked κs places =
-    let (_, (_, (_, (_, (_, (_, (_, (_, (_, (_, (_, (_, (positions, (normals, (cells, (strides, (crossings, (map, (indices, _))))))))))))))))))) = places in
+    let (_, (positions, (normals, (cells, (strides, (crossings, (map, (indices, _)))))))) = places in
     roomAsked positions normals cells strides crossings map indices
 
 abbrev pub question16 : AskCall16 → Question
 question16 u =
-    let (_, (_, (_, (_, (_, (_, (_, (_, (_, (_, (_, (_, (_, (_, (_, (_, (_, (_, (_, (_, (v, (i, _)))))))))))))))))))))) = u .last in
+    let (_, (_, (_, (_, (_, (_, (_, (_, (_, (v, (i, _))))))))))) = u .last in
     record {
       call = callAsked (u .lifetimes) (asFloats (u .args .0 .now)) (u .args .1);
       rooms = roomsAsked (u .lifetimes) (u .args .1);
@@ -99,7 +96,7 @@ question16 u =
 
 abbrev pub question8 : AskCall8 → Question
 question8 u =
-    let (_, (_, (_, (_, (_, (_, (_, (_, (_, (_, (_, (_, (_, (_, (_, (_, (_, (_, (_, (_, (v, (i, _)))))))))))))))))))))) = u .last in
+    let (_, (_, (_, (_, (_, (_, (_, (_, (_, (v, (i, _))))))))))) = u .last in
     record {
       call = callAsked (u .lifetimes) (asFloats (u .args .0 .now)) (u .args .1);
       rooms = roomsAsked (u .lifetimes) (u .args .1);

@@ -13,7 +13,8 @@ use Rattle.grid.proofs.Widths.{wholes-fit}
 use Rattle.judge.specs.AsRules.{answerOf}
 use Rattle.whole_box.specs.LentLists.{buffers, buffersGiven}
 use Rattle.surface_nets.specs.AsRules.{callMade}
-use Rattle.bed.specs.Boundary.{extent, planes, said}
+use Rattle.bed.specs.Boundary.{said}
+use Rattle.bed.specs.Words12 as words12
 use Rattle.promises.specs.Served.{Served}
 use Rattle.promises.proofs.OneOutcome.{Outcome, FitsContract}
 use Rattle.surface_nets.proofs.surface_nets_i16.Kinds as sixteen-kinds
@@ -101,33 +102,33 @@ eightServed u =
       numbers = wholes-fit (eightNumbers u);
     }
 
--- ---- bed_surface_nets_i16: three loose numbers each, and V and I behind the last two parameters
+-- ---- bed_surface_nets_i16: the twelve words taken apart, and V and I behind the last two parameters
 
 pub record BedSixteenRun : Type 0 where
-  pub lifetimes : Lfts 10
+  pub lifetimes : Lfts 11
   pub args : Dens lifetimes bed-sixteen-kinds.ps
-  pub outcome : Outcome 10 bed-sixteen-kinds.ps bed-sixteen-kinds.r lifetimes args
-  pub fits : FitsContract 10 bed-sixteen-kinds.ps bed-sixteen-kinds.r bed-sixteen.Learnt lifetimes args outcome
+  pub outcome : Outcome 11 bed-sixteen-kinds.ps bed-sixteen-kinds.r lifetimes args
+  pub fits : FitsContract 11 bed-sixteen-kinds.ps bed-sixteen-kinds.r bed-sixteen.Learnt lifetimes args outcome
 
 abbrev pub bedSixteenNumbers : BedSixteenRun → List ℤ
 bedSixteenNumbers u = u .args .0 .now
 
 abbrev pub bedSixteenDims : BedSixteenRun → Extent
-bedSixteenDims u = let n = u .args .1 in extent (n .0) (n .1 .0) (n .1 .1 .0)
+bedSixteenDims u = words12.dimsAsked (u .args .1 .0 .now)
 
 abbrev pub bedSixteenLow : BedSixteenRun → Extent
-bedSixteenLow u = let n = u .args .1 .1 .1 .1 in extent (n .0) (n .1 .0) (n .1 .1 .0)
+bedSixteenLow u = words12.lowAsked (u .args .1 .0 .now)
 
 abbrev pub bedSixteenHigh : BedSixteenRun → Extent
-bedSixteenHigh u = let n = u .args .1 .1 .1 .1 .1 .1 .1 in extent (n .0) (n .1 .0) (n .1 .1 .0)
+bedSixteenHigh u = words12.highAsked (u .args .1 .0 .now)
 
 abbrev pub bedSixteenPlane : BedSixteenRun → EachAxis
-bedSixteenPlane u = let n = u .args .1 .1 .1 .1 .1 .1 .1 .1 .1 .1 in planes (n .0) (n .1 .0) (n .1 .1 .0)
+bedSixteenPlane u = words12.planesAsked (u .args .1 .0 .now)
 
 abbrev pub bedSixteenServed : BedSixteenRun → Served
 bedSixteenServed u =
-    let (positions, (normals, (cells, (strides, (crossings, (map, (indices, _))))))) = u .args .1 .1 .1 .1 .1 .1 .1 .1 .1 .1 .1 .1 .1 in
-    let (positions', (normals', (cells', (strides', (crossings', (map', (indices', (v, (i, _))))))))) = u .outcome .last .1 .1 .1 .1 .1 .1 .1 .1 .1 .1 .1 .1 .1 in
+    let (positions, (normals, (cells, (strides, (crossings, (map, (indices, _))))))) = u .args .1 .1 in
+    let (positions', (normals', (cells', (strides', (crossings', (map', (indices', (v, (i, _))))))))) = u .outcome .last .1 .1 in
     record {
       call = callMade (asFloats (bedSixteenNumbers u)) (bedSixteenDims u) (bedSixteenLow u) (bedSixteenHigh u) (bedSixteenPlane u);
       before = buffersGiven positions normals cells strides crossings map indices;
@@ -141,30 +142,30 @@ bedSixteenServed u =
 -- ---- bed_surface_nets_i8
 
 pub record BedEightRun : Type 0 where
-  pub lifetimes : Lfts 10
+  pub lifetimes : Lfts 11
   pub args : Dens lifetimes bed-eight-kinds.ps
-  pub outcome : Outcome 10 bed-eight-kinds.ps bed-eight-kinds.r lifetimes args
-  pub fits : FitsContract 10 bed-eight-kinds.ps bed-eight-kinds.r bed-eight.Learnt lifetimes args outcome
+  pub outcome : Outcome 11 bed-eight-kinds.ps bed-eight-kinds.r lifetimes args
+  pub fits : FitsContract 11 bed-eight-kinds.ps bed-eight-kinds.r bed-eight.Learnt lifetimes args outcome
 
 abbrev pub bedEightNumbers : BedEightRun → List ℤ
 bedEightNumbers u = u .args .0 .now
 
 abbrev pub bedEightDims : BedEightRun → Extent
-bedEightDims u = let n = u .args .1 in extent (n .0) (n .1 .0) (n .1 .1 .0)
+bedEightDims u = words12.dimsAsked (u .args .1 .0 .now)
 
 abbrev pub bedEightLow : BedEightRun → Extent
-bedEightLow u = let n = u .args .1 .1 .1 .1 in extent (n .0) (n .1 .0) (n .1 .1 .0)
+bedEightLow u = words12.lowAsked (u .args .1 .0 .now)
 
 abbrev pub bedEightHigh : BedEightRun → Extent
-bedEightHigh u = let n = u .args .1 .1 .1 .1 .1 .1 .1 in extent (n .0) (n .1 .0) (n .1 .1 .0)
+bedEightHigh u = words12.highAsked (u .args .1 .0 .now)
 
 abbrev pub bedEightPlane : BedEightRun → EachAxis
-bedEightPlane u = let n = u .args .1 .1 .1 .1 .1 .1 .1 .1 .1 .1 in planes (n .0) (n .1 .0) (n .1 .1 .0)
+bedEightPlane u = words12.planesAsked (u .args .1 .0 .now)
 
 abbrev pub bedEightServed : BedEightRun → Served
 bedEightServed u =
-    let (positions, (normals, (cells, (strides, (crossings, (map, (indices, _))))))) = u .args .1 .1 .1 .1 .1 .1 .1 .1 .1 .1 .1 .1 .1 in
-    let (positions', (normals', (cells', (strides', (crossings', (map', (indices', (v, (i, _))))))))) = u .outcome .last .1 .1 .1 .1 .1 .1 .1 .1 .1 .1 .1 .1 .1 in
+    let (positions, (normals, (cells, (strides, (crossings, (map, (indices, _))))))) = u .args .1 .1 in
+    let (positions', (normals', (cells', (strides', (crossings', (map', (indices', (v, (i, _))))))))) = u .outcome .last .1 .1 in
     record {
       call = callMade (asFloats (bedEightNumbers u)) (bedEightDims u) (bedEightLow u) (bedEightHigh u) (bedEightPlane u);
       before = buffersGiven positions normals cells strides crossings map indices;

@@ -1,7 +1,7 @@
 //! Calls the proved library on lent memory that is held as 32-bit patterns; the crossings, which are bytes, a word
 //! each.
 
-use bed::raw::bed_surface_nets;
+use bed::raw::{bed_surface_nets, BedBox};
 use oracle::call::{Call, Lent};
 use oracle::model::Verdict;
 
@@ -49,7 +49,14 @@ pub fn run(call: &Call, lent: Lent<&mut [u32]>) -> Verdict {
         max,
         max_plane,
     } = *call;
-    let [x, y, z] = max_plane.0;
+    // any word but 0 is a yes, whichever of its bits is set
+    let [x, y, z] = max_plane.0.map(u32::from);
+    let block = BedBox {
+        dims,
+        min,
+        max,
+        max_plane: [x, y << 31, z << 8],
+    };
     let (mut vertices, mut indices) = (u64::MAX - 5, u64::MAX - 7);
     let mut crossings = Bytes::holding(lent.crossings);
     // SAFETY: each pointer and length come from one slice; the lent slices are borrowed apart from
@@ -58,18 +65,7 @@ pub fn run(call: &Call, lent: Lent<&mut [u32]>) -> Verdict {
         bed_surface_nets(
             grid.as_ptr(),
             grid.len(),
-            dims[0],
-            dims[1],
-            dims[2],
-            min[0],
-            min[1],
-            min[2],
-            max[0],
-            max[1],
-            max[2],
-            x,
-            y,
-            z,
+            &block,
             lent.positions.as_mut_ptr().cast(),
             lent.positions.len(),
             lent.normals.as_mut_ptr().cast(),

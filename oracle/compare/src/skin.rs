@@ -10,7 +10,7 @@ use crate::fields::FIELDS;
 use crate::random::Random;
 use crate::refused::{near_origin, spoiled, LIMITS, SPOILS};
 use crate::wrapper::wrapped;
-use bed::raw::bed_is_enclosed;
+use bed::raw::{bed_is_enclosed, BedBox};
 use bed::{surface_nets, SurfaceNetsBuffer};
 use grids::{closed, Break, AT_MAX, AT_MIN, BEFORE_MAX, BREAKS};
 use oracle::call::{Call, MaxPlane};
@@ -264,26 +264,17 @@ fn ask(call: &Call, before: bool) -> Enclosed {
         dims,
         min,
         max,
+        max_plane,
         ..
     } = *call;
+    // the flags never matter here
+    let block = BedBox {
+        max_plane: max_plane.0.map(u32::from),
+        ..BedBox::with(dims, min, max)
+    };
     let mut enclosed = before;
     // SAFETY: the pointer and length come from one slice, and `enclosed` is a variable of its own.
-    let answer = unsafe {
-        bed_is_enclosed(
-            grid.as_ptr(),
-            grid.len(),
-            dims[0],
-            dims[1],
-            dims[2],
-            min[0],
-            min[1],
-            min[2],
-            max[0],
-            max[1],
-            max[2],
-            &mut enclosed,
-        )
-    };
+    let answer = unsafe { bed_is_enclosed(grid.as_ptr(), grid.len(), &block, &mut enclosed) };
     Enclosed { answer, enclosed }
 }
 

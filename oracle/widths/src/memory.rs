@@ -3,6 +3,7 @@
 
 use crate::fenced::Fenced;
 use crate::width::Width;
+use bed::raw::BedBox;
 use oracle::call::{Call, Room, BUFFERS};
 use oracle::enclosed::Enclosed;
 use oracle::expected::Contents;
@@ -55,7 +56,10 @@ impl<D: Width> Memory<D> {
     /// leaves them shows.
     pub fn mesh(&mut self, call: &Call) -> Verdict {
         let (dims, min, max) = (call.dims, call.min, call.max);
-        let [x, y, z] = call.max_plane.0;
+        let block = BedBox {
+            max_plane: call.max_plane.0.map(u32::from),
+            ..BedBox::with(dims, min, max)
+        };
         let (mut vertices, mut indices) = (u64::MAX - 5, u64::MAX - 7);
         let grid = self.grid.lent();
         let lent = [
@@ -74,18 +78,7 @@ impl<D: Width> Memory<D> {
             D::SURFACE_NETS(
                 grid.as_ptr(),
                 grid.len(),
-                dims[0],
-                dims[1],
-                dims[2],
-                min[0],
-                min[1],
-                min[2],
-                max[0],
-                max[1],
-                max[2],
-                x,
-                y,
-                z,
+                &block,
                 positions.as_mut_ptr().cast(),
                 positions.len(),
                 normals.as_mut_ptr().cast(),
@@ -121,15 +114,7 @@ impl<D: Width> Memory<D> {
             D::IS_ENCLOSED(
                 grid.as_ptr(),
                 grid.len(),
-                dims[0],
-                dims[1],
-                dims[2],
-                min[0],
-                min[1],
-                min[2],
-                max[0],
-                max[1],
-                max[2],
+                &BedBox::with(dims, min, max),
                 &mut enclosed,
             )
         };

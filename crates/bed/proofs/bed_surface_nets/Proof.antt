@@ -1,9 +1,29 @@
--- The call made, its answer and the lists that it leaves are those of crate surface_nets' function; a list keeps its length. Assumes nothing.
+-- The call made is crate surface_nets' on the block that the words are, and so are its answer and the lists that it leaves; a list keeps its length.
+-- Assumes nothing.
+use mathlib.Core.Path.{subst}
+use Rattle.rules.specs.Call.{Buffers}
+use Rattle.whole_box.specs.LentLists.{buffers, buffersGiven}
+use Rattle.judge.specs.AsRules.{answerOf}
+use Rattle.bed.proofs.Asked.{Meshed}
 use Rattle.bed.proofs.bed_surface_nets.Statement.{statement}
 use Rattle.bed.proofs.bed_surface_nets.Tie as tie
 
 abbrev call-of : tie.After-slice-known14 → tie.After-surface-nets
 call-of c = c .before .before .before .before .before .before .before .before .before .before .before .before .before .before
+
+abbrev block-at : tie.After-surface-nets → tie.After-block-of
+block-at u = u .before .before .before .before .before .before .before .before
+
+abbrev start-of : tie.After-block-of → tie.Start
+start-of k = k .before .before .before .before .before .before .before .before .before
+
+abbrev lent-of : tie.Start → Buffers
+lent-of s =
+    let a = s .args in
+    buffersGiven (a .positions) (a .normals) (a .cells) (a .strides) (a .crossings) (a .stride-to-index) (a .indices)
+
+block-of-requires : tie.Need-block-of-requires
+block-of-requires c κs = tt
 
 surface-nets-requires : tie.Need-surface-nets-requires
 surface-nets-requires c κs = tt
@@ -30,12 +50,22 @@ same-length-7 : tie.Need-same-length-7
 same-length-7 c = call-of c .surface-nets .kept .1 .1 .1 .1 .1 .1 .1 .1 .1 .1 .1 .0
 
 returns : tie.Need-returns
-returns c = call-of c .surface-nets .ensures
+returns c =
+    let u = call-of c in
+    let k = block-at u in
+    let s = start-of k in
+    let r = u .surface-nets .result in
+    let (positions, (normals, (cells, (strides, (crossings, (map, (indices, _))))))) = u .surface-nets .last .1 .1 .1 .1 .1 in
+    let left = buffers positions normals cells strides crossings map indices in
+    let e = u .surface-nets .ensures in
+    let m = subst (Meshed (s .args .sdf .now) (lent-of s) (answerOf r) left) (k .block-of .ensures) (e .0, e .1 .0) in
+    (m .0, (m .1, e .1 .1))
 
 pub bed-surface-nets-spec : {M : Type 1} → statement M
 bed-surface-nets-spec =
     tie.close
     (tie.spec
+    block-of-requires
     surface-nets-requires
     same-length
     same-length-2

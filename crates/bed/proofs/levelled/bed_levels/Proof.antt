@@ -1,22 +1,11 @@
--- The call of crate levels, with dimensions and corners from the words. Assumes nothing.
-use mathlib.Core.Path.{_≡_}
-use lib.ListN.{length}
-use Rattle.lists.specs.Floats.{Binary32}
-use Rattle.grid.specs.declared.Extent.{Extent}
-use Rattle.grid.specs.Block.{point}
-use Rattle.levels.specs.Call.{boxFrom, levelsAnswer, levelsAfter}
-use Rattle.bed.proofs.Asked.{asked-as}
+-- The call of crate levels on the block that the words are. Assumes nothing.
+use mathlib.Core.Path.{subst}
+use Rattle.bed.proofs.Asked.{Levelled}
 use Rattle.bed.proofs.levelled.bed_levels.Statement.{statement}
 use Rattle.bed.proofs.levelled.bed_levels.Tie as tie
 
-dims-of-requires : tie.Need-dims-of-requires
-dims-of-requires c κs = tt
-
-low-of-requires : tie.Need-low-of-requires
-low-of-requires c κs = tt
-
-high-of-requires : tie.Need-high-of-requires
-high-of-requires c κs = tt
+block-of-requires : tie.Need-block-of-requires
+block-of-requires c κs = tt
 
 levels-requires : tie.Need-levels-requires
 levels-requires c κs = tt
@@ -27,23 +16,13 @@ same-length c = c .before .before .levels .kept .1 .1 .1 .1 .0
 returns : tie.Need-returns
 returns c =
     let u = c .before .before in
-    let high = u .before .before in
-    let low = high .before in
-    let dims = low .before in
-    let s = dims .before .before .before in
-    asked-as
-    (λ (d l h : Extent).
-    (u .levels .result ≡ levelsAnswer (s .args .sdf .now) (point d) (boxFrom l h) (length (s .args .out .now)))
-    × ((u .levels .last .1 .1 .1 .1 .0 ≡ levelsAfter (s .args .sdf .now) (point d) (boxFrom l h) (s .args .out .now)) × Binary32 (s .args .sdf .now)))
-    (dims .dims-of .ensures) (low .low-of .ensures) (high .high-of .ensures) (u .levels .ensures)
+    let k = u .before .before in
+    let s = k .before .before .before in
+    let a = s .args in
+    let r = u .levels in
+    let e = r .ensures in
+    let p = subst (Levelled (a .sdf .now) (a .out .now) (r .result) (r .last .1 .1 .1 .1 .0)) (k .block-of .ensures) (e .0, e .1 .0) in
+    (p .0, (p .1, e .1 .1))
 
 pub bed-levels-spec : {M : Type 1} → statement M
-bed-levels-spec =
-    tie.close
-    (tie.spec
-    dims-of-requires
-    low-of-requires
-    high-of-requires
-    levels-requires
-    same-length
-    returns)
+bed-levels-spec = tie.close (tie.spec block-of-requires levels-requires same-length returns)

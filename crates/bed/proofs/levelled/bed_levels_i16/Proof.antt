@@ -1,22 +1,12 @@
--- The call of crate levels, with dimensions and corners from the words. Assumes nothing.
-use mathlib.Core.Path.{_≡_}
-use lib.ListN.{length}
-use Rattle.grid.specs.declared.Extent.{Extent}
-use Rattle.grid.specs.Block.{point}
+-- The call of crate levels on the block that the words are. Assumes nothing.
+use mathlib.Core.Path.{subst}
 use Rattle.grid.specs.Values.{asFloats}
-use Rattle.levels.specs.Call.{boxFrom, levelsAnswer, levelsAfter}
-use Rattle.bed.proofs.Asked.{asked-as}
+use Rattle.bed.proofs.Asked.{Levelled}
 use Rattle.bed.proofs.levelled.bed_levels_i16.Statement.{statement}
 use Rattle.bed.proofs.levelled.bed_levels_i16.Tie as tie
 
-dims-of-requires : tie.Need-dims-of-requires
-dims-of-requires c κs = tt
-
-low-of-requires : tie.Need-low-of-requires
-low-of-requires c κs = tt
-
-high-of-requires : tie.Need-high-of-requires
-high-of-requires c κs = tt
+block-of-requires : tie.Need-block-of-requires
+block-of-requires c κs = tt
 
 levels-i16-requires : tie.Need-levels-i16-requires
 levels-i16-requires c κs = tt
@@ -27,23 +17,11 @@ same-length c = c .before .before .levels-i16 .kept .1 .1 .1 .1 .0
 returns : tie.Need-returns
 returns c =
     let u = c .before .before in
-    let high = u .before .before in
-    let low = high .before in
-    let dims = low .before in
-    let s = dims .before .before in
-    asked-as
-    (λ (d l h : Extent).
-    (u .levels-i16 .result ≡ levelsAnswer (asFloats (s .args .sdf .now)) (point d) (boxFrom l h) (length (s .args .out .now)))
-    × (u .levels-i16 .last .1 .1 .1 .1 .0 ≡ levelsAfter (asFloats (s .args .sdf .now)) (point d) (boxFrom l h) (s .args .out .now)))
-    (dims .dims-of .ensures) (low .low-of .ensures) (high .high-of .ensures) (u .levels-i16 .ensures)
+    let k = u .before .before in
+    let s = k .before .before in
+    let a = s .args in
+    let r = u .levels-i16 in
+    subst (Levelled (asFloats (a .sdf .now)) (a .out .now) (r .result) (r .last .1 .1 .1 .1 .0)) (k .block-of .ensures) (r .ensures)
 
 pub bed-levels-i16-spec : {M : Type 1} → statement M
-bed-levels-i16-spec =
-    tie.close
-    (tie.spec
-    dims-of-requires
-    low-of-requires
-    high-of-requires
-    levels-i16-requires
-    same-length
-    returns)
+bed-levels-i16-spec = tie.close (tie.spec block-of-requires levels-i16-requires same-length returns)

@@ -190,7 +190,7 @@ fn cell_codes(codes: &[u32], p: usize, q: usize) -> CodeCounts
     let d = codes[q + 1];
     let sum = (a + b) + (c + d);
     CodeCounts {
-        surface: counted((sum != 0) & (sum != 36)),
+        surface: counted(row_signs::mixed_code(sum)),
         x: counted((a + b) % 2 == 1),
         y: counted((a + c) % 2 == 1),
         z: counted((a + a / 8) % 2 == 1),

@@ -14,6 +14,7 @@ pub use centroid::centroid_of_edge_intersections;
 pub use centroid::sum_of_edge_intersections;
 pub use classing::is_surface;
 pub use classing::negative_corners;
+pub use classing::some_of_eight;
 pub use crossing::Crossing;
 pub use crossing::estimate_surface_edge_intersection;
 pub use crossing::negative;

@@ -1,8 +1,8 @@
-// A cell's eight corner values. The four of an x side are read by one function, so that a row may reuse a side.
+// The four corner values of a cell's x side, read by one function, so that a row may reuse a side.
 ghost use mathlib.Core.Path.{_≡_};
 ghost use Prim.Native.Nat.{_+_, _<_};
 ghost use lib.ListN.{length};
-ghost use Rattle.grid.specs.Corners.{sideBetween, eightOf};
+ghost use Rattle.grid.specs.Corners.{sideBetween};
 ghost use Rattle.grid.specs.Values.{gridGiven, gridBefore};
 
 // The values at the corners of a cell's side, those with one x: at (y, z) = (0, 0), (1, 0), (0, 1), (1, 1).
@@ -34,11 +34,4 @@ pub fn side_between(
         c: crate::values::value_at(width, upper, upper16, upper8, at),
         d: crate::values::value_at(width, upper, upper16, upper8, at + row),
     }
-}
-
-// The eight values, corner 0 first, from a cell's lower and upper side in x.
-pub fn corners(low: Side, high: Side) -> [f32; 8]
-    ensures { λ r. ⌜ r ≡ eightOf low high ⌝ }
-{
-    [low.a, high.a, low.b, high.b, low.c, high.c, low.d, high.d]
 }

@@ -56,5 +56,5 @@ pub fn surface_count(negatives: u32) -> u32
     ensures { λ r. ⌜ r ≡ one (leb 1 negatives && leb negatives 7) ⌝ }
     ensures { λ r. ⌜ r ≤ 1 ⌝ }
 {
-    counted((1 <= negatives) & (negatives <= 7))
+    counted(cube::some_of_eight(negatives))
 }

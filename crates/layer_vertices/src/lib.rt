@@ -53,11 +53,11 @@ fn put_cell(dims: Extent, c: Extent, place: usize, cells: &mut [u32], strides: &
 // ---- A row of cells is classed first, into its own entries of the map, by a loop that neither branches nor stops early; then only the cells that
 // it marked are visited.
 
-// The entry of a cell by how many of its corners are negative: a mark, or no vertex.
-fn class_entry(negatives: u32) -> u32
-    ensures { λ r. ⌜ r ≡ classOf (leb 1 negatives && leb negatives 7) ⌝ }
+// The entry of a cell: a mark where it is a surface cell, or no vertex.
+fn class_entry(surface: bool) -> u32
+    ensures { λ r. ⌜ r ≡ classOf surface ⌝ }
 {
-    if (1 <= negatives) & (negatives <= 7) {
+    if surface {
         return MARK;
     }
     NULL_VERTEX
@@ -105,18 +105,8 @@ fn class_row(
             at + j + 1,
             row,
         );
-        map[at + j] = class_entry(low + high);
+        map[at + j] = class_entry(cube::some_of_eight(low + high));
     }
-}
-
-// The entry of a cell by the sum of its four codes.
-fn code_entry(sum: u32) -> u32
-    ensures { λ r. ⌜ r ≡ classOf (mixedCode sum) ⌝ }
-{
-    if (sum != 0) & (sum != 36) {
-        return MARK;
-    }
-    NULL_VERTEX
 }
 
 // n cells between two rows of points whose codes are kept, the first one's entry being at `at`.
@@ -128,7 +118,7 @@ fn class_codes(codes: &[u32], here: usize, there: usize, at: usize, n: usize, ma
     for j in 0usize..n {
         let near = codes[here + j] + codes[here + j + 1];
         let far = codes[there + j] + codes[there + j + 1];
-        map[at + j] = code_entry(near + far);
+        map[at + j] = class_entry(row_signs::mixed_code(near + far));
     }
 }
 

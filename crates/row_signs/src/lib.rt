@@ -7,7 +7,7 @@ ghost use lib.ListN.{length};
 ghost use lib.Seq.{sets};
 ghost use Rattle.grid.specs.Values.{gridGiven, gridBefore};
 ghost use Rattle.row_signs.specs.Signs.{negativesRun, rowStart, rowPoints, rowNegatives, oneSign};
-ghost use Rattle.row_signs.specs.Codes.{codesRun, rowKept};
+ghost use Rattle.row_signs.specs.Codes.{codesRun, rowKept, mixedCode};
 use grid::Block;
 use grid::signs::counted;
 
@@ -109,6 +109,13 @@ pub fn read_row(
     let below = negatives(width, lower, lower16, lower8, at, points);
     let above = negatives(width, upper, upper16, upper8, at, points);
     (below as usize) + (above as usize)
+}
+
+// Whether a cell is a surface cell, by the sum of its four codes.
+pub fn mixed_code(sum: u32) -> bool
+    ensures { λ r. ⌜ r ≡ mixedCode sum ⌝ }
+{
+    (sum != 0) & (sum != 36)
 }
 
 // Whether none of the points of a row's cells are negative, or all, given how many are.

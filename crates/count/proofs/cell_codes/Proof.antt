@@ -1,8 +1,10 @@
 -- Four codes of at most 9 each, so that their sums fit 32 bits. Assumes nothing.
 use Prim.Native.Nat.{_+_, _≤_}
 use native.Mathlib.Omega.{arith}
+use mathlib.Core.Path.{ap, _∙_}
 use lib.ListN.{getD}
 use borrow.Author.Needs.{needs}
+use Rattle.lists.specs.Lists.{one}
 use Rattle.count.specs.Kept.{cellCodes}
 use Rattle.count.proofs.cell_codes.Statement.{statement}
 use Rattle.count.proofs.cell_codes.Tie as tie
@@ -57,23 +59,26 @@ add-sum-2 c = let f = few (begin-of c) in omega arith
 add-sum-3 : tie.Need-add-sum-3
 add-sum-3 c = let f = few (begin-of c) in omega arith
 
+mixed-code-requires : tie.Need-mixed-code-requires
+mixed-code-requires c κs = search needs
+
 counted-requires : tie.Need-counted-requires
 counted-requires c κs = search needs
 
 add-counted : tie.Need-add-counted
-add-counted c = let f = few (begin-of (c .before)) in omega arith
+add-counted c = let f = few (begin-of (c .before .before)) in omega arith
 
 counted-requires-2 : tie.Need-counted-requires-2
 counted-requires-2 c κs = search needs
 
 add-counted-2 : tie.Need-add-counted-2
-add-counted-2 c = let f = few (begin-of (c .before .before)) in omega arith
+add-counted-2 c = let f = few (begin-of (c .before .before .before)) in omega arith
 
 counted-requires-3 : tie.Need-counted-requires-3
 counted-requires-3 c κs = search needs
 
 add-counted-3 : tie.Need-add-counted-3
-add-counted-3 c = let f = few (begin-of (c .before .before .before)) in omega arith
+add-counted-3 c = let f = few (begin-of (c .before .before .before .before)) in omega arith
 
 counted-requires-4 : tie.Need-counted-requires-4
 counted-requires-4 c κs = search needs
@@ -81,7 +86,7 @@ counted-requires-4 c κs = search needs
 returns : tie.Need-returns
 unfolding cellCodes
 returns c =
-    let surface = c .before .before .before .counted .ensures .0 in
+    let surface = c .before .before .before .counted .ensures .0 ∙ ap one (c .before .before .before .before .mixed-code .ensures) in
     let x = c .before .before .counted2 .ensures .0 in
     let y = c .before .counted3 .ensures .0 in
     let z = c .counted4 .ensures .0 in
@@ -104,6 +109,7 @@ cell-codes-spec =
     add-sum
     add-sum-2
     add-sum-3
+    mixed-code-requires
     counted-requires
     add-counted
     counted-requires-2

@@ -23,8 +23,8 @@ abbrev μ-loop : tie.MeasureT-loop
 abbrev entry-of : tie.At-loop Inv-loop μ-loop → tie.Start Inv-loop μ-loop
 entry-of c = c .before .before .before
 
-abbrev turn-of : tie.After-code-entry Inv-loop μ-loop → tie.In-loop Inv-loop μ-loop
-turn-of c = c .before .before .before .before .before
+abbrev turn-of : tie.After-class-entry Inv-loop μ-loop → tie.In-loop Inv-loop μ-loop
+turn-of c = c .before .before .before .before .before .before
 
 near-small : (t : tie.In-loop Inv-loop μ-loop) → let a = entry-of (t .before) .args in let j = t .before .loop .j in
     (getD (a .codes .now) (a .here + j) 0 ≤ 9) × (getD (a .codes .now) (a .here + j + 1) 0 ≤ 9)
@@ -104,11 +104,14 @@ shared-slice-read-far-2 c = search needs
 add-far-4 : tie.Need-add-far-4 Inv-loop μ-loop
 add-far-4 c = let t = c .before .before .before .before in omega (arith, far-small t)
 
-add-code-entry : tie.Need-add-code-entry Inv-loop μ-loop
-add-code-entry c = let t = c .before .before .before .before in omega (arith, near-small t, far-small t)
+add-mixed-code : tie.Need-add-mixed-code Inv-loop μ-loop
+add-mixed-code c = let t = c .before .before .before .before in omega (arith, near-small t, far-small t)
 
-code-entry-requires : tie.Need-code-entry-requires Inv-loop μ-loop
-code-entry-requires c κs = search needs
+mixed-code-requires : tie.Need-mixed-code-requires Inv-loop μ-loop
+mixed-code-requires c κs = search needs
+
+class-entry-requires : tie.Need-class-entry-requires Inv-loop μ-loop
+class-entry-requires c κs = search needs
 
 add-map : tie.Need-add-map Inv-loop μ-loop
 add-map c = search needs
@@ -130,7 +133,7 @@ loop-again c =
     let t = turn-of c in
     let a = entry-of (t .before) .args in
     let w = t .before .loop in
-    (omega arith, coded-more (a .codes .now) (a .here) (a .there) (a .at) (w .j) (a .map .now) (w .inv .1) (c .code-entry .ensures))
+    (omega arith, coded-more (a .codes .now) (a .here) (a .there) (a .at) (w .j) (a .map .now) (w .inv .1) (c .class-entry .ensures ∙ ap classOf (c .before .mixed-code .ensures)))
 
 same-length : tie.Need-same-length Inv-loop μ-loop
 same-length c = long (c .before)
@@ -165,8 +168,9 @@ class-codes-spec =
     mul-far-2
     shared-slice-read-far-2
     add-far-4
-    add-code-entry
-    code-entry-requires
+    add-mixed-code
+    mixed-code-requires
+    class-entry-requires
     add-map
     mul-map
     slice-write-map

@@ -7,7 +7,7 @@ use lib.Ieee.{Float}
 use lib.ListN.{length}
 use lib.Seq.{sets, length-sets}
 use Rattle.grid.specs.Values.{gridOf}
-use Rattle.layer_vertices.specs.Cells.{classes}
+use Rattle.layer_vertices.specs.Cells.{classes, classOf}
 use Rattle.layer_vertices.proofs.Rows.{classed-none, classed-more}
 use borrow.Author.Needs.{needs}
 use Rattle.layer_vertices.proofs.class_row.Statement.{statement}
@@ -26,7 +26,7 @@ abbrev entry-of : tie.At-loop Inv-loop μ-loop → tie.Start Inv-loop μ-loop
 entry-of c = c .before .before .before .before
 
 abbrev turn-of : tie.After-class-entry Inv-loop μ-loop → tie.In-loop Inv-loop μ-loop
-turn-of c = c .before .before .before
+turn-of c = c .before .before .before .before
 
 -- the two layers of distances
 
@@ -65,8 +65,11 @@ add-side-negatives-3 c = search needs
 side-negatives-requires-2 : tie.Need-side-negatives-requires-2 Inv-loop μ-loop
 side-negatives-requires-2 c κs = search needs
 
-add-class-entry : tie.Need-add-class-entry Inv-loop μ-loop
-add-class-entry c = search needs
+add-some-of-eight : tie.Need-add-some-of-eight Inv-loop μ-loop
+add-some-of-eight c = search needs
+
+some-of-eight-requires : tie.Need-some-of-eight-requires Inv-loop μ-loop
+some-of-eight-requires c κs = search needs
 
 class-entry-requires : tie.Need-class-entry-requires Inv-loop μ-loop
 class-entry-requires c κs = search needs
@@ -97,8 +100,8 @@ loop-again c =
     let a = s .args in
     let w = t .before .loop in (
       omega arith,
-      classed-more (lower-of s) (upper-of s) (a .at) (a .row) (w .j) (a .map .now) (w .inv .1) (c .before .before .side-negatives .ensures .0)
-          (c .before .side-negatives2 .ensures .0) (c .class-entry .ensures),
+      classed-more (lower-of s) (upper-of s) (a .at) (a .row) (w .j) (a .map .now) (w .inv .1) (c .before .before .before .side-negatives .ensures .0)
+          (c .before .before .side-negatives2 .ensures .0) (c .class-entry .ensures ∙ ap classOf (c .before .some-of-eight .ensures)),
     )
 
 same-length : tie.Need-same-length Inv-loop μ-loop
@@ -124,7 +127,8 @@ class-row-spec =
     add-side-negatives-2
     add-side-negatives-3
     side-negatives-requires-2
-    add-class-entry
+    add-some-of-eight
+    some-of-eight-requires
     class-entry-requires
     add-map
     mul-map

@@ -1,11 +1,14 @@
--- What an answer of 0 says to the pass: the box lies in the grid, and the lists have room for all that is written. Assumes nothing.
-use Prim.Native.Nat.{ℕ}
+-- What an answer of 0 says to the pass: the box lies in the grid, and the lists have room for all that is written. And that the lists after a refusal, and
+-- after the pass, are those that the rules say. Assumes nothing.
+use Prim.Native.Nat.{ℕ, zero, suc, _<_}
+use native.Mathlib.Omega.{arith}
 use mathlib.Core.List.{List}
-use mathlib.Core.Path.{_≡_}
+use mathlib.Core.Path.{_≡_, refl, sym, _∙_}
 use lib.Dec.{nltb→le}
 use lib.ListN.{length}
 use lib.Ieee.{Float}
-use Rattle.rules.specs.Call.{Buffers, room, answer}
+use Rattle.rules.specs.Call.{Call, Buffers, room, answer, afterwards, written}
+use Rattle.rules.proofs.Locality.{when-done, when-refused}
 use Rattle.rules.proofs.Accepted.{done-accepted}
 use Rattle.grid.specs.declared.Block.{Block}
 use Rattle.grid.specs.Block.{boxOf, flagsOf, fieldOf, callOf}
@@ -30,3 +33,14 @@ module _ (grid : List Float) (k : Block) (s : Buffers) (e : answer (callOf grid 
         map = nltb→le (length (s .map)) (length grid) (a .map);
         indices = h .indices;
       }
+
+above-zero : {n : ℕ} → (n ≡ 0 → ⊥) → 0 < n
+above-zero {n = zero} h = absurd (h refl)
+above-zero {n = suc n} h = omega arith
+
+module _ (c : Call) (s : Buffers) where
+  pub refused-still : {n : ℕ} → n ≡ answer c (room s) .number → (n ≡ 0 → ⊥) → s ≡ afterwards c s
+  refused-still e other = sym (when-refused c s (above-zero (λ z. other (e ∙ z))))
+
+  pub done-written : answer c (room s) .number ≡ 0 → {t : Buffers} → t ≡ written c s → t ≡ afterwards c s
+  done-written e w = w ∙ sym (when-done c s e)

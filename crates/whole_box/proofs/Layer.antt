@@ -17,7 +17,6 @@ use Rattle.rules.specs.Vertices.{vertices, layerVertices, firstVertex}
 use Rattle.rules.specs.Faces.{Flags, layerIndices}
 use Rattle.rules.specs.Call.{Call, Buffers}
 use Rattle.lists.proofs.Tests.{less-or-not}
-use Rattle.lists.proofs.Lists.{length-placed}
 use Rattle.lists.proofs.Runs.{upTo-none}
 use Rattle.grid.specs.declared.Block.{Block}
 use Rattle.grid.specs.Block.{point, boxOf, flagsOf, fieldOf, callOf}
@@ -26,10 +25,10 @@ use Rattle.grid.proofs.Bounds.{fits}
 use Rattle.layer_vertices.specs.Marked.{Lists}
 use Rattle.whole_box.specs.declared.Made.{Made}
 use Rattle.whole_box.specs.LentLists.{listsOf, withIndices}
-use Rattle.whole_box.specs.Layers.{entryAt, indicesTo, layerMarked, madeTo, Written, layerWritten, layerMade, Stands}
+use Rattle.whole_box.specs.Layers.{indicesTo, layerMarked, madeTo, Written, layerWritten, layerMade, Stands}
 use Rattle.whole_box.proofs.Steps.{indices-more, indices-within, vertices-within, first-is, first-more, written-more, SameLengths, written-lengths}
 use Rattle.whole_box.proofs.Looks.{stands}
-use Rattle.whole_box.proofs.Lent.{plane-up, vertices-few, map-long}
+use Rattle.whole_box.proofs.Lent.{plane-up, vertices-few, marked-long, map-long}
 
 -- ---- the numbers
 
@@ -83,8 +82,7 @@ module _ (sdf : List Float) (k : Block) (i : Inside sdf k) (z : ℕ) (zs : (k .l
         (sym (w .on)) (stands sdf k i z zs grown))
 
     pub map-still : {l : Lists} → l ≡ layerMarked (fieldOf sdf k) (boxOf k) z (made .vertices) (listsOf s) → length sdf ≤ length (l .map)
-    unfolding layerMarked
-    map-still e = omega (arith, map-long sdf k i z zs w, ap (λ (u : Lists). length (u .map)) e ∙ length-placed (entryAt g b z (made .vertices)) 0 (s .map))
+    map-still e = omega (arith, map-long sdf k i z zs w, marked-long sdf k i z zs (made .vertices) (listsOf s) e)
 
     pub indices-room : made .indices + length (layerIndices (fieldOf sdf k) (boxOf k) (flagsOf k) (made .vertices) z) ≤ length (s .indices)
     indices-room =

@@ -14,7 +14,7 @@ use lib.Seq.{sets}
 use Rattle.rules.specs.Grid.{GridPoint, Box, Field, inBox, value}
 use Rattle.rules.specs.Vertices.{cells, surfaceCell, vertices, layerVertices, firstVertex}
 use Rattle.rules.specs.Call.{Buffers}
-use Rattle.lists.proofs.Lists.{many-most}
+use Rattle.lists.proofs.Lists.{many-most, length-placed}
 use Rattle.rules.proofs.Counting.{cell-count}
 use Rattle.grid.specs.declared.Block.{Block}
 use Rattle.grid.specs.Block.{point, boxOf, flagsOf, fieldOf, callOf}
@@ -31,7 +31,7 @@ use Rattle.layer_vertices.specs.Marked.{Lists, lists, listed, layerEntry, marke
 use Rattle.layer_vertices.proofs.Alike.{marked-alike}
 use Rattle.whole_box.specs.declared.Made.{Made}
 use Rattle.whole_box.specs.LentLists.{listsOf}
-use Rattle.whole_box.specs.Layers.{layerMarked, Written}
+use Rattle.whole_box.specs.Layers.{entryAt, layerMarked, Written}
 use Rattle.whole_box.proofs.Map.{part-back}
 use Rattle.grid.proofs.Parts.{part, rest, layers-agree, layers-lent, layer-end, layer-few}
 use Rattle.whole_box.proofs.Steps.{vertices-within, first-is, first-more, SameLengths, written-lengths}
@@ -67,9 +67,14 @@ module _ (width : ℕ) (f : List Float) (s b : List ℤ) (k : Block) (i : Inside
   pub lent-ranges : Range fs fe (length f) × Range ss se (length s) × Range bs be (length b)
   lent-ranges = part-lent width f s b from to (omega arith) (layer-end (gridOf width f s b) k i z zs) (layer-few (gridOf width f s b) k i z zs)
 
-  pub lent-parts : Lends (gridOf width f s b) k z (gridOf width (take (fe - fs) (drop fs f)) (take (se - ss) (drop ss s)) (take (be - bs) (drop bs b)))
-      (gridOf width (take (length f - fe) (drop fe f)) (take (length s - se) (drop se s)) (take (length b - be) (drop be b)))
-  lent-parts = record { lowerIs = part-of-grid width f s b from to; upperIs = rest-of-grid width f s b to }
+  pub lent-parts : {lf uf : List Float} {ls us lb ub : List ℤ} → lf ≡ take (fe - fs) (drop fs f) → uf ≡ take (length f - fe) (drop fe f)
+      → ls ≡ take (se - ss) (drop ss s) → us ≡ take (length s - se) (drop se s) → lb ≡ take (be - bs) (drop bs b) → ub ≡ take (length b - be) (drop be b)
+      → Lends (gridOf width f s b) k z (gridOf width lf ls lb) (gridOf width uf us ub)
+  lent-parts lf uf ls us lb ub =
+      record {
+        lowerIs = (λ j. gridOf width (lf j) (ls j) (lb j)) ∙ part-of-grid width f s b from to;
+        upperIs = (λ j. gridOf width (uf j) (us j) (ub j)) ∙ rest-of-grid width f s b to;
+      }
 
 -- ---- what is lent for the layer's vertices
 
@@ -140,6 +145,20 @@ module _ (sdf : List Float) (k : Block) (i : Inside sdf k) where
         (e ∙ marked-alike (point (k .dims)) (two lower upper) (g .dist) b z (lent-agree sdf k i z zs t) here (lists p₀ n₀ cs₀ st₀ xs₀ (part a w mp₀)))
         ∙ ap (λ (l : List ℕ). listed g first (layerVertices g b z) l (lists p₀ n₀ cs₀ st₀ xs₀ mp₀))
         (part-back (g .dims) plane-up z (layerEntry g b z first) mp₀ (omega (arith, layer-end sdf k i z zs)))
+
+    -- the map is as long as it was
+    pub marked-long : (first : ℕ) (l₀ : Lists) {l : Lists} → l ≡ layerMarked (fieldOf sdf k) (boxOf k) z first l₀ → length (l .map) ≡ length (l₀ .map)
+    unfolding layerMarked
+    marked-long first l₀ e = ap (λ (u : Lists). length (u .map)) e ∙ length-placed (entryAt g b z first) 0 (l₀ .map)
+
+    pub back-long : {lower upper : List Float} → Lends sdf k z lower upper → (first : ℕ) {p n : List Float} {cs st xs q : List ℕ} (p₀ n₀ : List Float) (cs₀ st₀ xs₀ mp₀ : List ℕ)
+        → length sdf ≤ length mp₀ → lists p n cs st xs q ≡ marked (twoLayers lower upper k z) (boxOf k) z (record { place = first; number = first })
+        (lists p₀ n₀ cs₀ st₀ xs₀ (part (k .dims .x * k .dims .y * z) (k .dims .x * k .dims .y) mp₀))
+        → length (take (k .dims .x * k .dims .y * z) mp₀
+        ++ (q ++ drop (k .dims .x * k .dims .y * z + k .dims .x * k .dims .y - k .dims .x * k .dims .y * z) (drop (k .dims .x * k .dims .y * z) mp₀)))
+        ≡ length mp₀
+    back-long t first p₀ n₀ cs₀ st₀ xs₀ mp₀ long e =
+        marked-long first (lists p₀ n₀ cs₀ st₀ xs₀ mp₀) (marked-back t first p₀ n₀ cs₀ st₀ xs₀ mp₀ long e)
 
     -- ---- the room on the way
 

@@ -153,17 +153,16 @@ module _ (sdf : List Float) (k : Block) (i : Inside sdf k) (z : ℕ) (zs : (k .l
   unfolding cellEntry
   number-of c t on h = s .numbers c t h ∙ ap (λ (y : Bool). cond y (vertexNumber g b (firstVertex g b (c .z)) c) nullVertex) (is-true (surfaceCell g c) on)
 
-  pub standing : (count : ℕ) → count ≡ length (layerVertices (fieldOf sdf k) (boxOf k) z)
-      → Standing (twoLayers lower upper k z) (boxOf k)
-      first z
-      (part (3 * first) (3 * count) cs) (part (k .dims .x * k .dims .y * z) (k .dims .x * k .dims .y) mp) (part (3 * first) (3 * count) ps)
-  standing count e =
+  pub standing : (count : ℕ) → count ≡ length (layerVertices (fieldOf sdf k) (boxOf k) z) → {cs' mp' : List ℕ} {ps' : List Float}
+      → cs' ≡ part (3 * first) (3 * count) cs → mp' ≡ part (k .dims .x * k .dims .y * z) (k .dims .x * k .dims .y) mp → ps' ≡ part (3 * first) (3 * count) ps
+      → Standing (twoLayers lower upper k z) (boxOf k) first z cs' mp' ps'
+  standing count e cells-are map-is positions-are =
       let n : 3 * first + 3 * count - 3 * first ≡ 3 * length (layerVertices g b z) = omega arith in
       record {
-        cells = ap (λ (l : ℕ). take l (drop (3 * first) cs)) n ∙ s .cells ∙ ap flatPoints (sym (layer-alike d two whole b z agree));
-        positions = ap (λ (l : ℕ). take l (drop (3 * first) ps)) n ∙ s .positions ∙ ap flatVectors (sym (positions-alike d two whole b z agree));
-        numbers = numbers;
-        holds = omega (arith, corner-in sdf k i z zs, length-part (plane * z) plane mp (omega (arith, layer-end sdf k i z zs)));
+        cells = cells-are ∙ ap (λ (l : ℕ). take l (drop (3 * first) cs)) n ∙ s .cells ∙ ap flatPoints (sym (layer-alike d two whole b z agree));
+        positions = positions-are ∙ ap (λ (l : ℕ). take l (drop (3 * first) ps)) n ∙ s .positions ∙ ap flatVectors (sym (positions-alike d two whole b z agree));
+        numbers = λ c t ez on. ap (λ (l : List ℕ). getD l (inLayer d c) 0) map-is ∙ numbers c t ez on;
+        holds = omega (arith, corner-in sdf k i z zs, ap length map-is, length-part (plane * z) plane mp (omega (arith, layer-end sdf k i z zs)));
       }
     where
       numbers : (c : GridPoint) → T (isCell b c) → c .z ≡ z → T (surfaceCell (record { dims = d; dist = two }) c) → getD (part (plane * z) plane mp) (inLayer d c) 0 ≡
@@ -188,13 +187,14 @@ module _ (sdf : List Float) (k : Block) (i : Inside sdf k) (z : ℕ) (zs : (k .l
         let up : plane * z ≡ plane * y + plane = ap (λ (n : ℕ). plane * n) (sym e ∙ omega arith) ∙ mul-add plane y 1 ∙ ap (λ (n : ℕ). plane * y + n) (mul-one plane) in
         (up, omega (arith, back (omega arith)))
 
-    pub below-long : k .low .z < z → inLayer (point (k .dims)) (point (k .high)) < length (take (k .dims .x * k .dims .y * z - under) (drop under mp))
-    below-long h =
+    pub below-long : {mu : List ℕ} → mu ≡ take (k .dims .x * k .dims .y * z - under) (drop under mp) → k .low .z < z → inLayer (point (k .dims)) (point (k .high)) < length mu
+    below-long e h =
         let f = from (z - 1) (omega arith) (omega arith) in
         omega (
           arith,
           f .0,
           f .1,
+          ap length e,
           corner-in sdf k i z zs,
           layer-end sdf k i z zs,
           length-take-le (plane * z - under) (drop under mp)
@@ -244,11 +244,14 @@ module _ (sdf : List Float) (k : Block) (i : Inside sdf k) (z : ℕ) (zs : (k .l
         ≡ layerIndices (fieldOf sdf k) (boxOf k) (flagsOf k) first z
     faces-are = indices-are d two whole b m first z agree kept right
 
-    pub faces-put : (is : List ℕ) (at : ℕ) {ix : List ℕ}
-        → ix ≡ sets is at (indicesOver (twoLayers lower upper k z) (boxOf k) (flagsOf k) first z
-        (record { map = take (k .dims .x * k .dims .y * z - under) (drop under mp); positions = take (3 * first - 3 * below) (drop (3 * below) ps); first = below }))
+    pub faces-put : (is : List ℕ) (at : ℕ) {ix mu : List ℕ} {pu : List Float} → mu ≡ take (k .dims .x * k .dims .y * z - under) (drop under mp)
+        → pu ≡ take (3 * first - 3 * below) (drop (3 * below) ps)
+        → ix ≡ sets is at (indicesOver (twoLayers lower upper k z) (boxOf k) (flagsOf k) first z (record { map = mu; positions = pu; first = below }))
         → ix ≡ sets is at (layerIndices (fieldOf sdf k) (boxOf k) (flagsOf k) first z)
-    faces-put is at e = e ∙ ap (sets is at) faces-are
+    faces-put is at {mu} {pu} map-is positions-are e =
+        let given : Kept = record { map = mu; positions = pu; first = below } in
+        let same : given ≡ kept = λ j. record { map = map-is j; positions = positions-are j; first = below } in
+        e ∙ ap (λ (u : Kept). sets is at (indicesOver (twoLayers lower upper k z) (boxOf k) (flagsOf k) first z u)) same ∙ ap (sets is at) faces-are
 
   pub edges-count : 6 * length (layerEdges (twoLayers lower upper k z) (boxOf k) (flagsOf k) z)
       ≡ length (layerIndices (fieldOf sdf k) (boxOf k) (flagsOf k) first z)

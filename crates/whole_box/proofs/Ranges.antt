@@ -1,12 +1,14 @@
 -- The numbers that the code works out for the parts that it lends, over bare numbers, so that what the code owes of each part is one law of a range, and
 -- no search through what is known at that place. Assumes nothing.
 use Prim.Native.Nat.{ℕ, _+_, _*_, _≤_}
-use native.Mathlib.Nat.{le-trans}
+use native.Mathlib.Nat.{le-refl, le-trans}
 use native.Mathlib.Omega.{arith}
+use mathlib.Core.Path.{_≡_}
 use mir.Syntax.{w32, w64}
 use mir.Val.{Fits}
 use Rattle.grid.proofs.Places.{Range}
 use Rattle.layer_vertices.specs.Marked.{Lists, Room}
+use Rattle.whole_box.specs.Layers.{Lendable}
 
 -- ---- a part of a list: where it begins and ends, also in bytes
 
@@ -17,21 +19,19 @@ module _ {a e n : ℕ} (r : Range a e n) where
   pub to-fits : Fits w64 e
   to-fits = omega arith
 
-  pub from-twos : Fits w64 (a * 2)
-  from-twos = omega arith
-
-  pub to-twos : Fits w64 (e * 2)
-  to-twos = omega arith
-
   pub from-fours : Fits w64 (a * 4)
   from-fours = omega arith
-
-  pub to-fours : Fits w64 (e * 4)
-  to-fours = omega arith
 
   -- the part before it, from a place on
   pub before-it : {u : ℕ} → u ≤ a → Range u a n
   before-it h = record { ordered = h; within = le-trans (r .ordered) (r .within); few = le-trans (r .ordered) (r .few) }
+
+  -- it can be lent, and so can all that is left behind it
+  pub lendable : Lendable a e n
+  lendable = record { ordered = r .ordered; within = r .within; few = omega arith }
+
+  pub rest-lendable : Lendable e n n
+  rest-lendable = record { ordered = r .within; within = le-refl n; few = omega arith }
 
 -- how long it is
 pub length-fits : (a p n : ℕ) → Range a (a + p) n → Fits w64 p
@@ -65,27 +65,20 @@ module _ {first below count cells positions : ℕ} (w : Numbers first below coun
   pub last-fits : Fits w64 (3 * first + 3 * count)
   last-fits = omega arith
 
-  pub below-fours : Fits w64 (3 * below * 4)
-  below-fours = omega arith
+  -- their numbers, and those of the vertices below
+  pub cells-lent : Lendable (3 * first) (3 * first + 3 * count) cells
+  cells-lent = record { ordered = omega arith; within = omega arith; few = omega arith }
 
-  pub first-fours : Fits w64 (3 * first * 4)
-  first-fours = omega arith
+  pub positions-lent : Lendable (3 * first) (3 * first + 3 * count) positions
+  positions-lent = record { ordered = omega arith; within = omega arith; few = omega arith }
 
-  pub below-to-first : 3 * below ≤ 3 * first
-  below-to-first = omega arith
-
-  pub first-to-last : 3 * first ≤ 3 * first + 3 * count
-  first-to-last = omega arith
-
-  pub last-in-cells : 3 * first + 3 * count ≤ cells
-  last-in-cells = omega arith
-
-  pub last-in-positions : 3 * first + 3 * count ≤ positions
-  last-in-positions = omega arith
-
-  pub first-in-positions : 3 * first ≤ positions
-  first-in-positions = omega arith
+  pub below-lent : Lendable (3 * below) (3 * first) positions
+  below-lent = record { ordered = omega arith; within = omega arith; few = omega arith }
 
 -- the first number of vertices for which there is room
 pub number-fits : {first count : ℕ} {l : Lists} → Room (record { place = first; number = first }) count l → Fits w32 first
 number-fits r = omega (arith, r .numbers)
+
+-- room for so many more numbers, counted otherwise
+pub room-of : (at : ℕ) {n m size : ℕ} → at + n ≤ size → m ≡ n → at + m ≤ size
+room-of at h e = omega arith

@@ -110,3 +110,10 @@ pub record Stands (g : Field) (b : Box) (z first below : ℕ) (cs mp : List ℕ)
   pub numbers : (c : GridPoint) → T (isCell b c) → c .z ≤ z → getD mp (index (g .dims) c) 0 ≡ cellEntry g b c
   pub here : first ≡ firstVertex g b z
   pub before : below ≡ firstVertex g b (z - 1)
+
+-- ---- a part of a list of this length, from one place to another, that begins where its bytes can be counted
+
+pub record Lendable (from to size : ℕ) : Type 0 where
+  pub ordered : from ≤ to
+  pub within : to ≤ size
+  pub few : from ≤ 4294967296

@@ -2,7 +2,7 @@
 // lists of vertices are lent to the two functions that know one layer alone.
 ghost use mathlib.Core.Path.{_≡_};
 ghost use Prim.Native.Nat.{_+_, _-_, _*_, _<_, _≤_};
-ghost use lib.ListN.{length};
+ghost use lib.ListN.{length, take, drop};
 ghost use lib.Seq.{sets};
 ghost use Rattle.lists.specs.Lists.{placed};
 ghost use Rattle.rules.specs.Vertices.{layerVertices};
@@ -13,8 +13,9 @@ ghost use Rattle.grid.specs.Inside.{Inside};
 ghost use Rattle.layer_vertices.specs.Marked.{Room};
 ghost use Rattle.layer_vertices.specs.Lent.{listsGiven, listsBefore, listsAfter};
 ghost use Rattle.whole_box.specs.LentLists.{buffersGiven, buffersBefore, buffersAfter, Roomy};
-ghost use Rattle.whole_box.specs.Layers.{layerMarked, lastAt, InMap, Stands};
+ghost use Rattle.whole_box.specs.Layers.{layerMarked, lastAt, InMap, Stands, Lendable};
 ghost use Rattle.grid.specs.Values.{gridGiven, gridBefore};
+ghost use Rattle.grid.proofs.Places.{Place};
 use grid::Block;
 use layer_faces::Firsts;
 use layer_vertices::Next;
@@ -25,6 +26,55 @@ pub struct Made {
     pub indices: usize,
     pub below: usize,
 }
+
+// ---- A part of a list, from one place to another: a call costs the proof of a function that lends many parts less than each part's own arithmetic.
+
+fn floats(list: &[f32], from: usize, to: usize) -> &[f32]
+    requires { ⌜ Lendable from to (length (now list)) ⌝ }
+    ensures { λ r. ⌜ now r ≡ take (to - from) (drop from (now (list .entry))) ⌝ }
+{
+    &list[from..to]
+}
+
+fn sixteens(list: &[i16], from: usize, to: usize) -> &[i16]
+    requires { ⌜ Lendable from to (length (now list)) ⌝ }
+    ensures { λ r. ⌜ now r ≡ take (to - from) (drop from (now (list .entry))) ⌝ }
+{
+    &list[from..to]
+}
+
+fn eights(list: &[i8], from: usize, to: usize) -> &[i8]
+    requires { ⌜ Lendable from to (length (now list)) ⌝ }
+    ensures { λ r. ⌜ now r ≡ take (to - from) (drop from (now (list .entry))) ⌝ }
+{
+    &list[from..to]
+}
+
+fn numbers(list: &[u32], from: usize, to: usize) -> &[u32]
+    requires { ⌜ Lendable from to (length (now list)) ⌝ }
+    ensures { λ r. ⌜ now r ≡ take (to - from) (drop from (now (list .entry))) ⌝ }
+{
+    &list[from..to]
+}
+
+// Where a place of the grid stands in each of the three lists of distances.
+struct Places {
+    float: usize,
+    sixteen: usize,
+    eight: usize,
+}
+
+fn places_of(width: u32, at: usize) -> Places
+    ensures { λ r. ⌜ Place width at (r .float) (r .sixteen) (r .eight) ⌝ }
+{
+    Places {
+        float: grid::values::float_place(width, at),
+        sixteen: grid::values::sixteen_place(width, at),
+        eight: grid::values::eight_place(width, at),
+    }
+}
+
+// ---- One layer.
 
 // The vertices of the layer z.
 fn mark_part(
@@ -54,24 +104,21 @@ fn mark_part(
     let plane = (k.dims.x as usize) * (k.dims.y as usize);
     let start = plane * (z as usize);
     let end = start + plane;
-    let fs = grid::values::float_place(width, start);
-    let fe = grid::values::float_place(width, end);
-    let ss = grid::values::sixteen_place(width, start);
-    let se = grid::values::sixteen_place(width, end);
-    let bs = grid::values::eight_place(width, start);
-    let be = grid::values::eight_place(width, end);
+    let from = places_of(width, start);
+    let to = places_of(width, end);
+    let number = first as u32;
     let next = Next {
         place: first,
-        number: first as u32,
+        number,
     };
     layer_vertices::mark_layer(
         width,
-        &sdf[fs..fe],
-        &sdf[fe..],
-        &sdf16[ss..se],
-        &sdf16[se..],
-        &sdf8[bs..be],
-        &sdf8[be..],
+        floats(sdf, from.float, to.float),
+        floats(sdf, to.float, sdf.len()),
+        sixteens(sdf16, from.sixteen, to.sixteen),
+        sixteens(sdf16, to.sixteen, sdf16.len()),
+        eights(sdf8, from.eight, to.eight),
+        eights(sdf8, to.eight, sdf8.len()),
         k,
         z,
         next,
@@ -123,39 +170,38 @@ fn face_part(
     let plane = (k.dims.x as usize) * (k.dims.y as usize);
     let start = plane * (z as usize);
     let end = start + plane;
-    let fs = grid::values::float_place(width, start);
-    let fe = grid::values::float_place(width, end);
-    let ss = grid::values::sixteen_place(width, start);
-    let se = grid::values::sixteen_place(width, end);
-    let bs = grid::values::eight_place(width, start);
-    let be = grid::values::eight_place(width, end);
+    let from = places_of(width, start);
+    let to = places_of(width, end);
     let under = part_below(k.low.z, z, start, plane);
+    let own = numbers(map, start, end);
+    let beneath = numbers(map, under, start);
     let below = 3 * made.below;
     let here = 3 * made.vertices;
     let last = here + 3 * count;
-    let at = made.indices;
+    let number = made.vertices as u32;
+    let number_below = made.below as u32;
     let first = Firsts {
-        here: made.vertices as u32,
-        below: made.below as u32,
+        here: number,
+        below: number_below,
     };
     layer_faces::face_layer(
         width,
-        &sdf[fs..fe],
-        &sdf[fe..],
-        &sdf16[ss..se],
-        &sdf16[se..],
-        &sdf8[bs..be],
-        &sdf8[be..],
+        floats(sdf, from.float, to.float),
+        floats(sdf, to.float, sdf.len()),
+        sixteens(sdf16, from.sixteen, to.sixteen),
+        sixteens(sdf16, to.sixteen, sdf16.len()),
+        eights(sdf8, from.eight, to.eight),
+        eights(sdf8, to.eight, sdf8.len()),
         k,
         z,
         first,
-        &cells[here..last],
-        &map[start..end],
-        &positions[here..last],
-        &map[under..start],
-        &positions[below..here],
+        numbers(cells, here, last),
+        own,
+        floats(positions, here, last),
+        beneath,
+        floats(positions, below, here),
         indices,
-        at,
+        made.indices,
     )
 }
 

@@ -1,16 +1,15 @@
 -- The parts that are lent are the layer's, and what comes back is the layer in the whole lists. Assumes nothing.
 use Prim.Native.Nat.{ℕ, _+_, _*_, _≤_}
 use mathlib.Core.List.{List}
-use native.Mathlib.Nat.{le-refl}
 use mir.Syntax.{w64}
 use mir.Val.{Fits}
 use lib.Ieee.{Float}
 use lib.ListN.{length}
 use Rattle.grid.specs.Values.{gridOf}
 use Rattle.grid.proofs.Parts.{corner-lent}
-use Rattle.grid.proofs.Places.{Place, Range}
-use Rattle.whole_box.proofs.Lent.{layer-range, lent-layers, lent-ranges, lent-parts, count-same, room-lent, marked-back}
-use Rattle.whole_box.proofs.Ranges.{from-fits, to-fits, from-twos, to-twos, from-fours, to-fours, length-fits, number-fits}
+use Rattle.grid.proofs.Places.{Range}
+use Rattle.whole_box.proofs.Lent.{Lends, layer-range, lent-layers, lent-ranges, lent-parts, count-same, room-lent, marked-back, back-long}
+use Rattle.whole_box.proofs.Ranges.{from-fits, to-fits, from-fours, lendable, rest-lendable, length-fits, number-fits}
 use borrow.Author.Needs.{needs}
 use Rattle.whole_box.proofs.mark_part.Statement.{statement}
 use Rattle.whole_box.proofs.mark_part.Tie as tie
@@ -20,11 +19,15 @@ use Rattle.whole_box.proofs.mark_part.Tie as tie
 abbrev start-of : tie.After-struct-known2 → tie.Start
 start-of c = c .before .before .before .before .before .before .before .before .before
 
-abbrev entry-of : tie.After-eight-place2 → tie.Start
-entry-of c = start-of (c .before .before .before .before .before .before)
+abbrev entry-of : tie.After-places-of2 → tie.Start
+entry-of c = start-of (c .before .before)
 
-abbrev places-of : tie.After-mark-layer-arg11 → tie.After-eight-place2
-places-of c = c .before .before .before .before .before .before .before .before .before .before .before
+-- where the layer's six parts of the grid are at hand
+abbrev parts-of : tie.After-mark-layer-arg5 → tie.After-eights2
+parts-of c = c .before .before .before .before .before
+
+abbrev places-of : tie.After-eights2 → tie.After-places-of2
+places-of c = c .before .before .before .before .before .before
 
 abbrev call-of : tie.After-slice-known12 → tie.After-mark-layer
 call-of c = c .before .before .before .before .before .before .before .before .before .before .before .before
@@ -49,33 +52,25 @@ lent s =
 plane-fits : (s : tie.Start) → let k = s .args .k in Fits w64 (k .dims .x * k .dims .y)
 plane-fits s = let k = s .args .k in length-fits (first-of s) (k .dims .x * k .dims .y) (length (s .args .map .now)) (lent s)
 
-firsts : (c : tie.After-eight-place2) → let s = entry-of c in
-    Place (s .args .width) (first-of s) (c .before .before .before .before .before .float-place .result) (c .before .before .before .sixteen-place .result)
-    (c .before .eight-place .result)
-firsts c =
-    record {
-      inFloats = c .before .before .before .before .before .float-place .ensures;
-      inSixteens = c .before .before .before .sixteen-place .ensures;
-      inEights = c .before .eight-place .ensures;
-    }
-
-lasts : (c : tie.After-eight-place2) → let s = entry-of c in
-    Place (s .args .width) (last-of s) (c .before .before .before .before .float-place2 .result) (c .before .before .sixteen-place2 .result) (c .eight-place2 .result)
-lasts c =
-    record {
-      inFloats = c .before .before .before .before .float-place2 .ensures;
-      inSixteens = c .before .before .sixteen-place2 .ensures;
-      inEights = c .eight-place2 .ensures;
-    }
-
-ranges : (c : tie.After-eight-place2) → let a = entry-of c .args in
-    Range (c .before .before .before .before .before .float-place .result) (c .before .before .before .before .float-place2 .result) (length (a .sdf .now))
-    × Range (c .before .before .before .sixteen-place .result) (c .before .before .sixteen-place2 .result) (length (a .sdf16 .now))
-    × Range (c .before .eight-place .result) (c .eight-place2 .result) (length (a .sdf8 .now))
+ranges : (c : tie.After-places-of2) → let a = entry-of c .args in
+    Range (c .before .places-of .result .float) (c .places-of2 .result .float) (length (a .sdf .now))
+    × Range (c .before .places-of .result .sixteen) (c .places-of2 .result .sixteen) (length (a .sdf16 .now))
+    × Range (c .before .places-of .result .eight) (c .places-of2 .result .eight) (length (a .sdf8 .now))
 ranges c =
     let s = entry-of c in
     let a = s .args in
-    lent-ranges (a .width) (a .sdf .now) (a .sdf16 .now) (a .sdf8 .now) (a .k) (s .pre .0) (a .z) (s .pre .1 .0) (firsts c) (lasts c)
+    lent-ranges (a .width) (a .sdf .now) (a .sdf16 .now) (a .sdf8 .now) (a .k) (s .pre .0) (a .z) (s .pre .1 .0) (c .before .places-of .ensures) (c .places-of2 .ensures)
+
+parts : (c : tie.After-eights2) → let s = entry-of (places-of c) in let a = s .args in
+    Lends (grid-of s) (a .k) (a .z)
+    (gridOf (a .width) (c .before .before .before .before .before .floats .result .now) (c .before .before .before .sixteens .result .now) (c .before .eights .result .now))
+    (gridOf (a .width) (c .before .before .before .before .floats2 .result .now) (c .before .before .sixteens2 .result .now) (c .eights2 .result .now))
+parts c =
+    let p = places-of c in
+    let s = entry-of p in
+    let a = s .args in
+    lent-parts (a .width) (a .sdf .now) (a .sdf16 .now) (a .sdf8 .now) (a .k) (s .pre .0) (a .z) (s .pre .1 .0) (p .before .places-of .ensures) (p .places-of2 .ensures)
+    (c .before .before .before .before .before .floats .ensures) (c .before .before .before .before .floats2 .ensures) (c .before .before .before .sixteens .ensures) (c .before .before .sixteens2 .ensures) (c .before .eights .ensures) (c .eights2 .ensures)
 
 -- ---- the needs
 
@@ -94,113 +89,53 @@ mul-start c = from-fits (lent (start-of c))
 add-end : tie.Need-add-end
 add-end c = to-fits (lent (start-of c))
 
-float-place-requires : tie.Need-float-place-requires
-float-place-requires c κs = search needs
+places-of-requires : tie.Need-places-of-requires
+places-of-requires c κs = tt
 
-float-place-requires-2 : tie.Need-float-place-requires-2
-float-place-requires-2 c κs = search needs
+places-of-requires-2 : tie.Need-places-of-requires-2
+places-of-requires-2 c κs = tt
 
-sixteen-place-requires : tie.Need-sixteen-place-requires
-sixteen-place-requires c κs = search needs
+cast-number : tie.Need-cast-number
+cast-number c = number-fits (entry-of c .pre .1 .1 .1)
 
-sixteen-place-requires-2 : tie.Need-sixteen-place-requires-2
-sixteen-place-requires-2 c κs = search needs
+floats-requires : tie.Need-floats-requires
+floats-requires c κs = lendable (ranges c .0)
 
-eight-place-requires : tie.Need-eight-place-requires
-eight-place-requires c κs = search needs
+floats-requires-2 : tie.Need-floats-requires-2
+floats-requires-2 c κs = rest-lendable (ranges (c .before) .0)
 
-eight-place-requires-2 : tie.Need-eight-place-requires-2
-eight-place-requires-2 c κs = search needs
+sixteens-requires : tie.Need-sixteens-requires
+sixteens-requires c κs = lendable (ranges (c .before .before) .1)
 
-cast-t26 : tie.Need-cast-t26
-cast-t26 c = number-fits (entry-of c .pre .1 .1 .1)
+sixteens-requires-2 : tie.Need-sixteens-requires-2
+sixteens-requires-2 c κs = rest-lendable (ranges (c .before .before .before) .1)
+
+eights-requires : tie.Need-eights-requires
+eights-requires c κs = lendable (ranges (c .before .before .before .before) .2)
+
+eights-requires-2 : tie.Need-eights-requires-2
+eights-requires-2 c κs = rest-lendable (ranges (c .before .before .before .before .before) .2)
 
 mul-mark-layer : tie.Need-mul-mark-layer
-mul-mark-layer c = from-fours (ranges c .0)
+mul-mark-layer c = from-fours (lent (entry-of (places-of (parts-of c))))
 
 sub-mark-layer : tie.Need-sub-mark-layer
-sub-mark-layer c = ranges c .0 .ordered
+sub-mark-layer c = lent (entry-of (places-of (parts-of c))) .ordered
 
 part-mark-layer-start : tie.Need-part-mark-layer-start
-part-mark-layer-start c = ranges c .0 .ordered
+part-mark-layer-start c = lent (entry-of (places-of (parts-of c))) .ordered
 
 part-mark-layer-end : tie.Need-part-mark-layer-end
-part-mark-layer-end c = ranges c .0 .within
-
-mul-mark-layer-2 : tie.Need-mul-mark-layer-2
-mul-mark-layer-2 c = to-fours (ranges (c .before) .0)
-
-sub-mark-layer-2 : tie.Need-sub-mark-layer-2
-sub-mark-layer-2 c = ranges (c .before) .0 .within
-
-part-mark-layer-start-2 : tie.Need-part-mark-layer-start-2
-part-mark-layer-start-2 c = ranges (c .before) .0 .within
-
-part-mark-layer-end-2 : tie.Need-part-mark-layer-end-2
-part-mark-layer-end-2 c = le-refl _
-
-mul-mark-layer-3 : tie.Need-mul-mark-layer-3
-mul-mark-layer-3 c = from-twos (ranges (c .before .before) .1)
-
-sub-mark-layer-3 : tie.Need-sub-mark-layer-3
-sub-mark-layer-3 c = ranges (c .before .before) .1 .ordered
-
-part-mark-layer-start-3 : tie.Need-part-mark-layer-start-3
-part-mark-layer-start-3 c = ranges (c .before .before) .1 .ordered
-
-part-mark-layer-end-3 : tie.Need-part-mark-layer-end-3
-part-mark-layer-end-3 c = ranges (c .before .before) .1 .within
-
-mul-mark-layer-4 : tie.Need-mul-mark-layer-4
-mul-mark-layer-4 c = to-twos (ranges (c .before .before .before) .1)
-
-sub-mark-layer-4 : tie.Need-sub-mark-layer-4
-sub-mark-layer-4 c = ranges (c .before .before .before) .1 .within
-
-part-mark-layer-start-4 : tie.Need-part-mark-layer-start-4
-part-mark-layer-start-4 c = ranges (c .before .before .before) .1 .within
-
-part-mark-layer-end-4 : tie.Need-part-mark-layer-end-4
-part-mark-layer-end-4 c = le-refl _
-
-sub-mark-layer-5 : tie.Need-sub-mark-layer-5
-sub-mark-layer-5 c = ranges (c .before .before .before .before) .2 .ordered
-
-part-mark-layer-start-5 : tie.Need-part-mark-layer-start-5
-part-mark-layer-start-5 c = ranges (c .before .before .before .before) .2 .ordered
-
-part-mark-layer-end-5 : tie.Need-part-mark-layer-end-5
-part-mark-layer-end-5 c = ranges (c .before .before .before .before) .2 .within
-
-sub-mark-layer-6 : tie.Need-sub-mark-layer-6
-sub-mark-layer-6 c = ranges (c .before .before .before .before .before) .2 .within
-
-part-mark-layer-start-6 : tie.Need-part-mark-layer-start-6
-part-mark-layer-start-6 c = ranges (c .before .before .before .before .before) .2 .within
-
-part-mark-layer-end-6 : tie.Need-part-mark-layer-end-6
-part-mark-layer-end-6 c = le-refl _
-
-mul-mark-layer-5 : tie.Need-mul-mark-layer-5
-mul-mark-layer-5 c = from-fours (lent (entry-of (places-of c)))
-
-sub-mark-layer-7 : tie.Need-sub-mark-layer-7
-sub-mark-layer-7 c = lent (entry-of (places-of c)) .ordered
-
-part-mark-layer-start-7 : tie.Need-part-mark-layer-start-7
-part-mark-layer-start-7 c = lent (entry-of (places-of c)) .ordered
-
-part-mark-layer-end-7 : tie.Need-part-mark-layer-end-7
-part-mark-layer-end-7 c = lent (entry-of (places-of c)) .within
+part-mark-layer-end c = lent (entry-of (places-of (parts-of c))) .within
 
 mark-layer-requires : tie.Need-mark-layer-requires
 mark-layer-requires c κs =
-    let p = places-of (c .before) in
-    let s = entry-of p in
+    let q = parts-of (c .before) in
+    let s = entry-of (places-of q) in
     let a = s .args in
     let i = s .pre .0 in
     let zs = s .pre .1 .0 in
-    let t = lent-parts (a .width) (a .sdf .now) (a .sdf16 .now) (a .sdf8 .now) (a .k) (s .pre .0) (a .z) (s .pre .1 .0) (firsts p) (lasts p) in (
+    let t = parts q in (
       lent-layers (grid-of s) (a .k) i (a .z) zs t,
       (corner-lent (grid-of s) (a .k) i (a .z) zs (a .map .now) (s .pre .1 .1 .0), room-lent (grid-of s) (a .k) i (a .z) zs t (s .pre .1 .1 .1)),
     )
@@ -221,20 +156,25 @@ same-length-5 : tie.Need-same-length-5
 same-length-5 c = call-of c .mark-layer .kept .1 .1 .1 .1 .1 .1 .1 .1 .1 .1 .1 .1 .1 .1 .0
 
 same-length-6 : tie.Need-same-length-6
-same-length-6 c = search needs
+same-length-6 c =
+    let m = call-of c in
+    let q = parts-of (m .before .before) in
+    let s = entry-of (places-of q) in
+    let a = s .args in
+    back-long (grid-of s) (a .k) (s .pre .0) (a .z) (s .pre .1 .0) (parts q) (a .first) (a .positions .now) (a .normals .now) (a .cells .now) (a .strides .now) (a .crossings .now)
+    (a .map .now) (s .pre .1 .1 .0) (m .mark-layer .ensures .0)
 
 returns : tie.Need-returns
 returns c =
     let m = call-of c in
-    let p = places-of (m .before .before) in
-    let s = entry-of p in
+    let q = parts-of (m .before .before) in
+    let s = entry-of (places-of q) in
     let a = s .args in
     let i = s .pre .0 in
-    let zs = s .pre .1 .0 in
-    let t = lent-parts (a .width) (a .sdf .now) (a .sdf16 .now) (a .sdf8 .now) (a .k) (s .pre .0) (a .z) (s .pre .1 .0) (firsts p) (lasts p) in (
-      marked-back (grid-of s) (a .k) i (a .z) zs t (a .first) (a .positions .now) (a .normals .now) (a .cells .now) (a .strides .now) (a .crossings .now) (a .map .now)
+    let zs = s .pre .1 .0 in (
+      marked-back (grid-of s) (a .k) i (a .z) zs (parts q) (a .first) (a .positions .now) (a .normals .now) (a .cells .now) (a .strides .now) (a .crossings .now) (a .map .now)
           (s .pre .1 .1 .0) (m .mark-layer .ensures .0),
-      count-same (grid-of s) (a .k) i (a .z) zs t (m .mark-layer .ensures .1),
+      count-same (grid-of s) (a .k) i (a .z) zs (parts q) (m .mark-layer .ensures .1),
     )
 
 pub mark-part-spec : {M : Type 1} → statement M
@@ -246,39 +186,19 @@ mark-part-spec =
     mul-plane
     mul-start
     add-end
-    float-place-requires
-    float-place-requires-2
-    sixteen-place-requires
-    sixteen-place-requires-2
-    eight-place-requires
-    eight-place-requires-2
-    cast-t26
+    places-of-requires
+    places-of-requires-2
+    cast-number
+    floats-requires
+    floats-requires-2
+    sixteens-requires
+    sixteens-requires-2
+    eights-requires
+    eights-requires-2
     mul-mark-layer
     sub-mark-layer
     part-mark-layer-start
     part-mark-layer-end
-    mul-mark-layer-2
-    sub-mark-layer-2
-    part-mark-layer-start-2
-    part-mark-layer-end-2
-    mul-mark-layer-3
-    sub-mark-layer-3
-    part-mark-layer-start-3
-    part-mark-layer-end-3
-    mul-mark-layer-4
-    sub-mark-layer-4
-    part-mark-layer-start-4
-    part-mark-layer-end-4
-    sub-mark-layer-5
-    part-mark-layer-start-5
-    part-mark-layer-end-5
-    sub-mark-layer-6
-    part-mark-layer-start-6
-    part-mark-layer-end-6
-    mul-mark-layer-5
-    sub-mark-layer-7
-    part-mark-layer-start-7
-    part-mark-layer-end-7
     mark-layer-requires
     same-length
     same-length-2

@@ -23,20 +23,20 @@ use Rattle.layered_mesh.specs.Fed.{Offered, wrote, joinedWith, nothing, 
 
 -- ---- the layers of Ball, and what is lent
 
-abbrev extent : ℕ → ℕ → ℕ → Extent
+abbrev pub extent : ℕ → ℕ → ℕ → Extent
 extent x y z = record { x = x; y = y; z = z }
 
-abbrev block : Extent → Extent → Block
+abbrev pub block : Extent → Extent → Block
 block dims high = record { dims = dims; low = extent 0 0 0; high = high; «max_plane» = record { x = false; y = false; z = false } }
 
-abbrev ball : Block
+abbrev pub ball : Block
 ball = block (extent 3 3 3) (extent 2 2 2)
 
 -- nine distances, all 1.0, and the middle one
-abbrev flat : List Float
+abbrev pub flat : List Float
 flat = replicate 9 one32
 
-abbrev middle : List Float
+abbrev pub middle : List Float
 middle = set flat 4 minusOne
 
 -- 2^124, and the next float up
@@ -50,10 +50,10 @@ farther = fin false 8388609 (pos 101)
 abbrev keeps : ℕ → ℕ → ℕ → Memory
 keeps d m p = memory (replicate d one32) (replicate m 7) (replicate p one32)
 
-abbrev enough : Memory
+abbrev pub enough : Memory
 enough = keeps 18 18 27
 
-abbrev room : ℕ → ℕ → Output
+abbrev pub room : ℕ → ℕ → Output
 room v i = output (replicate (3 * v) one32) (replicate (3 * v) one32) (replicate (3 * v) 7) (replicate v 7) (replicate v 7) (replicate i 7)
 
 abbrev at : Block → ℕ → State
@@ -96,7 +96,7 @@ cases =
     ∷ []
 
 -- what a computed test opens besides the rules
-unfoldable layersOpened : Unit {0}
+unfoldable pub layersOpened : Unit {0}
 unfolding opened badMemory newVertices runsOn newIndices layerAnswer stateAfter markedOut broughtOut layerKept leaves marked layerEntry lastEntry positionAt shorterOver
     faceOver indicesOver layerDist
 layersOpened = tt

@@ -42,16 +42,16 @@ use Rattle.layered_mesh.proofs.Step.{holds-first}
 
 -- ---- what an accepted call says of its grid
 
-inside-of : (sdf : List Float) (k : Block) (t : Buffers) → answer (callOf sdf k) (room t) .number ≡ 0 → Inside sdf k
+pub inside-of : (sdf : List Float) (k : Block) (t : Buffers) → answer (callOf sdf k) (room t) .number ≡ 0 → Inside sdf k
 inside-of sdf k t e = let a = done-accepted (callOf sdf k) (room t) e in record { dims = a .dims; box = a .box; size = a .length }
 
-not-so : (t : Bool) → T (not t) → t ≡ false
+pub not-so : (t : Bool) → T (not t) → t ≡ false
 not-so true h = absurd h
 not-so false h = refl
 
 -- ---- how far a bed is
 
-data Progress (sdf : List Float) (k : Block) : ℕ → State → Memory → Output → Type 0 where
+pub data Progress (sdf : List Float) (k : Block) : ℕ → State → Memory → Output → Type 0 where
   none : {m : Memory} → Progress sdf k zero (begun k) m nothing
   some : {n : ℕ} {s : State} {m : Memory} {out : Output} → s .block ≡ k → s .taken ≡ suc n → Holds sdf s m out → Progress sdf k (suc n) s m out
 
@@ -79,7 +79,7 @@ module _ (sdf : List Float) (k : Block) (i : Inside sdf k) where
       carried out (state-next sdf s layer m o inside e same h) (left-next sdf s layer m o inside e same h) (mesh-next sdf s layer m o inside e same h a ea)
       (some eb (omega arith) (holds-next sdf s layer m o inside e same h))
 
-  progress : {n : ℕ} {s : State} {m : Memory} {out : Output} → Fed sdf k n s m out → Progress sdf k n s m out
+  pub progress : {n : ℕ} {s : State} {m : Memory} {out : Output} → Fed sdf k n s m out → Progress sdf k n s m out
   progress (started m a) = none
   progress {out = out} (refused {n = n} {s = s} {m = m} f u es em otherwise) =
       let never : layerAnswer (u .state) (u .layer) (u .memory) (roomIn (u .memory) (u .lent)) .number ≡ 0
@@ -95,7 +95,7 @@ module _ (sdf : List Float) (k : Block) (i : Inside sdf k) where
 
   -- ---- after the last layer
 
-  low-high : k .low .z ≤ k .high .z
+  pub low-high : k .low .z ≤ k .high .z
   low-high = let f = fits sdf k i in omega arith
 
   all : {n : ℕ} {s : State} {m : Memory} {out : Output} → Progress sdf k n s m out → n ≡ pointsInZ k

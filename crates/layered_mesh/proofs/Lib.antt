@@ -7,3 +7,8 @@ pub mod Words
 pub mod Once
 pub mod AsServed
 pub mod Follows
+pub mod Again
+pub mod Taken
+pub mod SoFar
+pub mod Untouched
+pub mod Instances

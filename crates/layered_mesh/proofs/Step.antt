@@ -250,7 +250,7 @@ module _ (sdf : List Float) (s : State) (layer : List Float) (m : Memory) (o : O
   agree p t =
       ap₂ (λ (lower upper : List Float). value (twoLayers lower upper k z) p) (h .low) (el ∙ ap (layerOf sdf k) up) ∙ layers-agree sdf k (fits sdf k i) z p t
 
-  vertices-are : newVertices s layer (m .distances) ≡ vs
+  pub vertices-are : newVertices s layer (m .distances) ≡ vs
   vertices-are = vertices-later s layer (m .distances) (h .later) ∙ layer-alike (point (k .dims)) two (g .dist) b z agree
 
   count : length (newVertices s layer (m .distances)) ≡ length vs
@@ -259,7 +259,7 @@ module _ (sdf : List Float) (s : State) (layer : List Float) (m : Memory) (o : O
   first-is : newFirst s layer (m .distances) ≡ first
   first-is = runs-on (s .next) (length (newVertices s layer (m .distances))) (omega (arith, h .next, count, first-few sdf k i z here)) ∙ h .next
 
-  indices-new : newIndices s layer m ≡ is
+  pub indices-new : newIndices s layer m ≡ is
   indices-new =
       indices-later s layer m (h .later)
       ∙ ap (λ (n : ℕ). indicesOver (between s layer (m .distances)) b (flagsOf k) n z (keptBelow s (m .map) (m .positions))) first-is

@@ -1,15 +1,16 @@
 -- A bed taken layer by layer: an offer with what came of it, as the contract says it, and the layers of a grid offered in turn, with any refused offers
 -- between them. State and kept memory are handed on untouched. Definitions only. Assumes nothing.
 use Prim.Native.Nat.{ℕ, zero, suc, _+_, _-_, _*_}
-use mathlib.Core.List.{List, [], _++_, map}
+use mathlib.Core.List.{List, [], _++_}
 use mathlib.Core.Path.{_≡_}
-use lib.ListN.{length, take, drop}
+use lib.ListN.{take, drop}
 use lib.Ieee.{Float}
-use Rattle.rules.specs.Grid.{GridPoint, Box, Field, index}
-use Rattle.rules.specs.Vertices.{vertices, vertexPosition, vertexNormal, vertexCrossings}
-use Rattle.rules.specs.Faces.{Flags, indices}
-use Rattle.rules.specs.Call.{Call, Buffers, Answer, flatVectors, flatPoints}
+use Rattle.rules.specs.Grid.{GridPoint}
+use Rattle.rules.specs.Vertices.{layerVertices, firstVertex}
+use Rattle.rules.specs.Faces.{layerIndices}
+use Rattle.rules.specs.Call.{Buffers, Answer}
 use Rattle.grid.specs.declared.Block.{Block}
+use Rattle.grid.specs.Block.{boxOf, flagsOf, fieldOf}
 use Rattle.layers.specs.declared.State.{State}
 use Rattle.layers.specs.Memory.{Memory, lengths, plane, startAnswer}
 use Rattle.layers.specs.Offer.{begun, Output, output, roomIn, Left, layerAnswer, stateAfter, leaves}
@@ -66,6 +67,15 @@ pub data Fed (sdf : List Float) (k : Block) : ℕ → State → Memory → Outpu
       → u .layer ≡ layerOf sdf k (k .low .z + n) → u .says .number ≡ 0 → Fed sdf k (suc n) (u .next) (u .after .memory) (joinedWith out (wrote u))
   refused : {n : ℕ} {s : State} {m : Memory} {out : Output} → Fed sdf k n s m out → (u : Offered) → u .state ≡ s → u .memory ≡ m
       → (u .says .number ≡ 0 → ⊥) → Fed sdf k n (u .next) (u .after .memory) out
+
+-- what comes out with the layer number n of the grid's box: nothing with the first, and then the vertices and the indices of the cells between it and the layer before
+abbrev pub verticesWith : List Float → Block → ℕ → List GridPoint
+verticesWith sdf k zero = []
+verticesWith sdf k (suc n) = layerVertices (fieldOf sdf k) (boxOf k) (k .low .z + n)
+
+abbrev pub indicesWith : List Float → Block → ℕ → List ℕ
+indicesWith sdf k zero = []
+indicesWith sdf k (suc n) = layerIndices (fieldOf sdf k) (boxOf k) (flagsOf k) (firstVertex (fieldOf sdf k) (boxOf k) (k .low .z + n)) (k .low .z + n)
 
 -- how many layers of points the box has
 abbrev pub pointsInZ : Block → ℕ

@@ -1,5 +1,4 @@
--- Laws of the kept memory and of what a layer leaves, for the proofs of the functions and for the theorem over all layers. First the definitions with numbers.
-pub mod BedInNumbers
+-- Laws of the kept memory and of what a layer leaves, for the proofs of the functions and for the theorem over all layers.
 pub mod Halves
 pub mod Judging
 pub mod Cells

@@ -12,3 +12,4 @@ pub mod Taken
 pub mod SoFar
 pub mod Untouched
 pub mod Instances
+pub mod Runs

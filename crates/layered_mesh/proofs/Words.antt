@@ -88,7 +88,7 @@ words-keep w =
 
 -- ---- an offer for C
 
-block-after : (s : State) (layer : List Float) (m : Memory) (o : Output) → stateAfter s layer m o .block ≡ s .block
+pub block-after : (s : State) (layer : List Float) (m : Memory) (o : Output) → stateAfter s layer m o .block ≡ s .block
 unfolding stateAfter
 block-after s layer m o = go (isTaken s layer m o)
   where
@@ -102,7 +102,7 @@ pub refused-words : (w : List ℕ) (layer : List Float) (m : Memory) (o : Output
 refused-words w layer m o h = ap (wordsOn w) (refused-state (stateOf w) layer m o h) ∙ words-keep w
 
 -- what the contract of bed_layers_offer says of fifteen numbers is an offer to the state that they are, and leaves the numbers of the next state
-pub offered-for-c : (w w' : List ℕ) → length w ≡ 15 → (layer : List Float) (m : Memory) (o : Output) (a : Answer) (l : Left)
+abbrev pub offered-for-c : (w w' : List ℕ) → length w ≡ 15 → (layer : List Float) (m : Memory) (o : Output) (a : Answer) (l : Left)
     → a ≡ layerAnswer (stateOf w) layer m (roomIn m o) → w' ≡ wordsOn w (stateAfter (stateOf w) layer m o) → l ≡ leaves (stateOf w) layer m o → Offered
 offered-for-c w w' long layer m o a l ea ew el =
     record {

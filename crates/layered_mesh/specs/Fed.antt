@@ -18,7 +18,7 @@ use Rattle.layers.specs.Offer.{begun, Output, output, roomIn, Left, layerAnswer
 -- ---- an offer as it was made
 
 -- what went in, the answer with V and I, the next state, and kept memory and the lists lent for output afterwards; the last three are what the contracts
--- of `offer` and bed_layers_offer say
+-- of `offer` and bed_layers_offer say: proofs/Runs makes one of each call that fits its contract
 pub record Offered : Type 0 where
   pub state : State
   pub layer : List Float

@@ -9,3 +9,5 @@ pub mod Premise
 pub mod Instances
 pub mod Scans
 pub mod Judged
+pub mod LayerByLayer
+pub mod LayerCases

@@ -53,7 +53,7 @@ but-negative {r = r} e h f = rw (← e, ← f, not-false r h)
 -- ---- rows and layers
 
 module _ (g : Field) (b : Box) where
-  layer-is : (z : ℕ) → some (stray g b) (layerPoints b z) ≡ strayLayer g b z
+  pub layer-is : (z : ℕ) → some (stray g b) (layerPoints b z) ≡ strayLayer g b b z z
   unfolding layerPoints strayLayer strayRow
   layer-is z =
       some-joined (stray g b) (λ (y : ℕ). map (λ (x : ℕ). record { x = x; y = y; z = z }) (upTo (b .low .x) (b .high .x + 1))) (upTo (b .low .y) (b .high .y + 1))

@@ -1,5 +1,6 @@
 // Document 02, request 8: the skin has no hole where every negative point of the box lies from min + 1 to max - 2 on each axis. That law is
 // about the rules and stands in proofs/; here is the test whether a grid and a box meet its premise.
+pub mod layer;
 mod scan;
 
 ghost use mathlib.Core.Path.{_≡_};

@@ -1,4 +1,5 @@
-// A negative point that is not from min + 1 to max - 2 on each axis. One function for a point, a row, a layer and the box.
+// A negative point that is not from min + 1 to max - 2 on each axis. One function for a point, a row, a layer and the box. The distances of a layer z may stand
+// in a grid of their own: f is the block whose grid is lent, `place` the layer of it that is read, and k and z say of which box and layer its points are.
 ghost use mathlib.Core.Path.{_≡_};
 ghost use mathlib.Core.Bool.{_&&_, not};
 ghost use Prim.Native.Nat.{_≤_};
@@ -51,23 +52,26 @@ pub(crate) fn stray_row(
     sdf: &[f32],
     sdf16: &[i16],
     sdf8: &[i8],
+    f: Block,
     k: Block,
     y: u32,
+    place: u32,
     z: u32,
 ) -> bool
-    requires { ⌜ Inside (gridGiven width sdf sdf16 sdf8) k ⌝ }
-    requires { ⌜ (k .low .y ≤ y) × (y ≤ k .high .y) × (k .low .z ≤ z) × (z ≤ k .high .z) ⌝ }
-    ensures { λ r. ⌜ r ≡ strayRow (fieldOf (gridBefore width sdf sdf16 sdf8) k) (boxOf k) z y ⌝ }
+    requires { ⌜ Inside (gridGiven width sdf sdf16 sdf8) f ⌝ }
+    requires { ⌜ (f .low .y ≤ y) × (y ≤ f .high .y) × (f .low .z ≤ place) × (place ≤ f .high .z) ⌝ }
+    ensures { λ r. ⌜ r ≡ strayRow (fieldOf (gridBefore width sdf sdf16 sdf8) f) (boxOf f) (boxOf k) place z y ⌝ }
 {
-    let from = k.low.x;
-    let end = k.high.x + 1;
+    let from = f.low.x;
+    let end = f.high.x + 1;
     let mut stray = false;
     for x in from..end {
-        let p = Extent { x, y, z };
-        let at = grid::place::linearize(k.dims, p);
+        let p = Extent { x, y, z: place };
+        let q = Extent { x, y, z };
+        let at = grid::place::linearize(f.dims, p);
         stray = grid::scan::either(
             stray,
-            is_stray(grid::values::value_at(width, sdf, sdf16, sdf8, at), k, p),
+            is_stray(grid::values::value_at(width, sdf, sdf16, sdf8, at), k, q),
         );
     }
     stray
@@ -78,18 +82,20 @@ pub(crate) fn stray_layer(
     sdf: &[f32],
     sdf16: &[i16],
     sdf8: &[i8],
+    f: Block,
     k: Block,
+    place: u32,
     z: u32,
 ) -> bool
-    requires { ⌜ Inside (gridGiven width sdf sdf16 sdf8) k ⌝ }
-    requires { ⌜ (k .low .z ≤ z) × (z ≤ k .high .z) ⌝ }
-    ensures { λ r. ⌜ r ≡ strayLayer (fieldOf (gridBefore width sdf sdf16 sdf8) k) (boxOf k) z ⌝ }
+    requires { ⌜ Inside (gridGiven width sdf sdf16 sdf8) f ⌝ }
+    requires { ⌜ (f .low .z ≤ place) × (place ≤ f .high .z) ⌝ }
+    ensures { λ r. ⌜ r ≡ strayLayer (fieldOf (gridBefore width sdf sdf16 sdf8) f) (boxOf f) (boxOf k) place z ⌝ }
 {
-    let from = k.low.y;
-    let end = k.high.y + 1;
+    let from = f.low.y;
+    let end = f.high.y + 1;
     let mut stray = false;
     for y in from..end {
-        stray = grid::scan::either(stray, stray_row(width, sdf, sdf16, sdf8, k, y, z));
+        stray = grid::scan::either(stray, stray_row(width, sdf, sdf16, sdf8, f, k, y, place, z));
     }
     stray
 }
@@ -102,7 +108,7 @@ pub(crate) fn stray_box(width: u32, sdf: &[f32], sdf16: &[i16], sdf8: &[i8], k: 
     let end = k.high.z + 1;
     let mut stray = false;
     for z in from..end {
-        stray = grid::scan::either(stray, stray_layer(width, sdf, sdf16, sdf8, k, z));
+        stray = grid::scan::either(stray, stray_layer(width, sdf, sdf16, sdf8, k, k, z, z));
     }
     stray
 }

@@ -1,5 +1,5 @@
 -- The invariant: the flag says whether a layer before z has a stray point. Assumes nothing.
-use Prim.Native.Nat.{_+_, _-_}
+use Prim.Native.Nat.{ℕ, _+_, _-_}
 use borrow.Author.Needs.{needs}
 use Rattle.grid.specs.Block.{boxOf, fieldOf}
 use Rattle.grid.specs.Values.{gridOf}
@@ -9,7 +9,7 @@ use Rattle.skin.proofs.scan.stray_box.Statement.{statement}
 use Rattle.skin.proofs.scan.stray_box.Tie as tie
 
 abbrev Inv-loop : tie.InvT-loop
-Inv-loop width sdf sdf16 sdf8 k from end stray₀ z₀ stray z = Scanned (strayLayer (fieldOf (gridOf width sdf sdf16 sdf8) k) (boxOf k)) from end z stray
+Inv-loop width sdf sdf16 sdf8 k from end stray₀ z₀ stray z = Scanned (λ (at : ℕ). strayLayer (fieldOf (gridOf width sdf sdf16 sdf8) k) (boxOf k) (boxOf k) at at) from end z stray
 
 abbrev μ-loop : tie.MeasureT-loop
 μ-loop width sdf sdf16 sdf8 k from end stray₀ z₀ stray z = end - z

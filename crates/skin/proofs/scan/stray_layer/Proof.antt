@@ -9,16 +9,16 @@ use Rattle.skin.proofs.scan.stray_layer.Statement.{statement}
 use Rattle.skin.proofs.scan.stray_layer.Tie as tie
 
 abbrev Inv-loop : tie.InvT-loop
-Inv-loop width sdf sdf16 sdf8 k z from end stray₀ y₀ stray y = Scanned (strayRow (fieldOf (gridOf width sdf sdf16 sdf8) k) (boxOf k) z) from end y stray
+Inv-loop width sdf sdf16 sdf8 f k place z from end stray₀ y₀ stray y = Scanned (strayRow (fieldOf (gridOf width sdf sdf16 sdf8) f) (boxOf f) (boxOf k) place z) from end y stray
 
 abbrev μ-loop : tie.MeasureT-loop
-μ-loop width sdf sdf16 sdf8 k z from end stray₀ y₀ stray y = end - y
+μ-loop width sdf sdf16 sdf8 f k place z from end stray₀ y₀ stray y = end - y
 
 abbrev entry-of : tie.At-loop Inv-loop μ-loop → tie.Start Inv-loop μ-loop
 entry-of c = c .before .before .before
 
 -- the row of a turn
-here : (c : tie.In-loop Inv-loop μ-loop) → let k = entry-of (c .before) .args .k in Turn (k .low .y) (k .high .y + 1) (c .before .loop .y)
+here : (c : tie.In-loop Inv-loop μ-loop) → let f = entry-of (c .before) .args .f in Turn (f .low .y) (f .high .y + 1) (c .before .loop .y)
 here c = turn (point-spans (entry-of (c .before) .pre .0) .y) (c .before .loop .inv .count) (c .loop-test .taken)
 
 add-end : tie.Need-add-end Inv-loop μ-loop

@@ -10,17 +10,18 @@ use Rattle.grid.specs.Values.{gridOf}
 use Rattle.grid.proofs.Rows.{on-row}
 use Rattle.grid.proofs.Bounds.{point-inside, below-length}
 use Rattle.grid.proofs.Walks.{Turn, turn, through, end-fits, Scanned, scan-begun, scan-more, scan-ended, point-spans}
-use Rattle.skin.specs.Enclosed.{stray}
-use Rattle.skin.specs.Scan.{strayRow}
+use Rattle.skin.specs.Scan.{strayAt, strayRow}
 use Rattle.skin.proofs.scan.stray_row.Statement.{statement}
 use Rattle.skin.proofs.scan.stray_row.Tie as tie
 
 abbrev Inv-loop : tie.InvT-loop
-Inv-loop width sdf sdf16 sdf8 k y z from end stray₀ x₀ found x =
-    Scanned (λ (x' : ℕ). stray (fieldOf (gridOf width sdf sdf16 sdf8) k) (boxOf k) (record { x = x'; y = y; z = z })) from end x found
+Inv-loop width sdf sdf16 sdf8 f k y place z from end stray₀ x₀ found x =
+    Scanned
+    (λ (x' : ℕ). strayAt (fieldOf (gridOf width sdf sdf16 sdf8) f) (boxOf k) (record { x = x'; y = y; z = place }) (record { x = x'; y = y; z = z }))
+    from end x found
 
 abbrev μ-loop : tie.MeasureT-loop
-μ-loop width sdf sdf16 sdf8 k y z from end stray₀ x₀ found x = end - x
+μ-loop width sdf sdf16 sdf8 f k y place z from end stray₀ x₀ found x = end - x
 
 abbrev entry-of : tie.At-loop Inv-loop μ-loop → tie.Start Inv-loop μ-loop
 entry-of c = c .before .before .before
@@ -29,13 +30,13 @@ abbrev grid-of : tie.Start Inv-loop μ-loop → List Float
 grid-of s = let a = s .args in gridOf (a .width) (a .sdf .now) (a .sdf16 .now) (a .sdf8 .now)
 
 -- the point of a turn
-here : (c : tie.In-loop Inv-loop μ-loop) → let k = entry-of (c .before) .args .k in Turn (k .low .x) (k .high .x + 1) (c .before .loop .x)
+here : (c : tie.In-loop Inv-loop μ-loop) → let f = entry-of (c .before) .args .f in Turn (f .low .x) (f .high .x + 1) (c .before .loop .x)
 here c = turn (point-spans (entry-of (c .before) .pre .0) .x) (c .before .loop .inv .count) (c .loop-test .taken)
 
 abbrev spot : tie.At-loop Inv-loop μ-loop → GridPoint
-spot c = record { x = c .loop .x; y = entry-of c .args .y; z = entry-of c .args .z }
+spot c = record { x = c .loop .x; y = entry-of c .args .y; z = entry-of c .args .place }
 
-within : (c : tie.In-loop Inv-loop μ-loop) → T (inBox (boxOf (entry-of (c .before) .args .k)) (spot (c .before)))
+within : (c : tie.In-loop Inv-loop μ-loop) → T (inBox (boxOf (entry-of (c .before) .args .f)) (spot (c .before)))
 within c = let (ylow, yhigh, zlow, zhigh) = entry-of (c .before) .pre .1 in on-row (entry-of (c .before) .pre .0) (ylow, yhigh) (zlow, zhigh) (through (here c))
 
 add-end : tie.Need-add-end Inv-loop μ-loop
@@ -45,13 +46,13 @@ loop-holds : tie.Need-loop-holds Inv-loop μ-loop
 loop-holds c = scan-begun (point-spans (c .before .before .pre .0) .x)
 
 linearize-requires : tie.Need-linearize-requires Inv-loop μ-loop
-linearize-requires c κs = let s = entry-of (c .before) in point-inside (grid-of s) (s .args .k) (s .pre .0) (spot (c .before)) (within c)
+linearize-requires c κs = let s = entry-of (c .before) in point-inside (grid-of s) (s .args .f) (s .pre .0) (spot (c .before)) (within c)
 
 value-at-requires : tie.Need-value-at-requires Inv-loop μ-loop
 value-at-requires c κs =
     let t = c .before in
     let s = entry-of (t .before) in
-    rw (c .linearize .ensures) (below-length (grid-of s) (s .args .k) (s .pre .0) (spot (t .before)) (within t))
+    rw (c .linearize .ensures) (below-length (grid-of s) (s .args .f) (s .pre .0) (spot (t .before)) (within t))
 
 is-stray-requires : tie.Need-is-stray-requires Inv-loop μ-loop
 is-stray-requires c κs = search needs

@@ -8,3 +8,4 @@ pub mod Places
 pub mod Turns
 pub mod Once
 pub mod Cases
+pub mod Lowered

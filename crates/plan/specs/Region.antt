@@ -1,5 +1,5 @@
 -- What the code says of itself: of each axis the lowest points of the edges that a block owns, as a box of points, and two such boxes side by side.
--- That they are the owned edges is proved; no public contract speaks of them. Definitions only. Assumes nothing.
+-- That they are the owned edges is proved (proofs/Regions, `owned-box`); of public contracts `owned_by`'s alone speaks of them. Definitions only. Assumes nothing.
 use Prim.Native.Nat.{ℕ, _+_, _-_}
 use mathlib.Core.Bool.{Bool, _&&_, _||_, cond}
 use lib.Dec.{leb, ltb}

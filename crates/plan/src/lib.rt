@@ -1,8 +1,8 @@
 // Document 02, request 10: whether a list of blocks is a plan of a tank, "yes exactly if every edge the whole owns is owned by exactly one block
 // and no block owns any other edge". No edge is visited: of each axis the edges that a block owns are a box of points, and blocks plan the
 // whole exactly if each of those boxes lies in the whole's, no two meet, and their sizes add up.
-mod progress;
-mod region;
+pub mod progress;
+pub mod region;
 mod size;
 
 ghost use mathlib.Core.List.{map};

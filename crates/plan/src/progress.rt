@@ -28,7 +28,7 @@ pub(crate) fn bad_side(low: u32, high: u32) -> bool
 }
 
 // Answer 42: "min above max on an axis or a coordinate above 16,777,216".
-pub(crate) fn bad_block(b: Block) -> bool
+pub fn bad_block(b: Block) -> bool
     ensures { λ r. ⌜ r ≡ badBlock b ⌝ }
 {
     bad_side(b.min_x, b.max_x) | (bad_side(b.min_y, b.max_y) | bad_side(b.min_z, b.max_z))

@@ -4,20 +4,20 @@ ghost use Rattle.plan.specs.Region.{alongSpan, acrossSpan, ownedOf, span
 use crate::Block;
 
 // From `from` up to `to`, `to` left out.
-pub(crate) struct Span {
+pub struct Span {
     pub from: u64,
     pub to: u64,
 }
 
 // A box of points.
-pub(crate) struct Region {
+pub struct Region {
     pub x: Span,
     pub y: Span,
     pub z: Span,
 }
 
 // The x, the y and the z edges that a block owns.
-pub(crate) struct Owned {
+pub struct Owned {
     pub x: Region,
     pub y: Region,
     pub z: Region,
@@ -49,7 +49,7 @@ pub(crate) fn across(low: u32, high: u32) -> Span
     }
 }
 
-pub(crate) fn owned_by(b: Block) -> Owned
+pub fn owned_by(b: Block) -> Owned
     ensures { λ r. ⌜ r ≡ ownedOf b ⌝ }
 {
     let across_x = across(b.min_x, b.max_x);

@@ -578,6 +578,54 @@ uint32_t bed_check_plan(
     bool max_plane_x, bool max_plane_y, bool max_plane_z,
     bool *holds);
 
+/* What asking why blocks are no plan answers. The conditions are tried in the order of their numbers and the first
+ * that holds answers. On every answer but BED_WITNESS_TOLD nothing is changed. */
+enum bed_witness_answer {
+    /* The blocks are no plan, and the edge that shows it was written. */
+    BED_WITNESS_TOLD = 0,
+    /* The list's length is no multiple of twelve. */
+    BED_WITNESS_WORDS = 40,
+    /* As BED_PLAN_LIST and BED_PLAN_BOX. */
+    BED_WITNESS_LIST = 41,
+    BED_WITNESS_BOX = 42,
+    /* The blocks are a plan: there is no such edge. */
+    BED_WITNESS_NONE = 43
+};
+
+/* An edge at which blocks are no plan: it goes one step up along the axis, 0, 1 or 2 for x, y or z, from the point at.
+ * first and second are the numbers, counted from 0, of the first and the second block in the list that own it, and
+ * BED_NO_BLOCK where there is none. */
+struct bed_witness {
+    uint32_t axis;
+    uint32_t at[3];
+    uint32_t first, second;
+};
+
+#define BED_NO_BLOCK UINT32_C(4294967295)
+
+/* Why a list of blocks is no plan of a box: the first edge that the whole owns and no block or more than one does, or
+ * that a block owns and the whole does not. The first is that of the lowest axis and then of the lowest z, y and x.
+ *
+ * In:
+ *   blocks           the blocks, at most 200, twelve words each, as struct bed_box has them; the dimensions among them
+ *                    are not read. blocks_len counts words: pass (const uint32_t *)list and 12 * count.
+ *   whole            the whole box; its dimensions are not read.
+ *
+ * Lent for writing:
+ *   witness          the edge, on BED_WITNESS_TOLD alone.
+ *
+ * Proved: an edge is told exactly if bed_check_plan says no of the same blocks and whole, and BED_WITNESS_NONE is
+ * answered exactly if it says yes. If first is BED_NO_BLOCK, the whole owns the edge and no block does; if only second
+ * is, the block first owns it and the whole does not; else both own it. The search goes from corner to corner of the
+ * blocks: its time depends on their number and not on the box's size.
+ *
+ * whole and witness are never null and may not overlap; blocks may be null only where its length is 0.
+ */
+uint32_t bed_plan_witness(
+    const uint32_t *blocks, size_t blocks_len,
+    const struct bed_box *whole,
+    struct bed_witness *witness);
+
 /* Mesh files: a mesh as bytes that show a power cut. The library opens no file; the bytes are lent, as
  * everything else is.
  *
@@ -1025,8 +1073,10 @@ static inline const char *bed_answer_name(uint32_t answer)
     case BED_VERTICES_SHORT: return "BED_VERTICES_SHORT";
     case BED_INDICES_SHORT: return "BED_INDICES_SHORT";
     case BED_LAYERS_FINISHED: return "BED_LAYERS_FINISHED";
+    case BED_WITNESS_WORDS: return "BED_WITNESS_WORDS";
     case BED_PLAN_LIST: return "BED_PLAN_LIST";
     case BED_PLAN_BOX: return "BED_PLAN_BOX";
+    case BED_WITNESS_NONE: return "BED_WITNESS_NONE";
     case BED_FILE_CUT: return "BED_FILE_CUT";
     case BED_FILE_SUM: return "BED_FILE_SUM";
     case BED_FILE_KIND: return "BED_FILE_KIND";

@@ -126,6 +126,22 @@ class Block:
         return f"bed.Block(min={self.min}, max={self.max}, max_plane={self.max_plane})"
 
 
+class Witness:
+    """An edge at which blocks are no plan: it goes one step up along the axis, 0, 1 or 2, from the point `at`; `first` and `second` are the places in the list of the
+    first two blocks that own it, or None."""
+
+    def __init__(self, axis, at, first, second):
+        self.axis, self.at, self.first, self.second = axis, at, first, second
+
+    def __eq__(self, other):
+        return isinstance(other, Witness) and repr(self) == repr(other)
+
+    __hash__ = None
+
+    def __repr__(self):
+        return f"bed.Witness(axis={self.axis}, at={self.at}, first={self.first}, second={self.second})"
+
+
 # ---- numbers and flags, looked at before a call
 
 _LARGEST = 2 ** 32 - 1
@@ -201,6 +217,12 @@ class _BedBox(ctypes.Structure):
     _fields_ = [("dims", _NUMBER * 3), ("min", _NUMBER * 3), ("max", _NUMBER * 3), ("max_plane", _NUMBER * 3)]
 
 
+class _Witness(ctypes.Structure):
+    """bed.h's struct bed_witness"""
+
+    _fields_ = [("axis", _NUMBER), ("at", _NUMBER * 3), ("first", _NUMBER), ("second", _NUMBER)]
+
+
 def _bed_box(dims, low=(0, 0, 0), high=(0, 0, 0), max_plane=(False, False, False)):
     return ctypes.byref(_BedBox(*(tuple(_passed(three)) for three in (dims, low, high, max_plane))))
 
@@ -220,6 +242,7 @@ def _signatures():
     vertices = (_FLOAT, _FLOAT, _NUMBER, _NUMBER, _BYTE)
     all_of = {
         "bed_check_plan": _lists(_Block) + box + flags + _out(_FLAG),
+        "bed_plan_witness": _lists(_NUMBER) + _out(_BedBox, _Witness),
         "bed_write_mesh": _lists(_FLOAT, _FLOAT, _NUMBER, _BYTE) + _out(_COUNT),
         "bed_write_record": _lists(_BYTE) + [_COUNT] + words,
         "bed_read_mesh": _lists(_BYTE, _FLOAT, _FLOAT, _NUMBER) + counts,
@@ -437,14 +460,37 @@ def is_enclosed(distances, dims=None, min=(0, 0, 0), max=None):
 
 def check_plan(blocks, whole):
     """Whether the blocks make each face of the whole exactly once, and no other."""
-    blocks = list(blocks)
-    for block in (*blocks, whole):
-        if not isinstance(block, Block):
-            raise TypeError(f"{block!r} is no bed.Block")
+    blocks = _blocks(blocks, whole)
     lent, holds = (_Block * len(blocks))(*map(_of_a_block, blocks)), _FLAG()
     corners = _of_a_block(whole)
     _done(_call("bed_check_plan", *_lent(lent), *corners.min, *corners.max, *corners.max_plane, ctypes.byref(holds)))
     return holds.value
+
+
+def plan_witness(blocks, whole):
+    """The first edge at which the blocks are no plan of the whole, as a Witness, or None exactly where check_plan says yes: x edges before y before z edges, and then by
+    the lowest z, y and x."""
+    words = [word for block in _blocks(blocks, whole) for word in _twelve(block)]
+    lent, told = (_NUMBER * len(words))(*words), _Witness()
+    answer = _call("bed_plan_witness", *_lent(lent), ctypes.byref(_BedBox.from_buffer_copy((_NUMBER * 12)(*_twelve(whole)))), ctypes.byref(told))
+    if answer == 43:
+        return None
+    _done(answer)
+    first, second = (None if number == _LARGEST else number for number in (told.first, told.second))
+    return Witness(told.axis, tuple(told.at), first, second)
+
+
+def _blocks(blocks, whole):
+    blocks = list(blocks)
+    for block in (*blocks, whole):
+        if not isinstance(block, Block):
+            raise TypeError(f"{block!r} is no bed.Block")
+    return blocks
+
+
+def _twelve(block):
+    lent = _of_a_block(block)
+    return (0, 0, 0, *lent.min, *lent.max, *map(int, lent.max_plane))
 
 
 def _of_a_block(block):

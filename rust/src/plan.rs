@@ -1,7 +1,7 @@
-//! Whether a list of blocks is a plan of a tank.
+//! Whether a list of blocks is a plan of a tank, and where it is none, an edge that shows it.
 
 use crate::lent::MaxPlane;
-use crate::raw::bed_check_plan;
+use crate::raw::{bed_check_plan, bed_plan_witness, BedBox, BedWitness};
 use std::fmt;
 
 /// The box of a call, from `min` to `max`, with its max plane for each axis. C's `struct bed_block`: 28
@@ -87,5 +87,73 @@ pub fn check_plan(blocks: &[Block], whole: &Block) -> Result<bool, PlanError> {
         41 => Err(PlanError::List),
         42 => Err(PlanError::Box),
         _ => unreachable!("the library answers 0, 41 or 42"),
+    }
+}
+
+/// An edge at which blocks are no plan: the whole owns it and no block or more than one does, or a block owns it and the whole does
+/// not. If `first` is `None` no block owns it; if only `second` is, the block `first` does and the whole does not; else both do.
+#[derive(Clone, Copy, Debug, PartialEq, Eq)]
+pub struct Witness {
+    /// 0, 1 or 2: the edge goes one step up along x, y or z ...
+    pub axis: usize,
+    /// ... from this point.
+    pub at: [u32; 3],
+    /// The first block of the list that owns it.
+    pub first: Option<usize>,
+    /// The second.
+    pub second: Option<usize>,
+}
+
+/// Of the edges at which the blocks are no plan the first, x edges before y before z edges and then by the lowest z, y and x; `None`
+/// exactly if [`check_plan`] says yes. It refuses what [`check_plan`] refuses.
+///
+/// ```
+/// use bed::{plan_witness, Block, Witness};
+///
+/// let whole = Block { max: [6, 4, 4], ..Block::default() };
+/// let lower = Block { max: [4, 4, 4], ..Block::default() };
+/// let upper = Block { min: [3, 0, 0], ..whole };
+/// assert_eq!(plan_witness(&[lower, upper], &whole), Ok(None));
+/// let gap = Witness { axis: 0, at: [3, 1, 1], first: None, second: None };
+/// assert_eq!(plan_witness(&[lower], &whole), Ok(Some(gap)));
+/// let twice = Witness { axis: 0, at: [3, 1, 1], first: Some(1), second: Some(2) };
+/// assert_eq!(plan_witness(&[lower, upper, upper], &whole), Ok(Some(twice)));
+/// ```
+pub fn plan_witness(blocks: &[Block], whole: &Block) -> Result<Option<Witness>, PlanError> {
+    let words: Vec<BedBox> = blocks.iter().map(Block::in_words).collect();
+    let mut told = BedWitness::default();
+    // SAFETY: the pointer comes from a list of `repr(C)` structs of twelve words each, all of which the length counts; a list that is
+    // in memory has fewer words than a length holds. `told` is a variable of its own.
+    let answer = unsafe {
+        bed_plan_witness(
+            words.as_ptr().cast(),
+            12 * words.len(),
+            &whole.in_words(),
+            &mut told,
+        )
+    };
+    let number = |block: u32| (block != u32::MAX).then_some(block as usize);
+    match answer {
+        0 => Ok(Some(Witness {
+            axis: told.axis as usize,
+            at: told.at,
+            first: number(told.first),
+            second: number(told.second),
+        })),
+        41 => Err(PlanError::List),
+        42 => Err(PlanError::Box),
+        43 => Ok(None),
+        _ => unreachable!("the library answers 0, 41, 42 or 43 for words in twelves"),
+    }
+}
+
+impl Block {
+    /// The twelve words, with dimensions that are not read.
+    fn in_words(&self) -> BedBox {
+        let MaxPlane { x, y, z } = self.max_plane;
+        BedBox {
+            max_plane: [x, y, z].map(u32::from),
+            ..BedBox::with([0; 3], self.min, self.max)
+        }
     }
 }

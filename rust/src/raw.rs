@@ -46,6 +46,21 @@ impl BedBox {
     }
 }
 
+/// An edge at which blocks are no plan, as C's `struct bed_witness` lies in memory: its axis and its lowest point, and the numbers
+/// of the first two blocks that own it, 4,294,967,295 for none.
+#[repr(C)]
+#[derive(Clone, Copy, Debug, Default, PartialEq, Eq)]
+pub struct BedWitness {
+    /// 0, 1 or 2 for x, y or z.
+    pub axis: u32,
+    /// The lowest point.
+    pub at: [u32; 3],
+    /// The first block that owns it.
+    pub first: u32,
+    /// The second.
+    pub second: u32,
+}
+
 extern "C" {
     /// The library's version as one number, major · 65536 + minor · 256 + patch.
     ///
@@ -251,6 +266,18 @@ extern "C" {
         max_plane_y: bool,
         max_plane_z: bool,
         holds: *mut bool,
+    ) -> u32;
+
+    /// The first edge at which blocks, twelve words each, are no plan, and returns the answer number: 0, 40 to 43.
+    ///
+    /// # Safety
+    ///
+    /// As above; `blocks_len` counts words, and `witness` is written on answer 0 alone.
+    pub fn bed_plan_witness(
+        blocks: *const u32,
+        blocks_len: usize,
+        whole: *const BedBox,
+        witness: *mut BedWitness,
     ) -> u32;
 
     /// Writes the file of a mesh into lent bytes and returns the answer number: 0, 26, 27, 29 or 30.

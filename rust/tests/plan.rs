@@ -1,6 +1,6 @@
 //! Block plans: the pinwheel, which no run of cuts makes, what is not a plan of it, and the refusals.
 
-use bed::{check_plan, Block, MaxPlane, PlanError};
+use bed::{check_plan, plan_witness, Block, MaxPlane, PlanError, Witness};
 
 fn flat(x: [u32; 2], y: [u32; 2]) -> Block {
     Block {
@@ -90,4 +90,43 @@ fn the_list_is_refused_before_a_box() {
         (PlanError::List.number(), PlanError::Box.number()),
         (41, 42)
     );
+}
+
+/// One edge is told of each list that is no plan, by hand: of the pinwheel's x edges at y 1, z 1 the first block owns 0 and 1, the second 2.
+#[test]
+fn where_it_is_no_plan() {
+    let edge = |axis, at, first, second| {
+        Ok(Some(Witness {
+            axis,
+            at,
+            first,
+            second,
+        }))
+    };
+    assert_eq!(plan_witness(&pinwheel(), &tank()), Ok(None));
+    assert_eq!(
+        plan_witness(&pinwheel()[1..], &tank()),
+        edge(0, [0, 1, 1], None, None)
+    );
+    assert_eq!(plan_witness(&[], &tank()), edge(0, [0, 1, 1], None, None));
+    let mut doubled = pinwheel();
+    doubled.push(doubled[1]);
+    assert_eq!(
+        plan_witness(&doubled, &tank()),
+        edge(0, [2, 1, 1], Some(1), Some(5))
+    );
+    // a max plane too many: y edges from y 3, of the tank's last cells, that the tank does not own
+    let mut walled = pinwheel();
+    walled[2].max_plane.y = true;
+    assert_eq!(
+        plan_witness(&walled, &tank()),
+        edge(1, [2, 3, 1], Some(2), None)
+    );
+    let turned = Block {
+        min: [1, 0, 0],
+        ..Block::default()
+    };
+    assert_eq!(plan_witness(&[turned; 201], &tank()), Err(PlanError::List));
+    assert_eq!(plan_witness(&[turned; 200], &tank()), Err(PlanError::Box));
+    assert_eq!(plan_witness(&pinwheel(), &turned), Err(PlanError::Box));
 }

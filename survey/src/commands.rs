@@ -3,8 +3,9 @@
 use crate::arguments::{before_files, Arguments};
 use crate::asked::{apart, open_grid, options, scale};
 use crate::failure::Failure;
-use crate::judged::{accepted, are_fixtures, cut_out, held, named_block};
+use crate::judged::{accepted, are_fixtures, cut_out, named_block};
 use crate::meshing::counted;
+use crate::planned::held;
 use crate::said::Said;
 use crate::{fixtures, help, kept, mesh, meshing, npy, plan, ply, sheets, survey};
 use std::ffi::OsString;

@@ -11,8 +11,8 @@ pub enum Failure {
         number: u32,
         words: String,
     },
-    /// The library's checker says that the blocks are no plan of the whole.
-    NoPlan { place: String },
+    /// The library's checker says that the blocks are no plan of the whole, and names this edge.
+    NoPlan { place: String, witness: String },
     /// The words of the command line are wrong.
     Use(String),
     /// A file cannot be read or written, or does not hold what it should.
@@ -54,10 +54,7 @@ impl fmt::Display for Failure {
                 number,
                 words,
             } => write!(out, "{place}: refused {number}: {words}"),
-            Failure::NoPlan { place } => write!(
-                out,
-                "{place}: no plan: some edge of the whole is owned by no block or by several, or a block owns another"
-            ),
+            Failure::NoPlan { place, witness } => write!(out, "{place}: no plan: {witness}"),
             Failure::Use(words) => out.write_str(words),
             Failure::File { place, reason } => write!(out, "{place}: {reason}"),
             Failure::Output(reason) => write!(out, "standard output: {reason}"),

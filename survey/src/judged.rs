@@ -1,23 +1,11 @@
-//! What the library is asked about plans, blocks and fixtures, and its refusals with the names of files.
+//! What the library is asked about blocks and fixtures, and its refusals with the names of files.
 
 use crate::explained;
 use crate::failure::Failure;
 use crate::fixtures::Fixtures;
 use crate::grid::Grid;
-use crate::plan::Plan;
 use bed::{Block, FixtureRefusal};
 use std::path::Path;
-
-/// Asks the library whether the blocks are a plan of the whole.
-pub fn held(place: &Path, plan: &Plan) -> Result<(), Failure> {
-    match bed::check_plan(&plan.blocks, &plan.whole) {
-        Ok(true) => Ok(()),
-        Ok(false) => Err(Failure::NoPlan {
-            place: place.display().to_string(),
-        }),
-        Err(refusal) => Err(Failure::refused(place.display(), refusal.number(), refusal)),
-    }
-}
 
 /// What the library's call needs on this block of the grid.
 pub fn accepted(

@@ -34,6 +34,7 @@ mod npy;
 mod numbers;
 mod page;
 mod plan;
+mod planned;
 mod ply;
 mod progress;
 mod records;

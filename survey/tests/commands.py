@@ -221,15 +221,34 @@ def fixtures_as_text():
     expect("eight deep", bed("fixtures", "deep.text", "-o", "deep.fixtures")[1] == "fixtures records 8\n")
 
 
+def owned(line):
+    """the edges that a line of a plan owns, one by one"""
+    x0, y0, z0, x1, y1, z1, letters = line.split()
+    low, high = [int(word) for word in (x0, y0, z0)], [int(word) for word in (x1, y1, z1)]
+    for axis in range(3):
+        ranges = [range(low[k] + (k != axis), high[k] - (k == axis and "xyz"[k] not in letters)) for k in range(3)]
+        yield from ((axis, x, y, z) for x in ranges[0] for y in ranges[1] for z in ranges[2])
+
+
+def first_wrong(lines):
+    """what is said of a plan whose whole is the first line, counted edge by edge; nothing where it is one"""
+    owners = {}
+    for number, line in enumerate(lines[1:], 2):
+        for edge in owned(line):
+            owners.setdefault(edge, []).append(number)
+    whole = set(owned(lines[0]))
+    wrong = [edge for edge in whole | set(owners) if len(owners.get(edge, [])) != (edge in whole)]
+    if not wrong:
+        return None
+    axis, x, y, z = min(wrong, key=lambda edge: (edge[0], edge[3], edge[2], edge[1]))
+    its = owners.get((axis, x, y, z), [])
+    words = (f"lines {its[0]} and {its[1]} both own it" if len(its) > 1 else f"line {its[0]} owns it, and the whole does not" if its
+             else "the whole owns it, and no line does")
+    return f"no plan: edge along {'xyz'[axis]} from ({x},{y},{z}): {words}"
+
+
 def made_plans():
     """each edge of a plan that is made is owned once, counted one by one"""
-    def owned(line):
-        x0, y0, z0, x1, y1, z1, letters = line.split()
-        low, high = [int(word) for word in (x0, y0, z0)], [int(word) for word in (x1, y1, z1)]
-        for axis in range(3):
-            ranges = [range(low[k] + (k != axis), high[k] - (k == axis and "xyz"[k] not in letters)) for k in range(3)]
-            yield from ((axis, x, y, z) for x in ranges[0] for y in ranges[1] for z in ranges[2])
-
     put("odd.npy", npy(floats([1.0] * (7 * 10 * 6)), (7, 10, 6)))
     for counts, letters in (("1,1,1", "-"), ("2,3,1", "-"), ("6,9,5", "-"), ("3,4,5", "xz"), ("2,2,2", "xyz")):
         blocks = [int(word) for word in counts.split(",")]
@@ -263,8 +282,22 @@ def plans():
         before = sorted(os.listdir("."))
         for words in (("plan", plan(*lines), BALL_FILE), ("survey", BALL_FILE, "--plan", "a.plan", "-o", "never.mesh")):
             status, output, errors = bed(*words)
-            expect(f"{lines} is no plan", (status, output) == (1, "") and "a.plan: no plan" in errors)
+            expect(f"{lines} is no plan: {errors}", (status, output, errors) == (1, "", f"bed: a.plan: {first_wrong(lines)}\n"))
         expect("nothing is written", sorted(os.listdir(".")) == before)
+    seen = set()
+    for _ in range(150):
+        lines = ["0 0 0 11 9 7 " + random.choice(("-", "y", "xz")), "0 0 0 6 9 7 -", "5 0 0 11 4 7 x", "5 3 0 11 9 7 xz", "2 2 1 3 3 2 xyz"]
+        words = lines[random.randrange(1, 5)].split()
+        place = random.randrange(7)
+        words[place] = random.choice(("-", "x", "yz", "xyz")) if place == 6 else str(max(0, int(words[place]) + random.choice((-1, 1))))
+        if all(int(words[axis]) <= int(words[axis + 3]) for axis in range(3)):
+            lines.append(" ".join(words))
+            random.choice((lines.pop, lambda at: None))(random.randrange(1, 5))
+            status, output, errors = bed("plan", plan(*lines), BALL_FILE)
+            wanted = first_wrong(lines)
+            expect(f"{lines}: {errors} for {wanted}", wanted is None or (status, errors) == (1, f"bed: a.plan: {wanted}\n"))
+            seen.add(re.sub(r"[0-9]+", "0", (wanted or "a plan").split(": ")[-1]))
+    expect(f"each kind of edge: {seen}", len(seen) >= 3)
     plan("# tank", whole, "", lower, "5 0 0 11 11 xyz  # a number is missing")
     wrong("plan", "a.plan", BALL_FILE, says="a.plan, line 5: ")
     wrong("survey", BALL_FILE, "--plan", "a.plan", "-o", "never.mesh", says="a.plan, line 5: ")

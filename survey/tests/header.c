@@ -135,7 +135,7 @@ static int names(void)
     NAMED(BED_FILE_CUT) NAMED(BED_FILE_SUM) NAMED(BED_FILE_KIND) NAMED(BED_FILE_ZERO) NAMED(BED_FILE_COUNTS)
     NAMED(BED_FILE_INDEX) NAMED(BED_FILE_NOT_FINITE) NAMED(BED_FILE_AFTER) NAMED(BED_FILE_ROOM) NAMED(BED_FILE_LISTS)
     NAMED(BED_LAYERS_FINISHED)
-    NAMED(BED_PLAN_LIST) NAMED(BED_PLAN_BOX)
+    NAMED(BED_PLAN_LIST) NAMED(BED_PLAN_BOX) NAMED(BED_WITNESS_WORDS) NAMED(BED_WITNESS_NONE)
     NAMED(BED_FIXTURE_CUT) NAMED(BED_FIXTURE_KIND) NAMED(BED_FIXTURE_DEEP) NAMED(BED_FIXTURE_WORD)
     NAMED(BED_FIXTURE_FLOAT) NAMED(BED_FIXTURE_AFTER)
     NAMED(BED_VOLUME_THREES) NAMED(BED_VOLUME_TOO_MANY) NAMED(BED_VOLUME_OUTSIDE) NAMED(BED_VOLUME_INDEX)
@@ -144,8 +144,8 @@ static int names(void)
     unsigned known = 0;
     for (uint32_t answer = 0; answer < 1000; answer++)
         known += strcmp(bed_answer_name(answer), "unknown") != 0;
-    /* 0, 1 to 8, 21 to 30, 41, 42, 51 to 56, 61 to 64, 71 to 78 */
-    return known == 1 + 8 + 10 + 2 + 6 + 4 + 8 ? 0 : 1;
+    /* 0, 1 to 8, 21 to 30, 40 to 43, 51 to 56, 61 to 64, 71 to 78 */
+    return known == 1 + 8 + 10 + 4 + 6 + 4 + 8 ? 0 : 1;
 }
 
 static int size(void)
@@ -176,9 +176,31 @@ static int told(void)
     return answer == (uint32_t)wanted && vertices == 8 && indices == 18 ? 0 : 1;
 }
 
+/* Why blocks are no plan: a tank from (1, 2, 3) to (7, 6, 8) with the max plane of y, and a lower block alone; with its upper block, which is a plan; with the
+ * upper twice; and the refusals, which keep what stood there. */
+static int witnesses(void)
+{
+    struct bed_box whole = {{0, 0, 0}, {1, 2, 3}, {7, 6, 8}, {0, 5, 0}};
+    struct bed_box blocks[201] = {{{9, 9, 9}, {1, 2, 3}, {5, 6, 8}, {0, 1, 0}}, {{0, 0, 0}, {4, 2, 3}, {7, 6, 8}, {0, 1, 0}}};
+    struct bed_witness gap = {0, {4, 3, 4}, BED_NO_BLOCK, BED_NO_BLOCK}, twice = {0, {4, 3, 4}, 1, 2}, kept = {6, {5, 4, 3}, 2, 1}, told = kept;
+    const uint32_t *words = (const uint32_t *)blocks;
+    if (sizeof told != 24 || bed_plan_witness(words, 12, &whole, &told) != BED_WITNESS_TOLD || memcmp(&told, &gap, sizeof told) != 0)
+        return 1;
+    told = kept;
+    if (bed_plan_witness(words, 24, &whole, &told) != BED_WITNESS_NONE || bed_plan_witness(words, 23, &whole, &told) != BED_WITNESS_WORDS
+        || bed_plan_witness(words, 12 * 201, &whole, &told) != BED_WITNESS_LIST || memcmp(&told, &kept, sizeof told) != 0)
+        return 1;
+    blocks[2] = blocks[1];
+    if (bed_plan_witness(words, 36, &whole, &told) != BED_WITNESS_TOLD || memcmp(&told, &twice, sizeof told) != 0)
+        return 1;
+    blocks[2].min[1] = 16777217;
+    told = kept;
+    return bed_plan_witness(words, 36, &whole, &told) == BED_WITNESS_BOX && memcmp(&told, &kept, sizeof told) == 0 ? 0 : 1;
+}
+
 int main(void)
 {
-    if (names() != 0 || names_of_layers() != 0 || size() != 0 || rooms() != 0 || told() != 0) {
+    if (names() != 0 || names_of_layers() != 0 || size() != 0 || rooms() != 0 || told() != 0 || witnesses() != 0) {
         puts("bed.h: not as it should be");
         return 1;
     }

@@ -229,8 +229,14 @@ def fixtures_and_plans():
     expect("a block is 28 bytes", ctypes.sizeof(bed._Block) == 28)
     expect("a plan", bed.check_plan([lower, upper], whole) and not bed.check_plan([lower], whole) and not bed.check_plan([], whole))
     expect("flags", not bed.check_plan([lower, bed.Block((3, 0, 0), (6, 4, 4), (True, False, False))], whole))
-    refused(41, bed.check_plan, [lower] * 201, whole)
-    refused(42, bed.check_plan, [bed.Block(min=(1, 0, 0))], whole)
+    expect("no edge is wrong", bed.plan_witness([lower, upper], whole) is None)
+    for blocks, told in (([lower], (0, (3, 1, 1), None, None)), ([lower, upper, upper], (0, (3, 1, 1), 1, 2)), ([], (0, (0, 1, 1), None, None)),
+                         ([lower, bed.Block((3, 0, 0), (6, 4, 4), (False, False, True))], (2, (4, 1, 3), 1, None))):
+        expect(f"the first wrong edge: {bed.plan_witness(blocks, whole)}", bed.plan_witness(blocks, whole) == bed.Witness(*told))
+    for asked in (bed.check_plan, bed.plan_witness):
+        refused(41, asked, [lower] * 201, whole)
+        refused(42, asked, [bed.Block(min=(1, 0, 0))], whole)
+    wrong(bed.plan_witness, [(0, 0, 0)], whole)
 
 
 def winding():

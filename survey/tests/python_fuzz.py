@@ -150,6 +150,7 @@ CALLS = {
     "counts": lambda: bed.counts(buffer(), **dims(), **words({**BOX, "max_plane": flags})),
     "is_enclosed": lambda: bed.is_enclosed(buffer(), **dims(), **words(BOX)),
     "check_plan": lambda: bed.check_plan([block() for _ in range(random.choice((0, 1, 2, 201)))] if random.random() < 0.9 else number(), block()),
+    "plan_witness": lambda: repr(bed.plan_witness([block() for _ in range(random.choice((0, 1, 2, 3, 201)))] if random.random() < 0.9 else number(), block())),
     "Block": lambda: repr(bed.Block(**words({**BOX, "max_plane": flags}))),
     "cut_fixtures": lambda: bed.cut_fixtures(file() if random.random() < 0.7 else buffer(), buffer(), **dims()),
     "volume": lambda: bed.volume(*lists()[::2]),

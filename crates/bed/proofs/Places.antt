@@ -102,6 +102,9 @@ use Rattle.bed.proofs.levelled.bed_levels_layer_i16.Kinds as levels-lay
 use Rattle.bed.proofs.levelled.bed_levels_layer_i16.Reads as levels-layer-i16
 use Rattle.bed.proofs.levelled.bed_levels_layer_i8.Kinds as levels-layer-i8-kinds
 use Rattle.bed.proofs.levelled.bed_levels_layer_i8.Reads as levels-layer-i8
+use Rattle.witness.specs.Witness.{pieceIn, Tells}
+use Rattle.bed.proofs.plans.bed_plan_witness.Kinds as witness-kinds
+use Rattle.bed.proofs.plans.bed_plan_witness.Reads as witness-reads
 
 -- a call of a function and what it leaves: the result, and behind each `&mut` the value that it has last. `Learnt` of a function's Reads is what a
 -- caller learns from the function's own `ensures`, so this is no copy of it.
@@ -537,3 +540,12 @@ pub levels-layer-i8-by-place : (u : LevelsLayerCall8)
     let (_, (_, (_, (_, (left', _))))) = u .last in
     LayerLevelledOf (asFloats (below .now)) (asFloats (layer .now)) (words .now) z (out .now) left' (u .result))
 levels-layer-i8-by-place u = u .fits
+
+-- ---- bed_plan_witness: the blocks' words, the whole's twelve, the edge
+
+abbrev pub WitnessCall : Type 0
+WitnessCall = Called 3 witness-kinds.ps witness-kinds.r witness-reads.Learnt
+
+pub plan-witness-by-place : (u : WitnessCall)
+    → (let (blocks, (whole, (edge, _))) = u .args in let (_, (_, (left', _))) = u .last in Tells (blocks .now) (pieceIn (whole .now) 0) (u .result) (edge .now) left')
+plan-witness-by-place u = u .fits

@@ -1,6 +1,7 @@
-// Document 02, request 10, for C: whether a lent list of blocks is a plan of a tank.
+// Document 02, request 10, for C: whether a lent list of blocks is a plan of a tank, and where it is none, the first edge that shows it.
 ghost use mathlib.Core.List.{map};
 ghost use Rattle.plan.specs.Plan.{Checks, piece, block};
+ghost use Rattle.witness.specs.Witness.{pieceIn, Tells};
 use plan::Block;
 
 // The answer number, 0, 41 or 42, with the yes or no behind `holds`: no on a refusal.
@@ -35,4 +36,12 @@ pub extern "C" fn bed_check_plan(
     let a = plan::check_plan(blocks, whole);
     *holds = a.holds;
     a.answer
+}
+
+// The first edge at which blocks are no plan, and the first two blocks that own it. The answer number: 0 told, 43 they are a plan, or 40, 41 or 42.
+#[no_mangle]
+pub extern "C" fn bed_plan_witness(blocks: &[u32], whole: &[u32; 12], edge: &mut [u32; 6]) -> u32
+    ensures { λ r. ⌜ Tells (now (blocks .entry)) (pieceIn (now (whole .entry)) 0) r (now (edge .entry)) (now (edge .exit)) ⌝ }
+{
+    witness::plan_witness(blocks, whole, edge)
 }

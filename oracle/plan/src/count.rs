@@ -1,6 +1,6 @@
 //! Document 01's ownership and document 02's request 10, read plainly: edges are counted one by one.
 
-use bed::Block;
+use bed::{Block, Witness};
 
 /// "An edge is owned if p1 is the lowest corner of a cell of the box, is above min on B and C and, unless max
 /// plane, p1's coordinate along the edge is not max - 1."
@@ -11,7 +11,7 @@ pub fn owned(b: &Block, axis: usize, p: [u32; 3]) -> bool {
         && ([b.max_plane.x, b.max_plane.y, b.max_plane.z][axis] || p[axis] != b.max[axis] - 1)
 }
 
-/// The edges from the points 0, 1, .. side - 1 on each axis that a block owns, as a list of yes and no.
+/// The edges from the points 0, 1, .. side - 1 on each axis: x edges before y before z edges, then by z, y and x.
 fn edges(side: u32) -> impl Iterator<Item = (usize, [u32; 3])> {
     (0..3).flat_map(move |axis| {
         (0..side * side * side).map(move |i| (axis, [i % side, i / side % side, i / side / side]))
@@ -19,11 +19,21 @@ fn edges(side: u32) -> impl Iterator<Item = (usize, [u32; 3])> {
 }
 
 /// "yes exactly if every edge the whole owns is owned by exactly one block and no block owns any other edge",
-/// by counting at every edge of a grid that all boxes lie in.
-pub fn is_plan(blocks: &[Block], whole: &Block, side: u32) -> bool {
-    edges(side).all(|(axis, p)| {
-        let often = blocks.iter().filter(|b| owned(b, axis, p)).count();
-        often == owned(whole, axis, p) as usize
+/// by counting at every edge of a grid that all boxes lie in: the first at which it is not so.
+pub fn first_wrong(blocks: &[Block], whole: &Block, side: u32) -> Option<Witness> {
+    edges(side).find_map(|(axis, p)| wrong(blocks, whole, axis, p))
+}
+
+/// The edge with its first two owners, unless it is owned as it should be.
+fn wrong(blocks: &[Block], whole: &Block, axis: usize, at: [u32; 3]) -> Option<Witness> {
+    let owners: Vec<usize> = (0..blocks.len())
+        .filter(|&b| owned(&blocks[b], axis, at))
+        .collect();
+    (owners.len() != owned(whole, axis, at) as usize).then(|| Witness {
+        axis,
+        at,
+        first: owners.first().copied(),
+        second: owners.get(1).copied(),
     })
 }
 
@@ -37,7 +47,7 @@ pub fn mask(b: &Block) -> u128 {
 
 /// The same for boxes of any size: ownership changes only where a coordinate is min, min + 1, max - 1 or max of
 /// some box, so that one point of each stretch between those stands for all of it.
-pub fn is_plan_anywhere(blocks: &[Block], whole: &Block) -> bool {
+pub fn first_wrong_anywhere(blocks: &[Block], whole: &Block) -> Option<Witness> {
     let mut marks: [Vec<u32>; 3] = Default::default();
     for b in blocks.iter().chain([whole]) {
         for a in 0..3 {
@@ -48,13 +58,12 @@ pub fn is_plan_anywhere(blocks: &[Block], whole: &Block) -> bool {
         m.sort_unstable();
         m.dedup();
     }
-    marks[2].iter().all(|&z| {
-        marks[1].iter().all(|&y| {
-            marks[0].iter().all(|&x| {
-                (0..3).all(|axis| {
-                    let often = blocks.iter().filter(|b| owned(b, axis, [x, y, z])).count();
-                    often == owned(whole, axis, [x, y, z]) as usize
-                })
+    let [xs, ys, zs] = &marks;
+    (0..3).find_map(|axis| {
+        zs.iter().find_map(|&z| {
+            ys.iter().find_map(|&y| {
+                xs.iter()
+                    .find_map(|&x| wrong(blocks, whole, axis, [x, y, z]))
             })
         })
     })

@@ -1,4 +1,4 @@
-//! plan: asks the proved checker about block plans and compares each answer with plain counting; then meshes
+//! plan: asks the proved checker about block plans, and where they are none for an edge that shows it, and compares each answer with plain counting; then meshes
 //! plans block by block and compares their faces with the whole's; then times a plan of 200 blocks. Prints a
 //! line for each part. Exit status 1 if anything differs.
 
@@ -6,13 +6,22 @@ mod count;
 mod made;
 mod mesh;
 
-use bed::{check_plan, Block, MaxPlane, PlanError};
+use bed::{check_plan, plan_witness, Block, MaxPlane, PlanError, Witness};
 use made::Random;
 use std::time::Instant;
 
 fn differs(part: &str, blocks: &[Block], whole: &Block, says: Result<bool, PlanError>) -> ! {
     println!("{part}: {says:?} is wrong for {blocks:?} in {whole:?}");
     std::process::exit(1)
+}
+
+/// The edge that is told, against the first that counting finds.
+fn witnessed(part: &str, blocks: &[Block], whole: &Block, right: Option<Witness>) {
+    let says = plan_witness(blocks, whole);
+    if says != Ok(right) {
+        println!("{part}: {says:?} is told, and not {right:?}, for {blocks:?} in {whole:?}");
+        std::process::exit(1)
+    }
 }
 
 /// All lists of up to two blocks with coordinates up to 2, against every flag of the whole 0..2; and every list of
@@ -89,7 +98,9 @@ fn random_small(r: &mut Random) {
         } else {
             cut += 1;
         }
-        let right = count::is_plan(&list, &whole, 11);
+        let wrong = count::first_wrong(&list, &whole, 11);
+        let right = wrong.is_none();
+        witnessed("random plans", &list, &whole, wrong);
         if n % 2 == 0 && !right {
             println!("a run of cuts is no plan: {list:?} in {whole:?}");
             std::process::exit(1)
@@ -116,7 +127,9 @@ fn large(r: &mut Random) {
         if list.iter().any(|b| b.max.iter().any(|&c| c > 16_777_216)) {
             continue;
         }
-        let right = count::is_plan_anywhere(&list, &whole);
+        let wrong = count::first_wrong_anywhere(&list, &whole);
+        let right = wrong.is_none();
+        witnessed("large plans", &list, &whole, wrong);
         plans += right as u32;
         let says = check_plan(&list, &whole);
         if says != Ok(right) {
@@ -162,7 +175,7 @@ fn refusals(r: &mut Random) {
             continue;
         };
         let says = check_plan(&list, &whole);
-        if says != right {
+        if says != right || plan_witness(&list, &whole) != right.map(|_| None) {
             differs("refusals", &list, &whole, says)
         }
     }
@@ -212,6 +225,9 @@ fn timed() {
         })
         .collect();
     times.sort_by(f64::total_cmp);
+    let began = Instant::now();
+    witnessed("timed", &blocks, &whole, None);
+    let searched = began.elapsed().as_secs_f64() * 1e3;
     let mut wrong_flags = 0;
     for i in 0..blocks.len() {
         for a in 0..3 {
@@ -221,7 +237,7 @@ fn timed() {
         }
     }
     println!(
-        "a tank of {} blocks: {yes:?}; one flag wrong: no {wrong_flags} times of {}; median {:.0} microseconds, most {:.0}",
+        "a tank of {} blocks: {yes:?}; one flag wrong: no {wrong_flags} times of {}; median {:.0} microseconds, most {:.0}; all its edges searched in {searched:.1} ms",
         blocks.len(),
         3 * blocks.len(),
         times[500],

@@ -1,8 +1,10 @@
 -- The definitions on numbers no two of which are alike. Blocks as words: the dimensions not read, flags set by any word but 0. Two blocks that share edges, one that lies out of
 -- the whole, and a gap: the owners of single edges as document 01's words on owned edges have them, counted by hand. The refusals. Computed by the kernel. Assumes nothing.
 use Prim.Native.Nat.{ℕ}
+use native.Mathlib.Omega.{arith}
 use mathlib.Core.Bool.{Bool, true, false}
 use mathlib.Core.List.{List, [], _∷_, _++_}
+use mathlib.Core.Logic.{_⊎_, inl, inr}
 use mathlib.Core.Path.{_≡_, refl}
 use lib.ListN.{replicate}
 use Rattle.lists.specs.Lists.{one, some, run, upTo, keep}
@@ -11,7 +13,7 @@ use Rattle.rules.specs.Faces.{Edge, edge, owned}
 use Rattle.rules.specs.Cutting.{Piece}
 use Rattle.plan.specs.declared.Block.{Block}
 use Rattle.plan.specs.Plan.{piece, badPiece, planAnswer}
-use Rattle.witness.specs.Witness.{blockIn, pieceIn, owners, axisNumber, refusal, noBlock, edgeWords}
+use Rattle.witness.specs.Witness.{blockIn, pieceIn, owners, Before, refusal, edgeWords}
 
 -- ---- a block in words, the second of two
 
@@ -101,6 +103,29 @@ pub outside-whole : wholeOwns axisZ 3 2 3 ≡ false
 unfolding owned
 outside-whole = refl
 
+-- ---- an edge as it is told, and which of two comes first
+
+pub told-in-order : edgeWords (edge axisY (record { x = 4; y = 5; z = 6 })) (7 ∷ 8 ∷ 9 ∷ []) ≡ 1 ∷ 4 ∷ 5 ∷ 6 ∷ 7 ∷ 8 ∷ []
+told-in-order = refl
+
+pub by-axis : Before (edge axisX (record { x = 9; y = 8; z = 7 })) (edge axisY (record { x = 1; y = 2; z = 3 }))
+by-axis = inl (omega arith)
+
+pub by-z : Before (edge axisZ (record { x = 9; y = 8; z = 3 })) (edge axisZ (record { x = 1; y = 2; z = 4 }))
+by-z = inr (refl, inl (omega arith))
+
+pub by-y : Before (edge axisZ (record { x = 9; y = 2; z = 4 })) (edge axisZ (record { x = 1; y = 3; z = 4 }))
+by-y = inr (refl, inr (refl, inl (omega arith)))
+
+pub by-x : Before (edge axisZ (record { x = 1; y = 3; z = 4 })) (edge axisZ (record { x = 2; y = 3; z = 4 }))
+by-x = inr (refl, inr (refl, inr (refl, omega arith)))
+
+pub not-itself : Before (edge axisY (record { x = 1; y = 3; z = 4 })) (edge axisY (record { x = 1; y = 3; z = 4 })) → ⊥
+not-itself (inl h) = omega arith
+not-itself (inr (a, inl h)) = omega arith
+not-itself (inr (a, inr (z, inl h))) = omega arith
+not-itself (inr (a, inr (z, inr (y, h)))) = omega arith
+
 -- ---- the refusals, in their order: not in twelves; more than 200; a coordinate past 2^24, a min above its max
 
 abbrev none : Piece
@@ -109,6 +134,14 @@ none = pieceIn [] 0
 pub not-in-twelves : refusal (1 ∷ []) none ≡ 40
 unfolding refusal
 not-in-twelves = refl
+
+pub twelves-first : refusal (replicate 2413 16777217) none ≡ 40
+unfolding refusal
+twelves-first = refl
+
+pub list-first : refusal (replicate 2412 16777217) none ≡ 41
+unfolding refusal planAnswer upTo run
+list-first = refl
 
 pub too-far : refusal (words 0 0 0 4 16777217 3 0 0 0) none ≡ 42
 unfolding refusal planAnswer badPiece some upTo run

@@ -22,7 +22,7 @@ use Rattle.witness.specs.declared.search.Found.{Found}
 use Rattle.witness.specs.declared.axes.Told.{Told}
 use Rattle.witness.specs.Witness.{blockIn, pieceIn, owners, Right, axisNumber, Before, FirstWrong, noBlock}
 use Rattle.witness.specs.Steps.{regionOf, placed, inside, ownersAt, RightAt, Searched}
-use Rattle.witness.specs.Told.{edgeOf, Names}
+use Rattle.witness.specs.Told.{axisOf, edgeOf, Names}
 
 clash : (b : Bool) → b ≡ true → T (not b) → ⊥
 clash true e t = t
@@ -36,6 +36,11 @@ unfolding inside regionOf
 region-owns axisX b p = sym (owned-box axisX b p)
 region-owns axisY b p = sym (owned-box axisY b p)
 region-owns axisZ b p = sym (owned-box axisZ b p)
+
+axis-back : (a : Axis) → axisOf (axisNumber a) ≡ a
+axis-back axisX = refl
+axis-back axisY = refl
+axis-back axisZ = refl
 
 module _ (words : List ℕ) (n : ℕ) (whole : Block) where
   abbrev regions : Axis → ℕ → Region
@@ -97,30 +102,21 @@ module _ (words : List ℕ) (n : ℕ) (whole : Block) where
 
   named : (a : Axis) (f : Found) → On a f → ((e : Edge) → axisNumber (e .axis) < axisNumber a → RightEdge e)
       → (T (not (f .wrong)) → Plan (map (pieceIn words) (upTo 0 n)) (piece whole)) → Names (pieceIn words) n (piece whole) (record { axis = axisNumber a; found = f })
-  named axisX f s lower none = record {
-    near = s .near;
-    axis = refl;
-    wrong = λ t. wrong-on axisX f s t lower;
-    first = s .first ∙ ap (λ (os : List ℕ). getD os 0 noBlock) (same-owners axisX (placed (f .at)));
-    second = s .second ∙ ap (λ (os : List ℕ). getD os 1 noBlock) (same-owners axisX (placed (f .at)));
-    none = none;
-  }
-  named axisY f s lower none = record {
-    near = s .near;
-    axis = refl;
-    wrong = λ t. wrong-on axisY f s t lower;
-    first = s .first ∙ ap (λ (os : List ℕ). getD os 0 noBlock) (same-owners axisY (placed (f .at)));
-    second = s .second ∙ ap (λ (os : List ℕ). getD os 1 noBlock) (same-owners axisY (placed (f .at)));
-    none = none;
-  }
-  named axisZ f s lower none = record {
-    near = s .near;
-    axis = refl;
-    wrong = λ t. wrong-on axisZ f s t lower;
-    first = s .first ∙ ap (λ (os : List ℕ). getD os 0 noBlock) (same-owners axisZ (placed (f .at)));
-    second = s .second ∙ ap (λ (os : List ℕ). getD os 1 noBlock) (same-owners axisZ (placed (f .at)));
-    none = none;
-  }
+  named a f s lower none =
+      record {
+        near = s .near;
+        axis = sym (ap axisNumber (axis-back a));
+        wrong = λ t. subst (FirstWrong (pieceIn words) n (piece whole)) (sym is) (wrong-on a f s t lower);
+        first = s .first ∙ ap (λ (os : List ℕ). getD os 0 noBlock) os;
+        second = s .second ∙ ap (λ (os : List ℕ). getD os 1 noBlock) os;
+        none = none;
+      }
+    where
+      is : edgeOf (record { axis = axisNumber a; found = f }) ≡ edge a (placed (f .at))
+      is = ap (λ (b : Axis). edge b (placed (f .at))) (axis-back a)
+
+      os : ownersAt (regions a) n (region a) (placed (f .at)) ≡ owners (pieceIn words) n (piece whole) (edgeOf (record { axis = axisNumber a; found = f }))
+      os = same-owners a (placed (f .at)) ∙ ap (owners (pieceIn words) n (piece whole)) (sym is)
 
   pub named-x : (f : Found) → On axisX f → f .wrong ≡ true → Names (pieceIn words) n (piece whole) (record { axis = 0; found = f })
   named-x f s w = named axisX f s (λ e h. absurd (omega arith)) (λ t. absurd (clash (f .wrong) w t))

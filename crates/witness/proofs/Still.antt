@@ -20,6 +20,7 @@ use Rattle.witness.specs.declared.look.Place.{Place}
 use Rattle.witness.specs.declared.look.Seen.{Seen}
 use Rattle.witness.specs.Witness.{noBlock}
 use Rattle.witness.specs.Steps.{far, placed, inside, holdsAt, nextOf, nearerOf, nearest, firstLook, counted, passed, lookedOf, lookTo, ownersAt, RightAt}
+use Rattle.witness.proofs.Tested.{looked-next}
 
 -- ---- one span
 
@@ -128,20 +129,6 @@ module _ (r : Region) (p n : Place) where
   past-z = nearer-past (r .z) (p .z) (n .z) true
 
 -- ---- all regions
-
-looked-next : (l : Seen) (i : ℕ) (r : Region) (p : Place) → lookedOf l i r p .next ≡ nearest r p (l .next)
-unfolding lookedOf counted
-looked-next l i r p = go (inside r (placed p)) (eqb (l .owners) 0) (eqb (l .owners) 1)
-  where
-    go : (a b c : Bool)
-        → cond a (cond b (record { owners = 1; first = i; second = l .second; next = nearest r p (l .next) })
-        (cond c (record { owners = 2; first = l .first; second = i; next = nearest r p (l .next) })
-        (record { owners = l .owners + 1; first = l .first; second = l .second; next = nearest r p (l .next) }))) (passed l (nearest r p (l .next))) .next
-        ≡ nearest r p (l .next)
-    go false b c = refl
-    go true true c = refl
-    go true false true = refl
-    go true false false = refl
 
 -- along one axis, by the coordinate that it moves: from `base`, at k, to the points at j
 module _ (rs : ℕ → Region) (w : Region) (p : Place) (along : Place → ℕ) (to : ℕ → GridPoint) (base : GridPoint) (k : ℕ)

@@ -87,19 +87,32 @@ pub look-more : (rs : ℕ → Region) (l : Seen) (p : Place) (i : ℕ) {m m' : S
 unfolding lookTo
 look-more rs l p i e f g = rw add-one (g ∙ (λ j. lookedOf (e j) i (f j) p))
 
+-- what holds of each of the four ways holds of what is seen
+pub looked-each : (l : Seen) (i : ℕ) (r : Region) (p : Place) (P : Seen → Type 0) → (let n = nearest r p (l .next) in
+    P (passed l n) → P (record { owners = 1; first = i; second = l .second; next = n })
+    → (l .owners ≡ 1 → P (record { owners = 2; first = l .first; second = i; next = n }))
+    → P (record { owners = l .owners + 1; first = l .first; second = l .second; next = n }) → P (lookedOf l i r p))
+unfolding lookedOf counted
+looked-each l i r p P past one' two more' = go (inside r (placed p)) (eqb (l .owners) 0) (eqb (l .owners) 1) refl
+  where
+    n : Place
+    n = nearest r p (l .next)
+
+    go : (a b c : Bool) → eqb (l .owners) 1 ≡ c
+        → P (cond a (cond b (record { owners = 1; first = i; second = l .second; next = n })
+        (cond c (record { owners = 2; first = l .first; second = i; next = n })
+        (record { owners = l .owners + 1; first = l .first; second = l .second; next = n }))) (passed l n))
+    go false b c e = past
+    go true true c e = one'
+    go true false true e = two (eqb-true (l .owners) 1 e)
+    go true false false e = more'
+
 -- no more owners than blocks
 pub looked-most : (l : Seen) (i : ℕ) (r : Region) (p : Place) → l .owners ≤ i → lookedOf l i r p .owners ≤ i + 1
-unfolding lookedOf counted
-looked-most l i r p h = go (inside r (placed p)) (eqb (l .owners) 0) (eqb (l .owners) 1) refl
-  where
-    go : (a b c : Bool) → eqb (l .owners) 1 ≡ c
-        → cond a (cond b (record { owners = 1; first = i; second = l .second; next = nearest r p (l .next) })
-        (cond c (record { owners = 2; first = l .first; second = i; next = nearest r p (l .next) })
-        (record { owners = l .owners + 1; first = l .first; second = l .second; next = nearest r p (l .next) }))) (passed l (nearest r p (l .next))) .owners ≤ i + 1
-    go false b c e = omega arith
-    go true true c e = omega arith
-    go true false true e = omega (arith, eqb-true (l .owners) 1 e)
-    go true false false e = omega arith
+looked-most l i r p h = looked-each l i r p (λ (m : Seen). m .owners ≤ i + 1) (omega arith) (omega arith) (λ e. omega arith) (omega arith)
+
+pub looked-next : (l : Seen) (i : ℕ) (r : Region) (p : Place) → lookedOf l i r p .next ≡ nearest r p (l .next)
+looked-next l i r p = looked-each l i r p (λ (m : Seen). m .next ≡ nearest r p (l .next)) refl refl (λ e. refl) refl
 
 -- ---- from point to point
 

@@ -799,7 +799,11 @@ enum bed_fixture_answer {
     /* A float of a box is not finite or is above 2^24 in magnitude. */
     BED_FIXTURE_FLOAT = 55,
     /* Bytes follow the solid. */
-    BED_FIXTURE_AFTER = 56
+    BED_FIXTURE_AFTER = 56,
+    /* Of a layer alone, tried right after BED_BAD_DIMENSIONS: z is not below dims[2]. */
+    BED_FIXTURE_HEIGHT = 81,
+    /* Of a layer of whole numbers alone, tried last of all: out is shorter than the layer. */
+    BED_FIXTURE_ROOM = 82
 };
 
 /* Cuts the solid of a fixture file out of a grid of distances.
@@ -817,7 +821,7 @@ enum bed_fixture_answer {
  * A distance that bed_surface_nets takes stays one: the solid's value is finite and at most 2^25 in
  * magnitude.
  *
- * The time taken is that of reading the file's records once for each point. A count larger than the file
+ * The time taken is that of reading the file's records once for every 32 points. A count larger than the file
  * costs nothing: reading stops at the first fault.
  *
  * The file and the grid may not overlap. Pointers are aligned for their type; a pointer may be null only
@@ -827,6 +831,48 @@ uint32_t bed_cut_fixtures(
     const uint8_t *file, size_t file_len,
     const struct bed_box *box,
     float *sdf, size_t sdf_len);
+
+/* The same for one layer, for who has the bed one layer at a time. Proved: the layers of a grid, each cut at its
+ * own z, one behind the other are what bed_cut_fixtures makes of the grid, and each is answered as it is.
+ *
+ * In:
+ *   file             as in bed_cut_fixtures.
+ *   box              its dims are the grid's dimensions; its other words are not read.
+ *   z                which layer of the grid it is, below dims[2].
+ *
+ * Lent for reading and writing:
+ *   layer            the distances of the layer, x innermost, exactly dims[0] * dims[1] of them; changed as the
+ *                    points of bed_cut_fixtures are. BED_BAD_GRID_LENGTH speaks of its length.
+ *
+ * The conditions are tried in this order: 1, 81, 3, then the file's. On every answer but BED_DONE nothing is
+ * changed. No two of file, box and layer may overlap; box is never null, and another pointer may be null only
+ * where its length is 0.
+ */
+uint32_t bed_cut_fixtures_layer(
+    const uint8_t *file, size_t file_len,
+    const struct bed_box *box, uint32_t z,
+    float *layer, size_t layer_len);
+
+/* The same for a layer of signed 16-bit and of signed 8-bit distances, each number meaning the float of the same
+ * value. The layer is only read.
+ *
+ * Lent for writing:
+ *   out              on BED_DONE its first dims[0] * dims[1] numbers are what bed_cut_fixtures_layer makes of
+ *                    those floats. What stands past them is kept. On every other answer nothing changes.
+ *
+ * The conditions are tried in this order: 1, 81, 3, then the file's, then 82.
+ */
+uint32_t bed_cut_fixtures_layer_i16(
+    const uint8_t *file, size_t file_len,
+    const int16_t *layer, size_t layer_len,
+    const struct bed_box *box, uint32_t z,
+    float *out, size_t out_len);
+
+uint32_t bed_cut_fixtures_layer_i8(
+    const uint8_t *file, size_t file_len,
+    const int8_t *layer, size_t layer_len,
+    const struct bed_box *box, uint32_t z,
+    float *out, size_t out_len);
 
 /* What the volume of a mesh answers. The conditions are tried in the order of their numbers and the first
  * that holds answers. */
@@ -1093,6 +1139,8 @@ static inline const char *bed_answer_name(uint32_t answer)
     case BED_FIXTURE_WORD: return "BED_FIXTURE_WORD";
     case BED_FIXTURE_FLOAT: return "BED_FIXTURE_FLOAT";
     case BED_FIXTURE_AFTER: return "BED_FIXTURE_AFTER";
+    case BED_FIXTURE_HEIGHT: return "BED_FIXTURE_HEIGHT";
+    case BED_FIXTURE_ROOM: return "BED_FIXTURE_ROOM";
     case BED_VOLUME_THREES: return "BED_VOLUME_THREES";
     case BED_VOLUME_TOO_MANY: return "BED_VOLUME_TOO_MANY";
     case BED_VOLUME_OUTSIDE: return "BED_VOLUME_OUTSIDE";

@@ -69,6 +69,8 @@ WORDS = {
     76: "a triangle is wider than two grid steps",
     77: "the box has no such layer",
     78: "the lent room is too short",
+    81: "the grid has no such layer",
+    82: "the lent room is too short",
 }
 
 # What 63 and 64 say of a mesh that is weighed.
@@ -255,7 +257,10 @@ def _signatures():
     all_of["bed_weigh"] = _lists(_FLOAT) + [_NUMBER] + _lists(_NUMBER) + _out(_COUNT, ctypes.c_int64, ctypes.c_int64)
     all_of["bed_wall_for"] = [_FLOAT]
     all_of["bed_version"] = []
+    all_of["bed_cut_fixtures_layer"] = _lists(_BYTE) + block + [_NUMBER] + _lists(_FLOAT)
     for kind, ending in _DISTANCES.values():
+        if ending:
+            all_of["bed_cut_fixtures_layer" + ending] = _lists(_BYTE, kind) + block + [_NUMBER] + _lists(_FLOAT)
         all_of["bed_close" + ending] = _lists(kind) + block + [_FLOAT] + _lists(_FLOAT)
         all_of["bed_close_layer" + ending] = _lists(kind) + block + [_NUMBER, _FLOAT] + _lists(_FLOAT)
         all_of["bed_deepest" + ending] = [_FLOAT] + _lists(kind)
@@ -506,6 +511,21 @@ def cut_fixtures(file, distances, dims=None):
     sizes = _grid(distances, dims)[1]
     grid = _written(_FLOAT, distances, "the distances are changed")
     _done(_call("bed_cut_fixtures", *_lent(_apart(_read(_BYTE, file), grid)), _bed_box(sizes), *_lent(grid)))
+
+
+def cut_fixtures_layer(file, layer, dims, z):
+    """Cuts a file of fixtures out of the layer z of a grid: a layer of float32 in its place, and of int16 or int8 into a new one of float32, which is
+    returned, shape y, x."""
+    dims, z = _three("dims", dims), builtins.min(_whole("z", z), _LARGEST)
+    grid, _, ending = _grid(layer, dims)
+    if ending:
+        points = dims[0] * dims[1]
+        room = _room(_FLOAT, points if points <= 2 ** 30 else 0)
+        _done(_call("bed_cut_fixtures_layer" + ending, *_lent(_read(_BYTE, file)), *_lent(grid), _bed_box(dims), z, *_lent(room)))
+        return _shaped(room, (dims[1], dims[0]))
+    room = _written(_FLOAT, layer, "the distances are changed")
+    _done(_call("bed_cut_fixtures_layer", *_lent(_apart(_read(_BYTE, file), room)), _bed_box(dims), z, *_lent(room)))
+    return None
 
 
 def _apart(read, written):

@@ -14,10 +14,17 @@ impl Distance for f32 {}
 impl Distance for i16 {}
 impl Distance for i8 {}
 
+/// A whole number: i16 or i8. What fixtures are cut out of is no whole number any more, so that it is written as floats.
+pub trait WholeDistance: Distance + functions::OfWholes {}
+
+impl WholeDistance for i16 {}
+impl WholeDistance for i8 {}
+
 /// Public for the trait above and not reachable from outside: so it is sealed.
 pub(crate) mod functions {
     use crate::raw::{
-        self, Answer, Close, CloseLayer, Deepest, IsEnclosed, Levels, LevelsLayer, SurfaceNets,
+        self, Answer, Close, CloseLayer, CutLayerInto, Deepest, IsEnclosed, Levels, LevelsLayer,
+        SurfaceNets,
     };
 
     /// The library's functions over a kind of distance.
@@ -30,6 +37,19 @@ pub(crate) mod functions {
         const DEEPEST: Deepest<Self>;
         const LEVELS: Levels<Self>;
         const LEVELS_LAYER: LevelsLayer<Self>;
+    }
+
+    /// Those over a kind of whole number alone.
+    pub trait OfWholes: Sized {
+        const CUT_LAYER: CutLayerInto<Self>;
+    }
+
+    impl OfWholes for i16 {
+        const CUT_LAYER: CutLayerInto<Self> = raw::bed_cut_fixtures_layer_i16;
+    }
+
+    impl OfWholes for i8 {
+        const CUT_LAYER: CutLayerInto<Self> = raw::bed_cut_fixtures_layer_i8;
     }
 
     impl Functions for f32 {

@@ -1,15 +1,16 @@
-//! Fixtures cut out of a grid: the file and the grid are lent, and nothing is opened or allocated.
+//! Fixtures cut out of a grid, or of one layer of it: the file and the numbers are lent, and nothing is opened or allocated.
 
+use crate::distance::WholeDistance;
 use crate::environment::DefaultEnvironment;
-use crate::raw::{bed_cut_fixtures, BedBox};
+use crate::raw::{bed_cut_fixtures, bed_cut_fixtures_layer, BedBox};
 use std::fmt;
 
-/// Why fixtures were not cut out: the answers 1, 3 and 51 to 56. A refused call changes nothing.
+/// Why fixtures were not cut out: the answers 1, 3, 51 to 56, 81 and 82. A refused call changes nothing.
 #[derive(Clone, Copy, Debug, PartialEq, Eq)]
 pub enum FixtureRefusal {
     /// 1: a dimension is 0 or above 16,777,217, or their product is above 1,073,741,824.
     Dimensions,
-    /// 3: the grid's length is not the product of the dimensions.
+    /// 3: the grid's length is not the product of the dimensions, or a layer's not X·Y.
     GridLength,
     /// 51: a record is needed and the file has fewer than 32 bytes left: it was cut off, or is empty.
     Cut,
@@ -23,10 +24,14 @@ pub enum FixtureRefusal {
     Float,
     /// 56: bytes follow the solid.
     After,
+    /// 81, of a layer alone: z is not below the grid's height.
+    Height,
+    /// 82, of a layer of whole numbers alone: the room for the floats is shorter than the layer.
+    Room,
 }
 
 impl FixtureRefusal {
-    /// The answer number: 1, 3 or 51 to 56.
+    /// The answer number: 1, 3, 51 to 56, 81 or 82.
     pub fn number(self) -> u32 {
         match self {
             FixtureRefusal::Dimensions => 1,
@@ -37,6 +42,8 @@ impl FixtureRefusal {
             FixtureRefusal::Word => 54,
             FixtureRefusal::Float => 55,
             FixtureRefusal::After => 56,
+            FixtureRefusal::Height => 81,
+            FixtureRefusal::Room => 82,
         }
     }
 
@@ -52,7 +59,9 @@ impl FixtureRefusal {
             54 => Err(FixtureRefusal::Word),
             55 => Err(FixtureRefusal::Float),
             56 => Err(FixtureRefusal::After),
-            _ => unreachable!("the library answers 0, 1, 3 or 51 to 56"),
+            81 => Err(FixtureRefusal::Height),
+            82 => Err(FixtureRefusal::Room),
+            _ => unreachable!("the library answers 0, 1, 3, 51 to 56, 81 or 82"),
         }
     }
 }
@@ -70,6 +79,8 @@ impl fmt::Display for FixtureRefusal {
             FixtureRefusal::Word => "a count is wrong, or a word that should be zero is not",
             FixtureRefusal::Float => "a float is not finite or is above 2^24 in magnitude",
             FixtureRefusal::After => "bytes follow the solid",
+            FixtureRefusal::Height => "the grid has no such layer",
+            FixtureRefusal::Room => "the lent room is too short",
         })
     }
 }
@@ -101,6 +112,63 @@ pub fn cut_fixtures(file: &[u8], dims: [u32; 3], sdf: &mut [f32]) -> Result<(), 
             &BedBox::of(dims),
             sdf.as_mut_ptr(),
             sdf.len(),
+        )
+    };
+    FixtureRefusal::of(answer)
+}
+
+/// [`cut_fixtures`] of one layer, the grid's dims\[0\]·dims\[1\] distances at z, for a bed that comes one layer at a time. All layers, each
+/// cut at its own z, one behind the other are what [`cut_fixtures`] makes of the grid.
+pub fn cut_fixtures_layer(
+    file: &[u8],
+    dims: [u32; 3],
+    z: u32,
+    layer: &mut [f32],
+) -> Result<(), FixtureRefusal> {
+    let _environment = DefaultEnvironment::enter();
+    // SAFETY: as in `cut_fixtures`, and the box is a variable of its own.
+    let answer = unsafe {
+        bed_cut_fixtures_layer(
+            file.as_ptr(),
+            file.len(),
+            &BedBox::of(dims),
+            z,
+            layer.as_mut_ptr(),
+            layer.len(),
+        )
+    };
+    FixtureRefusal::of(answer)
+}
+
+/// [`cut_fixtures_layer`] of whole numbers, which are only read: on success the first dims\[0\]·dims\[1\] numbers of `out` are what it makes of
+/// the floats of the same values, and the rest is kept. A refusal changes nothing.
+///
+/// ```
+/// let words = [1, 1f32.to_bits(), 0, 0, 2f32.to_bits(), 0, 0, 0];
+/// let file: Vec<u8> = words.iter().flat_map(|word: &u32| word.to_le_bytes()).collect();
+/// let mut out = [9.0; 5];
+/// bed::cut_fixtures_layer_into(&file, &[-7i16, -7, 7, -7], [4, 1, 1], 0, &mut out).unwrap();
+/// assert_eq!(out, [-1.0, 0.0, 7.0, -1.0, 9.0]);
+/// ```
+pub fn cut_fixtures_layer_into<W: WholeDistance>(
+    file: &[u8],
+    layer: &[W],
+    dims: [u32; 3],
+    z: u32,
+    out: &mut [f32],
+) -> Result<(), FixtureRefusal> {
+    let _environment = DefaultEnvironment::enter();
+    // SAFETY: as in `cut_fixtures_layer`.
+    let answer = unsafe {
+        W::CUT_LAYER(
+            file.as_ptr(),
+            file.len(),
+            layer.as_ptr(),
+            layer.len(),
+            &BedBox::of(dims),
+            z,
+            out.as_mut_ptr(),
+            out.len(),
         )
     };
     FixtureRefusal::of(answer)

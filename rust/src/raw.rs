@@ -358,6 +358,52 @@ extern "C" {
         sdf_len: usize,
     ) -> u32;
 
+    /// Cuts the solid of a fixture file out of one layer of a grid and returns the answer number: 0, 1, 81, 3 or 51 to 56.
+    ///
+    /// # Safety
+    ///
+    /// As for [`bed_surface_nets`]; the box is never null.
+    pub fn bed_cut_fixtures_layer(
+        file: *const u8,
+        file_len: usize,
+        block: *const BedBox,
+        z: u32,
+        layer: *mut f32,
+        layer_len: usize,
+    ) -> u32;
+
+    /// [`bed_cut_fixtures_layer`] of signed 16-bit distances, into floats; 82 where there is no room for them.
+    ///
+    /// # Safety
+    ///
+    /// As for [`bed_cut_fixtures_layer`].
+    pub fn bed_cut_fixtures_layer_i16(
+        file: *const u8,
+        file_len: usize,
+        layer: *const i16,
+        layer_len: usize,
+        block: *const BedBox,
+        z: u32,
+        out: *mut f32,
+        out_len: usize,
+    ) -> u32;
+
+    /// [`bed_cut_fixtures_layer`] of signed 8-bit distances, into floats; 82 where there is no room for them.
+    ///
+    /// # Safety
+    ///
+    /// As for [`bed_cut_fixtures_layer`].
+    pub fn bed_cut_fixtures_layer_i8(
+        file: *const u8,
+        file_len: usize,
+        layer: *const i8,
+        layer_len: usize,
+        block: *const BedBox,
+        z: u32,
+        out: *mut f32,
+        out_len: usize,
+    ) -> u32;
+
     /// Six times the signed volume of a mesh, and the answer number: 0 or 61 to 64.
     ///
     /// # Safety
@@ -687,6 +733,18 @@ pub type Close<D> =
 /// The type of [`bed_close_layer`], and of the same function over other distances.
 pub type CloseLayer<D> =
     unsafe extern "C" fn(*const D, usize, *const BedBox, u32, f32, *mut f32, usize) -> u32;
+
+/// The type of [`bed_cut_fixtures_layer_i16`], and of the same function over other whole numbers.
+pub type CutLayerInto<W> = unsafe extern "C" fn(
+    *const u8,
+    usize,
+    *const W,
+    usize,
+    *const BedBox,
+    u32,
+    *mut f32,
+    usize,
+) -> u32;
 
 /// The type of [`bed_deepest`], and of the same function over other distances.
 pub type Deepest<D> = unsafe extern "C" fn(f32, *const D, usize) -> f32;

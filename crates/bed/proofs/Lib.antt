@@ -2,3 +2,4 @@
 pub mod Asked
 pub mod Places
 pub mod Numbered
+pub mod FixturePlaces

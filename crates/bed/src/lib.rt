@@ -2,6 +2,7 @@
 pub mod asking;
 pub mod closed;
 pub mod cut;
+pub mod cut_layers;
 pub mod enclosed;
 pub mod files;
 pub mod layered;

@@ -324,7 +324,7 @@ pub rake-before : answer (meshOf (floatsOf (rake .grid))) roomy ≡ answers 0 16
 unfolding opened
 rake-before = refl
 
-rake-counted : answer (meshOf (floatsOf (rake .after))) roomy ≡ answers 0 52 162
+pub rake-counted : answer (meshOf (floatsOf (rake .after))) roomy ≡ answers 0 52 162
 unfolding opened
 rake-counted = refl
 

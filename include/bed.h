@@ -532,6 +532,105 @@ uint32_t bed_levels_layer_i8(
     const struct bed_box *box, uint32_t z,
     float *levels, size_t levels_len);
 
+/* What the counts of the bed's cells answer. The conditions are tried in this order, and the first that holds
+ * answers: 1, 2, 91, 3, 5, 92. BED_TALLY_HEIGHT and BED_TALLY_COUNTS are of a layer alone. On every answer but
+ * BED_TALLY_DONE nothing is changed. */
+enum bed_tally_answer {
+    /* The counts were written. */
+    BED_TALLY_DONE = 0,
+    /* A dimension is 0 or above 16,777,217, or the product of the three is above 1,073,741,824. */
+    BED_TALLY_DIMENSIONS = 1,
+    /* min is above max on an axis, or max is not below its dimension. */
+    BED_TALLY_BOX = 2,
+    /* z is below min[2] or above max[2]. */
+    BED_TALLY_HEIGHT = 91,
+    /* The grid's length is not the product of the dimensions; or the layer's is not dims[0] * dims[1]; or the
+     * layer below is not as long, nor 0 long where z is min[2]. */
+    BED_TALLY_LENGTH = 3,
+    /* A point of the box, both corners included, is not finite or is above 2^124 in magnitude: in the grid, or in
+     * the layer or the layer below it. Of floats alone. */
+    BED_TALLY_DISTANCE = 5,
+    /* A count so far is above 2^60, which no box has. Not tried at min[2], where the counts so far do not matter. */
+    BED_TALLY_COUNTS = 92
+};
+
+/* Three counts from the distances alone. */
+struct bed_counts {
+    /* The cells of the box whose eight corners are all below zero: they lie wholly in the sludge. */
+    uint64_t whole;
+    /* V and I as bed_answer tells them: the cells that the surface passes through, and six for each face. */
+    uint64_t vertices;
+    uint64_t indices;
+};
+
+/* Counts the cells of a box below and on the surface.
+ *
+ * In:
+ *   sdf              the distances, x innermost, as in bed_surface_nets. Only points of the box are looked at.
+ *   box              the grid's dimensions, the corners of the box, and the max plane, which V does not depend on
+ *                    and I does.
+ *
+ * Lent for writing:
+ *   counts           the three counts.
+ *
+ * They bound the volume of a closed bed. Proved: where bed_tally and bed_surface_nets answer 0 on the same grid,
+ * box and max plane and bed_is_enclosed says yes of them, the volume of the mesh in cubed grid steps, which is the
+ * sum of bed_weigh, or that of bed_volume, divided by 6 * 256^3, lies
+ *   from   whole - indices / 36   to   whole + vertices + indices / 36.
+ *
+ * counts may not overlap the others. Pointers are aligned for their type; a list's pointer may be null only where
+ * its length is 0; box and counts are never null.
+ */
+uint32_t bed_tally(
+    const float *sdf, size_t sdf_len,
+    const struct bed_box *box,
+    struct bed_counts *counts);
+
+/* bed_tally of signed 16-bit and of signed 8-bit distances: the answer and the counts are those of bed_tally on
+ * the grid of the floats of the same values. */
+uint32_t bed_tally_i16(
+    const int16_t *sdf, size_t sdf_len,
+    const struct bed_box *box,
+    struct bed_counts *counts);
+
+uint32_t bed_tally_i8(
+    const int8_t *sdf, size_t sdf_len,
+    const struct bed_box *box,
+    struct bed_counts *counts);
+
+/* The counts layer by layer, for who cannot hold the grid: adds the cells between the layer z - 1 and the layer z.
+ *
+ * In:
+ *   below            the layer z - 1, dims[0] * dims[1] distances; of length 0 where z is min[2].
+ *   layer            the layer z, as long.
+ *   box              as in bed_tally.
+ *   z                from min[2] to max[2].
+ *
+ * Lent for reading and writing:
+ *   counts           what was counted so far. At min[2] what stands there is not looked at, and all become 0.
+ *
+ * All layers from min[2] to max[2], one call after the other on the same counts, leave there what bed_tally
+ * leaves. A call keeps nothing. Any numbers may come, and below and layer may be the same or overlap; neither may
+ * overlap counts.
+ */
+uint32_t bed_tally_layer(
+    const float *below, size_t below_len,
+    const float *layer, size_t layer_len,
+    const struct bed_box *box, uint32_t z,
+    struct bed_counts *counts);
+
+uint32_t bed_tally_layer_i16(
+    const int16_t *below, size_t below_len,
+    const int16_t *layer, size_t layer_len,
+    const struct bed_box *box, uint32_t z,
+    struct bed_counts *counts);
+
+uint32_t bed_tally_layer_i8(
+    const int8_t *below, size_t below_len,
+    const int8_t *layer, size_t layer_len,
+    const struct bed_box *box, uint32_t z,
+    struct bed_counts *counts);
+
 /* A tank's block plan: the blocks that a tank's box is meshed in, each by a call of its own. */
 
 /* What checking a plan answers. BED_PLAN_LIST is tried before BED_PLAN_BOX. */

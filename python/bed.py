@@ -71,6 +71,8 @@ WORDS = {
     78: "the lent room is too short",
     81: "the grid has no such layer",
     82: "the lent room is too short",
+    91: "the box has no such layer",
+    92: "a count so far is above 2^60",
 }
 
 # What 63 and 64 say of a mesh that is weighed.
@@ -229,6 +231,12 @@ def _bed_box(dims, low=(0, 0, 0), high=(0, 0, 0), max_plane=(False, False, False
     return ctypes.byref(_BedBox(*(tuple(_passed(three)) for three in (dims, low, high, max_plane))))
 
 
+class _BedCounts(ctypes.Structure):
+    """bed.h's struct bed_counts"""
+
+    _fields_ = [("whole", _COUNT), ("vertices", _COUNT), ("indices", _COUNT)]
+
+
 def _lists(*kinds):
     return [part for kind in kinds for part in (ctypes.POINTER(kind), ctypes.c_size_t)]
 
@@ -266,6 +274,8 @@ def _signatures():
         all_of["bed_deepest" + ending] = [_FLOAT] + _lists(kind)
         all_of["bed_levels" + ending] = _lists(kind) + block + _lists(_FLOAT)
         all_of["bed_levels_layer" + ending] = _lists(kind, kind) + block + [_NUMBER] + _lists(_FLOAT)
+        all_of["bed_tally" + ending] = _lists(kind) + block + _out(_BedCounts)
+        all_of["bed_tally_layer" + ending] = _lists(kind, kind) + block + [_NUMBER] + _out(_BedCounts)
         asked = _lists(kind) + block
         all_of["bed_surface_nets" + ending] = asked + _lists(*vertices, _NUMBER, _NUMBER) + counts
         all_of["bed_answer" + ending] = asked + [_COUNT] * 7 + counts
@@ -609,6 +619,27 @@ def levels_layer(below, layer, dims, z, levels, min=(0, 0, 0), max=None):
     room = _written(_FLOAT, levels, "the levels are changed")
     lists = [*_lent(_apart(lower, room)), *_lent(_apart(upper, room))]
     _done(_call("bed_levels_layer" + ending, *lists, _bed_box(dims, low, high), builtins.min(z, _LARGEST), *_lent(room)))
+
+
+def tally(distances, dims=None, min=(0, 0, 0), max=None, max_plane=(False, False, False)):
+    """The cells of a box whose eight corners are below zero, V and I, counted from the distances alone. Of a closed bed these bound the volume of its mesh, in
+    cubed grid steps: from whole - indices / 36 to whole + vertices + indices / 36."""
+    grid, dims, ending = _grid(distances, dims)
+    counts = _BedCounts()
+    _done(_call("bed_tally" + ending, *_lent(grid), _bed_box(dims, *_box(dims, min, max), _flags(max_plane)), ctypes.byref(counts)))
+    return counts.whole, counts.vertices, counts.indices
+
+
+def tally_layer(below, layer, dims, z, so_far=(0, 0, 0), min=(0, 0, 0), max=None, max_plane=(False, False, False)):
+    """The three counts of tally after one more layer, from those so far: `below` is the layer before it, an empty buffer at min z."""
+    dims, z = _three("dims", dims), _whole("z", z)
+    (lower, _, ending), (upper, _, other) = _grid(below, dims), _grid(layer, dims)
+    if ending != other:
+        raise TypeError("the two layers are of two kinds of numbers")
+    counts = _BedCounts(*(_whole("so_far", count, 2 ** 64 - 1) for count in _row("so_far", so_far, 3)))
+    box = _bed_box(dims, *_box(dims, min, max), _flags(max_plane))
+    _done(_call("bed_tally_layer" + ending, *_lent(lower), *_lent(upper), box, builtins.min(z, _LARGEST), ctypes.byref(counts)))
+    return counts.whole, counts.vertices, counts.indices
 
 
 def _float(name, number):

@@ -24,7 +24,7 @@ impl WholeDistance for i8 {}
 pub(crate) mod functions {
     use crate::raw::{
         self, Answer, Close, CloseLayer, CutLayerInto, Deepest, IsEnclosed, Levels, LevelsLayer,
-        SurfaceNets,
+        SurfaceNets, Tally, TallyLayer,
     };
 
     /// The library's functions over a kind of distance.
@@ -37,6 +37,8 @@ pub(crate) mod functions {
         const DEEPEST: Deepest<Self>;
         const LEVELS: Levels<Self>;
         const LEVELS_LAYER: LevelsLayer<Self>;
+        const TALLY: Tally<Self>;
+        const TALLY_LAYER: TallyLayer<Self>;
     }
 
     /// Those over a kind of whole number alone.
@@ -61,6 +63,8 @@ pub(crate) mod functions {
         const DEEPEST: Deepest<Self> = raw::bed_deepest;
         const LEVELS: Levels<Self> = raw::bed_levels;
         const LEVELS_LAYER: LevelsLayer<Self> = raw::bed_levels_layer;
+        const TALLY: Tally<Self> = raw::bed_tally;
+        const TALLY_LAYER: TallyLayer<Self> = raw::bed_tally_layer;
     }
 
     impl Functions for i16 {
@@ -72,6 +76,8 @@ pub(crate) mod functions {
         const DEEPEST: Deepest<Self> = raw::bed_deepest_i16;
         const LEVELS: Levels<Self> = raw::bed_levels_i16;
         const LEVELS_LAYER: LevelsLayer<Self> = raw::bed_levels_layer_i16;
+        const TALLY: Tally<Self> = raw::bed_tally_i16;
+        const TALLY_LAYER: TallyLayer<Self> = raw::bed_tally_layer_i16;
     }
 
     impl Functions for i8 {
@@ -83,5 +89,7 @@ pub(crate) mod functions {
         const DEEPEST: Deepest<Self> = raw::bed_deepest_i8;
         const LEVELS: Levels<Self> = raw::bed_levels_i8;
         const LEVELS_LAYER: LevelsLayer<Self> = raw::bed_levels_layer_i8;
+        const TALLY: Tally<Self> = raw::bed_tally_i8;
+        const TALLY_LAYER: TallyLayer<Self> = raw::bed_tally_layer_i8;
     }
 }

@@ -61,6 +61,18 @@ pub struct BedWitness {
     pub second: u32,
 }
 
+/// Three counts of a box's cells from the distances alone, as the library takes and leaves them.
+#[repr(C)]
+#[derive(Clone, Copy, Debug, Default, PartialEq, Eq)]
+pub struct BedCounts {
+    /// The cells whose eight corners are all below zero: they lie wholly in the sludge.
+    pub whole: u64,
+    /// V, the cells that the surface passes through.
+    pub vertices: u64,
+    /// I, six for each face.
+    pub indices: u64,
+}
+
 extern "C" {
     /// The library's version as one number, major · 65536 + minor · 256 + patch.
     ///
@@ -636,6 +648,87 @@ extern "C" {
         levels_len: usize,
     ) -> u32;
 
+    /// The cells of a box below and on the surface, counted, and the answer number: 0, 1, 2, 3 or 5.
+    ///
+    /// # Safety
+    ///
+    /// As for [`bed_surface_nets`].
+    pub fn bed_tally(
+        sdf: *const f32,
+        sdf_len: usize,
+        block: *const BedBox,
+        counts: *mut BedCounts,
+    ) -> u32;
+
+    /// [`bed_tally`] of signed 16-bit distances.
+    ///
+    /// # Safety
+    ///
+    /// As for [`bed_tally`].
+    pub fn bed_tally_i16(
+        sdf: *const i16,
+        sdf_len: usize,
+        block: *const BedBox,
+        counts: *mut BedCounts,
+    ) -> u32;
+
+    /// [`bed_tally`] of signed 8-bit distances.
+    ///
+    /// # Safety
+    ///
+    /// As for [`bed_tally`].
+    pub fn bed_tally_i8(
+        sdf: *const i8,
+        sdf_len: usize,
+        block: *const BedBox,
+        counts: *mut BedCounts,
+    ) -> u32;
+
+    /// The counts after one more layer, and the answer number: 0, 1, 2, 91, 3, 5 or 92.
+    ///
+    /// # Safety
+    ///
+    /// As for [`bed_tally`].
+    pub fn bed_tally_layer(
+        below: *const f32,
+        below_len: usize,
+        layer: *const f32,
+        layer_len: usize,
+        block: *const BedBox,
+        z: u32,
+        counts: *mut BedCounts,
+    ) -> u32;
+
+    /// [`bed_tally_layer`] of signed 16-bit distances.
+    ///
+    /// # Safety
+    ///
+    /// As for [`bed_tally`].
+    pub fn bed_tally_layer_i16(
+        below: *const i16,
+        below_len: usize,
+        layer: *const i16,
+        layer_len: usize,
+        block: *const BedBox,
+        z: u32,
+        counts: *mut BedCounts,
+    ) -> u32;
+
+    /// [`bed_tally_layer`] of signed 8-bit distances.
+    ///
+    /// # Safety
+    ///
+    /// As for [`bed_tally`].
+    pub fn bed_tally_layer_i8(
+        below: *const i8,
+        below_len: usize,
+        layer: *const i8,
+        layer_len: usize,
+        block: *const BedBox,
+        z: u32,
+        counts: *mut BedCounts,
+    ) -> u32;
+
     /// Begins a bed that is taken layer by layer, and returns the answer number, 0, 1, 2 or 4.
     ///
     /// # Safety
@@ -762,4 +855,18 @@ pub type LevelsLayer<D> = unsafe extern "C" fn(
     u32,
     *mut f32,
     usize,
+) -> u32;
+
+/// The type of [`bed_tally`], and of the same function over other distances.
+pub type Tally<D> = unsafe extern "C" fn(*const D, usize, *const BedBox, *mut BedCounts) -> u32;
+
+/// The type of [`bed_tally_layer`], and of the same function over other distances.
+pub type TallyLayer<D> = unsafe extern "C" fn(
+    *const D,
+    usize,
+    *const D,
+    usize,
+    *const BedBox,
+    u32,
+    *mut BedCounts,
 ) -> u32;

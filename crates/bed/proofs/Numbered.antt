@@ -12,6 +12,9 @@ use Rattle.bed.specs.Boundary.{asked, roomAsked, said}
 use Rattle.bed.specs.Layered.{wordsStarted}
 use Rattle.bed.specs.Version.{version}
 use Rattle.bed.specs.Words12.{blockWords}
+use Rattle.bed.specs.Tallied.{countsIn, countsLeft}
+use Rattle.tally.specs.declared.Counts.{Counts}
+use Rattle.tally.specs.declared.Told.{Told}
 
 abbrev wantedBlock : Block
 wantedBlock =
@@ -74,3 +77,16 @@ wantedAnswer = record { number = 6; vertices = 8; indices = 18 }
 
 pub answer-and-counts : said 6 8 18 ≡ wantedAnswer
 answer-and-counts = refl
+
+-- three words: the cells wholly in the sludge, V, I; written on 0 and kept on a refusal
+abbrev wantedCounts : Counts
+wantedCounts = record { whole = 41; vertices = 42; indices = 43 }
+
+pub three-words : countsIn (41 ∷ 42 ∷ 43 ∷ []) ≡ wantedCounts
+three-words = refl
+
+pub counts-written : countsLeft (record { answer = 0; counts = wantedCounts }) (1 ∷ 2 ∷ 3 ∷ []) ≡ 41 ∷ 42 ∷ 43 ∷ []
+counts-written = refl
+
+pub counts-kept : countsLeft (record { answer = 3; counts = wantedCounts }) (1 ∷ 2 ∷ 3 ∷ []) ≡ 1 ∷ 2 ∷ 3 ∷ []
+counts-kept = refl

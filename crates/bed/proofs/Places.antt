@@ -26,6 +26,9 @@ use Rattle.layers.specs.Words.{stateOf, wordsOn}
 use Rattle.volume.specs.Answers.{weighed, weighing}
 use Rattle.weigh.specs.Answers.{told, weight}
 use Rattle.levels.specs.Call as level-specs
+use Rattle.tally.specs.Call as tally-specs
+use Rattle.tally.specs.declared.Told.{Told}
+use Rattle.bed.specs.Tallied.{countsIn, countsLeft}
 use Rattle.bed.specs.Words12 as words12
 use Rattle.bed.specs.Boundary.{asked, roomAsked, said}
 use Rattle.bed.specs.Layered.{wordsStarted}
@@ -105,6 +108,18 @@ use Rattle.bed.proofs.levelled.bed_levels_layer_i8.Reads as levels-laye
 use Rattle.witness.specs.Witness.{pieceIn, Tells}
 use Rattle.bed.proofs.plans.bed_plan_witness.Kinds as witness-kinds
 use Rattle.bed.proofs.plans.bed_plan_witness.Reads as witness-reads
+use Rattle.bed.proofs.tallied.bed_tally.Kinds as tally-kinds
+use Rattle.bed.proofs.tallied.bed_tally.Reads as tally
+use Rattle.bed.proofs.tallied.bed_tally_i16.Kinds as tally-i16-kinds
+use Rattle.bed.proofs.tallied.bed_tally_i16.Reads as tally-i16
+use Rattle.bed.proofs.tallied.bed_tally_i8.Kinds as tally-i8-kinds
+use Rattle.bed.proofs.tallied.bed_tally_i8.Reads as tally-i8
+use Rattle.bed.proofs.tallied.bed_tally_layer.Kinds as tally-layer-kinds
+use Rattle.bed.proofs.tallied.bed_tally_layer.Reads as tally-layer
+use Rattle.bed.proofs.tallied.bed_tally_layer_i16.Kinds as tally-layer-i16-kinds
+use Rattle.bed.proofs.tallied.bed_tally_layer_i16.Reads as tally-layer-i16
+use Rattle.bed.proofs.tallied.bed_tally_layer_i8.Kinds as tally-layer-i8-kinds
+use Rattle.bed.proofs.tallied.bed_tally_layer_i8.Reads as tally-layer-i8
 
 -- a call of a function and what it leaves: the result, and behind each `&mut` the value that it has last. `Learnt` of a function's Reads is what a
 -- caller learns from the function's own `ensures`, so this is no copy of it.
@@ -549,3 +564,65 @@ WitnessCall = Called 3 witness-kinds.ps witness-kinds.r witness-reads.Learnt
 pub plan-witness-by-place : (u : WitnessCall)
     → (let (blocks, (whole, (edge, _))) = u .args in let (_, (_, (left', _))) = u .last in Tells (blocks .now) (pieceIn (whole .now) 0) (u .result) (edge .now) left')
 plan-witness-by-place u = u .fits
+
+-- ---- bed_tally, bed_tally_i16, bed_tally_i8: sdf, the twelve words, the three counts
+
+abbrev pub TallyCall : Type 0
+TallyCall = Called 3 tally-kinds.ps tally-kinds.r tally.Learnt
+
+abbrev pub TallyCall16 : Type 0
+TallyCall16 = Called 3 tally-i16-kinds.ps tally-i16-kinds.r tally-i16.Learnt
+
+abbrev pub TallyCall8 : Type 0
+TallyCall8 = Called 3 tally-i8-kinds.ps tally-i8-kinds.r tally-i8.Learnt
+
+-- what is told, by the counts before and after, and the answer
+abbrev pub CountedOf : Told → List ℕ → List ℕ → ℕ → Type 0
+CountedOf t old left' number = (number ≡ t .answer) × (left' ≡ countsLeft t old)
+
+pub tally-by-place : (u : TallyCall)
+    → (let (sdf, (words, (counts, _))) = u .args in
+    let (_, (_, (left', _))) = u .last in
+    CountedOf (tally-specs.tallied (sdf .now) (words12.blockWords (words .now))) (counts .now) left' (u .result))
+tally-by-place u = u .fits
+
+pub tally-i16-by-place : (u : TallyCall16)
+    → (let (sdf, (words, (counts, _))) = u .args in
+    let (_, (_, (left', _))) = u .last in
+    CountedOf (tally-specs.tallied (asFloats (sdf .now)) (words12.blockWords (words .now))) (counts .now) left' (u .result))
+tally-i16-by-place u = u .fits
+
+pub tally-i8-by-place : (u : TallyCall8)
+    → (let (sdf, (words, (counts, _))) = u .args in
+    let (_, (_, (left', _))) = u .last in
+    CountedOf (tally-specs.tallied (asFloats (sdf .now)) (words12.blockWords (words .now))) (counts .now) left' (u .result))
+tally-i8-by-place u = u .fits
+
+-- ---- bed_tally_layer, bed_tally_layer_i16, bed_tally_layer_i8: the layer below, the layer, the twelve words, z, the three counts
+
+abbrev pub TallyLayerCall : Type 0
+TallyLayerCall = Called 4 tally-layer-kinds.ps tally-layer-kinds.r tally-layer.Learnt
+
+abbrev pub TallyLayerCall16 : Type 0
+TallyLayerCall16 = Called 4 tally-layer-i16-kinds.ps tally-layer-i16-kinds.r tally-layer-i16.Learnt
+
+abbrev pub TallyLayerCall8 : Type 0
+TallyLayerCall8 = Called 4 tally-layer-i8-kinds.ps tally-layer-i8-kinds.r tally-layer-i8.Learnt
+
+pub tally-layer-by-place : (u : TallyLayerCall)
+    → (let (below, (layer, (words, (z, (counts, _))))) = u .args in
+    let (_, (_, (_, (_, (left', _))))) = u .last in
+    CountedOf (tally-specs.layerTold (below .now) (layer .now) (words12.blockWords (words .now)) z (countsIn (counts .now))) (counts .now) left' (u .result))
+tally-layer-by-place u = u .fits
+
+pub tally-layer-i16-by-place : (u : TallyLayerCall16)
+    → (let (below, (layer, (words, (z, (counts, _))))) = u .args in
+    let (_, (_, (_, (_, (left', _))))) = u .last in
+    CountedOf (tally-specs.layerTold (asFloats (below .now)) (asFloats (layer .now)) (words12.blockWords (words .now)) z (countsIn (counts .now))) (counts .now) left' (u .result))
+tally-layer-i16-by-place u = u .fits
+
+pub tally-layer-i8-by-place : (u : TallyLayerCall8)
+    → (let (below, (layer, (words, (z, (counts, _))))) = u .args in
+    let (_, (_, (_, (_, (left', _))))) = u .last in
+    CountedOf (tally-specs.layerTold (asFloats (below .now)) (asFloats (layer .now)) (words12.blockWords (words .now)) z (countsIn (counts .now))) (counts .now) left' (u .result))
+tally-layer-i8-by-place u = u .fits

@@ -3,3 +3,4 @@ pub mod Boundary
 pub mod Layered
 pub mod Version
 pub mod Words12
+pub mod Tallied

@@ -8,6 +8,7 @@ pub mod files;
 pub mod layered;
 pub mod levelled;
 pub mod plans;
+pub mod tallied;
 pub mod version;
 pub mod weighing;
 pub mod weights;

@@ -23,7 +23,7 @@ not-bad true h = absurd h
 not-bad false h = refl
 
 -- a call answered 0 meets the conditions before the premise, so that a yes says the premise
-yes-says : (u : Served) → Done u → judged (u .call .grid) (u .call .box) (u .call .size) ≡ answers 0 true → Enclosed (u .call .grid) (u .call .box)
+pub yes-says : (u : Served) → Done u → judged (u .call .grid) (u .call .box) (u .call .size) ≡ answers 0 true → Enclosed (u .call .grid) (u .call .box)
 unfolding judged
 yes-says u done yes' = enclosed-says (u .call .grid) (u .call .box) (is-test (enclosed (u .call .grid) (u .call .box)) (ap (λ (r : Tested). r .enclosed) (sym only ∙ yes')))
   where

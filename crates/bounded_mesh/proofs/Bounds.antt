@@ -34,7 +34,7 @@ use Rattle.weighed_mesh.proofs.Cut.{weight-is}
 use Rattle.weighed_mesh.proofs.Mesh.{OwnMesh}
 use Rattle.weighed_mesh.proofs.Outcomes.{Weigh, told, BedWeigh, bedTold}
 use Rattle.weighed_mesh.specs.Told.{Told, weightOf}
-use Rattle.bounded_mesh.specs.Cells.{wholeCells}
+use Rattle.tally.specs.Cells.{wholeCells}
 use Rattle.bounded_mesh.specs.Round.{InCells}
 use Rattle.bounded_mesh.specs.Placed.{inSludge, placed}
 use Rattle.bounded_mesh.specs.Bounded.{Bounded}

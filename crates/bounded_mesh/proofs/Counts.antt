@@ -19,7 +19,7 @@ use Rattle.rules.specs.Faces.{points}
 use Rattle.rules.proofs.Indexes.{is-cell, cell-in-box, corner-in-box}
 use Rattle.rules.proofs.Counting.{samePoint-sound, samePoint-itself, cells-once, points-once, kept-once, cell-count}
 use Rattle.skin.specs.Enclosed.{Inner, Enclosed}
-use Rattle.bounded_mesh.specs.Cells.{allNegative, wholeCells}
+use Rattle.tally.specs.Cells.{allNegative, wholeCells}
 use Rattle.bounded_mesh.specs.Placed.{inSludge}
 use Rattle.bounded_mesh.proofs.Sums.{total-most}
 use Rattle.bounded_mesh.proofs.Meshed.{true-and}

@@ -17,7 +17,7 @@ use Rattle.rules.specs.Call.{flatVectors}
 use Rattle.volume.specs.Steps.{steps}
 use Rattle.volume.specs.Volume.{determinant, sixfold}
 use Rattle.weighed_mesh.proofs.Faces.{sumZ, cornersSum, faceSum, mesh-sum}
-use Rattle.bounded_mesh.specs.Cells.{wholeCells}
+use Rattle.tally.specs.Cells.{wholeCells}
 
 abbrev point : ℕ → ℕ → ℕ → GridPoint
 point x y z = record { x = x; y = y; z = z }

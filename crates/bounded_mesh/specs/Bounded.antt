@@ -3,7 +3,7 @@ use Prim.Native.Nat.{ℕ, _+_, _*_, _^_}
 use lib.IntN.{ℤ, pos, _+ℤ_, _*ℤ_}
 use lib.Signed.{_≤ℤ_}
 use Rattle.promises.specs.Served.{Served}
-use Rattle.bounded_mesh.specs.Cells.{wholeCells}
+use Rattle.tally.specs.Cells.{wholeCells}
 
 -- so many cells in the unit of document 02, request 14: six times the volume, in cubed steps of 1/256
 abbrev pub sixfoldCells : ℕ → ℕ

@@ -14,6 +14,8 @@ use Rattle.skin.specs.Scan.{examined}
 use Rattle.levels.specs.Call.{boxFrom, levelsAnswer, levelsAfter, layerAnswer, layerAfter}
 use Rattle.closing.specs.Answers.{closeAnswer, closedRoom, layerAnswer as closedAnswer, layerRoom}
 use Rattle.fixtures.specs.Cut.{cutAnswer, cutGrid}
+use Rattle.fixtures.specs.Layer as fixture-layer
+use Rattle.fixture_widths.specs.Into.{intoAnswer, cutInto}
 
 -- ---- of a block
 
@@ -49,3 +51,11 @@ LayerClosed layer size z wall old number left d =
 
 abbrev pub FixturesCut : List ℕ → List Float → ℕ → List Float → Extent → Type 0
 FixturesCut file old number left d = (number ≡ cutAnswer file (point d) (length old)) × (left ≡ cutGrid file (point d) old)
+
+abbrev pub LayerCut : List ℕ → ℕ → List Float → ℕ → List Float → Extent → Type 0
+LayerCut file z old number left d =
+    (number ≡ fixture-layer.layerAnswer file (point d) z (length old)) × (left ≡ fixture-layer.cutLayer file (point d) z old)
+
+abbrev pub LayerCutInto : List ℕ → List Float → ℕ → List Float → ℕ → List Float → Extent → Type 0
+LayerCutInto file layer z old number left d =
+    (number ≡ intoAnswer file (point d) z (length layer) (length old)) × (left ≡ cutInto file (point d) z layer old)

@@ -7,7 +7,6 @@ ghost use Rattle.grid.specs.Values.{asFloats};
 ghost use Rattle.fixtures.specs.Layer.{layerAnswer, cutLayer};
 ghost use Rattle.fixture_widths.specs.Into.{intoAnswer, cutInto};
 ghost use Rattle.bed.specs.Words12.{dimsAsked};
-use grid::Extent;
 
 // The answer number: 0, 1, 81, 3 or 51 to 56. Every answer but 0 changes nothing.
 #[no_mangle]
@@ -20,11 +19,7 @@ pub extern "C" fn bed_cut_fixtures_layer(
     ensures { λ r. ⌜ r ≡ layerAnswer (now (file .entry)) (point (dimsAsked (now (words .entry)))) z (length (now (layer .entry))) ⌝ }
     ensures { λ _. ⌜ now (layer .exit) ≡ cutLayer (now (file .entry)) (point (dimsAsked (now (words .entry)))) z (now (layer .entry)) ⌝ }
 {
-    let dims = Extent {
-        x: words[0],
-        y: words[1],
-        z: words[2],
-    };
+    let dims = crate::words::dims_of(words);
     fixtures::cut_fixtures_layer(file, dims, z, layer)
 }
 
@@ -40,11 +35,7 @@ pub extern "C" fn bed_cut_fixtures_layer_i16(
     ensures { λ r. ⌜ r ≡ intoAnswer (now (file .entry)) (point (dimsAsked (now (words .entry)))) z (length (asFloats (now (layer .entry)))) (length (now (out .entry))) ⌝ }
     ensures { λ _. ⌜ now (out .exit) ≡ cutInto (now (file .entry)) (point (dimsAsked (now (words .entry)))) z (asFloats (now (layer .entry))) (now (out .entry)) ⌝ }
 {
-    let dims = Extent {
-        x: words[0],
-        y: words[1],
-        z: words[2],
-    };
+    let dims = crate::words::dims_of(words);
     fixture_widths::cut_fixtures_layer_i16(file, layer, dims, z, out)
 }
 
@@ -59,10 +50,6 @@ pub extern "C" fn bed_cut_fixtures_layer_i8(
     ensures { λ r. ⌜ r ≡ intoAnswer (now (file .entry)) (point (dimsAsked (now (words .entry)))) z (length (asFloats (now (layer .entry)))) (length (now (out .entry))) ⌝ }
     ensures { λ _. ⌜ now (out .exit) ≡ cutInto (now (file .entry)) (point (dimsAsked (now (words .entry)))) z (asFloats (now (layer .entry))) (now (out .entry)) ⌝ }
 {
-    let dims = Extent {
-        x: words[0],
-        y: words[1],
-        z: words[2],
-    };
+    let dims = crate::words::dims_of(words);
     fixture_widths::cut_fixtures_layer_i8(file, layer, dims, z, out)
 }

@@ -5,42 +5,8 @@ ghost use Rattle.grid.specs.Values.{asFloats};
 ghost use Rattle.tally.specs.Call.{tallied, layerTold};
 ghost use Rattle.bed.specs.Words12.{blockWords};
 ghost use Rattle.bed.specs.Tallied.{countsIn, countsLeft};
-use grid::Block;
-use grid::EachAxis;
-use grid::Extent;
 use tally::Counts;
 use tally::Told;
-
-fn block_of(words: &[u32; 12]) -> Block
-    ensures { λ r. ⌜ r ≡ blockWords (now (words .entry)) ⌝ }
-{
-    let dims = Extent {
-        x: words[0],
-        y: words[1],
-        z: words[2],
-    };
-    let low = Extent {
-        x: words[3],
-        y: words[4],
-        z: words[5],
-    };
-    let high = Extent {
-        x: words[6],
-        y: words[7],
-        z: words[8],
-    };
-    let max_plane = EachAxis {
-        x: words[9] != 0,
-        y: words[10] != 0,
-        z: words[11] != 0,
-    };
-    Block {
-        dims,
-        low,
-        high,
-        max_plane,
-    }
-}
 
 fn counts_of(words: &[u64; 3]) -> Counts
     ensures { λ r. ⌜ r ≡ countsIn (now (words .entry)) ⌝ }
@@ -72,7 +38,7 @@ pub extern "C" fn bed_tally(sdf: &[f32], words: &[u32; 12], counts: &mut [u64; 3
     ensures { λ r. ⌜ r ≡ tallied (now (sdf .entry)) (blockWords (now (words .entry))) .answer ⌝ }
     ensures { λ _. ⌜ now (counts .exit) ≡ countsLeft (tallied (now (sdf .entry)) (blockWords (now (words .entry)))) (now (counts .entry)) ⌝ }
 {
-    let k = block_of(words);
+    let k = crate::words::block_of(words);
     let t = tally::tally(sdf, k);
     leave(t, counts)
 }
@@ -82,7 +48,7 @@ pub extern "C" fn bed_tally_i16(sdf: &[i16], words: &[u32; 12], counts: &mut [u6
     ensures { λ r. ⌜ r ≡ tallied (asFloats (now (sdf .entry))) (blockWords (now (words .entry))) .answer ⌝ }
     ensures { λ _. ⌜ now (counts .exit) ≡ countsLeft (tallied (asFloats (now (sdf .entry))) (blockWords (now (words .entry)))) (now (counts .entry)) ⌝ }
 {
-    let k = block_of(words);
+    let k = crate::words::block_of(words);
     let t = tally::tally_i16(sdf, k);
     leave(t, counts)
 }
@@ -92,7 +58,7 @@ pub extern "C" fn bed_tally_i8(sdf: &[i8], words: &[u32; 12], counts: &mut [u64;
     ensures { λ r. ⌜ r ≡ tallied (asFloats (now (sdf .entry))) (blockWords (now (words .entry))) .answer ⌝ }
     ensures { λ _. ⌜ now (counts .exit) ≡ countsLeft (tallied (asFloats (now (sdf .entry))) (blockWords (now (words .entry)))) (now (counts .entry)) ⌝ }
 {
-    let k = block_of(words);
+    let k = crate::words::block_of(words);
     let t = tally::tally_i8(sdf, k);
     leave(t, counts)
 }
@@ -111,7 +77,7 @@ pub extern "C" fn bed_tally_layer(
     ensures { λ _. ⌜ now (counts .exit)
         ≡ countsLeft (layerTold (now (below .entry)) (now (layer .entry)) (blockWords (now (words .entry))) z (countsIn (now (counts .entry)))) (now (counts .entry)) ⌝ }
 {
-    let k = block_of(words);
+    let k = crate::words::block_of(words);
     let so_far = counts_of(counts);
     let t = tally::tally_layer(below, layer, k, z, so_far);
     leave(t, counts)
@@ -129,7 +95,7 @@ pub extern "C" fn bed_tally_layer_i16(
     ensures { λ _. ⌜ now (counts .exit)
         ≡ countsLeft (layerTold (asFloats (now (below .entry))) (asFloats (now (layer .entry))) (blockWords (now (words .entry))) z (countsIn (now (counts .entry)))) (now (counts .entry)) ⌝ }
 {
-    let k = block_of(words);
+    let k = crate::words::block_of(words);
     let so_far = counts_of(counts);
     let t = tally::tally_layer_i16(below, layer, k, z, so_far);
     leave(t, counts)
@@ -147,7 +113,7 @@ pub extern "C" fn bed_tally_layer_i8(
     ensures { λ _. ⌜ now (counts .exit)
         ≡ countsLeft (layerTold (asFloats (now (below .entry))) (asFloats (now (layer .entry))) (blockWords (now (words .entry))) z (countsIn (now (counts .entry)))) (now (counts .entry)) ⌝ }
 {
-    let k = block_of(words);
+    let k = crate::words::block_of(words);
     let so_far = counts_of(counts);
     let t = tally::tally_layer_i8(below, layer, k, z, so_far);
     leave(t, counts)

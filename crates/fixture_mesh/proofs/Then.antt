@@ -56,7 +56,7 @@ module _ (u : CutRun) (low high : Extent) (plane : EachAxis) where
       let cut = u .fits .1 in
       let kept = cut-accepted (fileOf u) d (gridBefore u) (room (v .before) .map) b a in
       let passes : Accepted (meshing (gridAfter u) .grid) (length (gridAfter u)) (room (v .before) .map) b =
-            subst (λ (g : List Float). Accepted (field d g) (length g) (room (v .before) .map) b) (sym cut) kept in
+      subst (λ (g : List Float). Accepted (field d g) (length g) (room (v .before) .map) b) (sym cut) kept in
       v .answered
       ∙ (ap (λ (c : Call). answer c (room (v .before))) same ∙ accepted-answer (meshing (gridAfter u)) (room (v .before)) passes)
 

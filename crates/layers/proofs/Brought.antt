@@ -59,7 +59,8 @@ room-of e r =
       numbers = omega (arith, r .numbers);
     }
 
-module _ {s : State} {layer distances : List Float} (r : Ready s layer distances) (later : 0 < s .taken) {at : ℕ} (ea : at ≡ length layer * (before s % 2)) where
+module _ {s : State} {layer distances : List Float} (r : Ready s layer distances) (later : 0 < s .taken) {lower : List Float}
+    (lower-is : lower ≡ halfOf (s .block) (before s) distances) where
   abbrev k : Block
   k = s .block
 
@@ -69,83 +70,90 @@ module _ {s : State} {layer distances : List Float} (r : Ready s layer distances
   abbrev z : ℕ
   z = cellsAt s
 
-  lower-is : take (at + length layer - at) (drop at distances) ≡ halfOf k (before s) distances
-  lower-is = half-read k (before s) distances (r .offered .long) ea
-
-  pub lower-layers : InLayers (take (at + length layer - at) (drop at distances)) layer (s .block) (cellsAt s)
+  pub lower-layers : InLayers lower layer (s .block) (cellsAt s)
   lower-layers = subst (λ (lower : List Float). InLayers lower layer k z) (sym lower-is) (in-layers r later)
 
-  pub map-corner : (mp : List ℕ) → 2 * plane (s .block) ≤ length mp
-      → inLayer (point (s .block .dims)) (point (s .block .high)) < length (take (at + length layer - at) (drop at mp))
-  map-corner mp long = omega (arith, corner-low r, ap length (half-read k (before s) mp (r .offered .long) ea) ∙ half-length k (before s) mp long)
-
   pub vertices-lent : length (newVertices s layer distances)
-      ≡ length (layerVertices (twoLayers (take (at + length layer - at) (drop at distances)) layer (s .block) (cellsAt s)) (boxOf (s .block)) (cellsAt s))
+      ≡ length (layerVertices (twoLayers lower layer (s .block) (cellsAt s)) (boxOf (s .block)) (cellsAt s))
   vertices-lent = ap length (vertices-later s layer distances later) ∙ ap (λ (lower : List Float). length (layerVertices (twoLayers lower layer k z) b z)) (sym lower-is)
 
   pub count-lent : {count : ℕ}
-      → count ≡ length (layerVertices (twoLayers (take (at + length layer - at) (drop at distances)) layer (s .block) (cellsAt s)) (boxOf (s .block)) (cellsAt s))
+      → count ≡ length (layerVertices (twoLayers lower layer (s .block) (cellsAt s)) (boxOf (s .block)) (cellsAt s))
       → count ≡ length (newVertices s layer distances)
   count-lent e = e ∙ sym vertices-lent
 
-  pub marked-put : (p₀ n₀ : List Float) (c₀ st₀ cr₀ mp : List ℕ) {number : ℕ} → number ≡ newFirst s layer distances → 2 * plane (s .block) ≤ length mp
-      → {p n : List Float} {c st cr q : List ℕ}
-      → lists p n c st cr q ≡ marked (twoLayers (take (at + length layer - at) (drop at distances)) layer (s .block) (cellsAt s)) (boxOf (s .block)) (cellsAt s)
-      (record { place = 0; number = number })
-      (lists p₀ n₀ c₀ st₀ cr₀ (take (at + length layer - at) (drop at mp)))
-      → lists p n c st cr (take at mp ++ (q ++ drop (at + length layer - at) (drop at mp)))
-      ≡ putBack s mp (newLists s layer distances (lists p₀ n₀ c₀ st₀ cr₀ (halfOf (s .block) (before s) mp)))
-  unfolding marked
-  marked-put p₀ n₀ c₀ st₀ cr₀ mp {number} en long {p} {n} {c} {st} {cr} {q} e =
-      let part = take (at + length layer - at) (drop at mp) in
-      let whole = halfOf k (before s) mp in
-      let g = between s layer distances in
-      let L = newLists s layer distances (lists p₀ n₀ c₀ st₀ cr₀ whole) in
-      let same : lists p n c st cr q ≡ L =
-      e ∙ ap (λ (lower : List Float). marked (twoLayers lower layer k z) b z (record { place = 0; number = number }) (lists p₀ n₀ c₀ st₀ cr₀ part)) lower-is
-      ∙ ap (λ (m : ℕ). marked g b z (record { place = 0; number = m }) (lists p₀ n₀ c₀ st₀ cr₀ part)) en
-      ∙ ap (λ (l : List ℕ). newLists s layer distances (lists p₀ n₀ c₀ st₀ cr₀ l)) (half-read k (before s) mp (r .offered .long) ea) in
-      let size : length (L .map) ≡ plane k = length-placed (layerEntry g b z (newFirst s layer distances)) 0 whole ∙ half-length k (before s) mp long in
-      let stored : take at mp ++ (L .map ++ drop (at + length layer - at) (drop at mp)) ≡ putHalf k (before s) (L .map) mp =
-      part-stored mp (L .map) at (omega (arith, half-end k (before s) (r .offered .long) ea, r .offered .long)) (at + length layer) (omega (arith, r .offered .long))
-      ∙ ap (λ (a : ℕ). sets mp a (L .map)) (half-is k (before s) (r .offered .long) ea) in
-      ap (λ (l : Lists). lists (l .positions) (l .normals) (l .cells) (l .strides) (l .crossings) (take at mp ++ (l .map ++ drop (at + length layer - at) (drop at mp)))) same
-      ∙ ap (λ (l : List ℕ). lists (L .positions) (L .normals) (L .cells) (L .strides) (L .crossings) l) stored
+  -- from the place of the lower layer's half on
+  module _ {at : ℕ} (ea : at ≡ length layer * (before s % 2)) where
+    pub map-corner : (mp : List ℕ) → 2 * plane (s .block) ≤ length mp
+        → inLayer (point (s .block .dims)) (point (s .block .high)) < length (take (at + length layer - at) (drop at mp))
+    map-corner mp long = omega (arith, corner-low r, ap length (half-read k (before s) mp (r .offered .long) ea) ∙ half-length k (before s) mp long)
+
+    pub marked-put : (p₀ n₀ : List Float) (c₀ st₀ cr₀ mp : List ℕ) {number : ℕ} → number ≡ newFirst s layer distances → 2 * plane (s .block) ≤ length mp
+        → {p n : List Float} {c st cr q : List ℕ}
+        → lists p n c st cr q ≡ marked (twoLayers lower layer (s .block) (cellsAt s)) (boxOf (s .block)) (cellsAt s)
+        (record { place = 0; number = number })
+        (lists p₀ n₀ c₀ st₀ cr₀ (take (at + length layer - at) (drop at mp)))
+        → lists p n c st cr (take at mp ++ (q ++ drop (at + length layer - at) (drop at mp)))
+        ≡ putBack s mp (newLists s layer distances (lists p₀ n₀ c₀ st₀ cr₀ (halfOf (s .block) (before s) mp)))
+    unfolding marked
+    marked-put p₀ n₀ c₀ st₀ cr₀ mp {number} en long {p} {n} {c} {st} {cr} {q} e =
+        let part = take (at + length layer - at) (drop at mp) in
+        let whole = halfOf k (before s) mp in
+        let g = between s layer distances in
+        let L = newLists s layer distances (lists p₀ n₀ c₀ st₀ cr₀ whole) in
+        let same : lists p n c st cr q ≡ L =
+        e ∙ ap (λ (lower : List Float). marked (twoLayers lower layer k z) b z (record { place = 0; number = number }) (lists p₀ n₀ c₀ st₀ cr₀ part)) lower-is
+        ∙ ap (λ (m : ℕ). marked g b z (record { place = 0; number = m }) (lists p₀ n₀ c₀ st₀ cr₀ part)) en
+        ∙ ap (λ (l : List ℕ). newLists s layer distances (lists p₀ n₀ c₀ st₀ cr₀ l)) (half-read k (before s) mp (r .offered .long) ea) in
+        let size : length (L .map) ≡ plane k = length-placed (layerEntry g b z (newFirst s layer distances)) 0 whole ∙ half-length k (before s) mp long in
+        let stored : take at mp ++ (L .map ++ drop (at + length layer - at) (drop at mp)) ≡ putHalf k (before s) (L .map) mp =
+        part-stored mp (L .map) at (omega (arith, half-end k (before s) (r .offered .long) ea, r .offered .long)) (at + length layer) (omega (arith, r .offered .long))
+        ∙ ap (λ (a : ℕ). sets mp a (L .map)) (half-is k (before s) (r .offered .long) ea) in
+        ap (λ (l : Lists). lists (l .positions) (l .normals) (l .cells) (l .strides) (l .crossings) (take at mp ++ (l .map ++ drop (at + length layer - at) (drop at mp)))) same
+        ∙ ap (λ (l : List ℕ). lists (L .positions) (L .normals) (L .cells) (L .strides) (L .crossings) l) stored
+
+    -- and the map is as long as it was
+    pub back-long : (p₀ n₀ : List Float) (c₀ st₀ cr₀ mp : List ℕ) {number : ℕ} → number ≡ newFirst s layer distances → 2 * plane (s .block) ≤ length mp
+        → {p n : List Float} {c st cr q : List ℕ}
+        → lists p n c st cr q ≡ marked (twoLayers lower layer (s .block) (cellsAt s)) (boxOf (s .block)) (cellsAt s) (record { place = 0; number = number })
+        (lists p₀ n₀ c₀ st₀ cr₀ (take (at + length layer - at) (drop at mp)))
+        → length (take at mp ++ (q ++ drop (at + length layer - at) (drop at mp))) ≡ length mp
+    back-long p₀ n₀ c₀ st₀ cr₀ mp en long e =
+        ap (λ (l : Lists). length (l .map)) (marked-put p₀ n₀ c₀ st₀ cr₀ mp en long e)
+        ∙ length-sets mp _ (newLists s layer distances (lists p₀ n₀ c₀ st₀ cr₀ (halfOf (s .block) (before s) mp)) .map)
 
   -- ---- what the faces are lent, and leave
 
-  pub standing-lent : (mp : List ℕ) {first : ℕ} {cs : List ℕ} {ps : List Float}
+  pub standing-lent : (mp : List ℕ) {mp' : List ℕ} → mp' ≡ halfOf (s .block) (before s) mp → {first : ℕ} {cs : List ℕ} {ps : List Float}
       → Standing (between s layer distances) (boxOf (s .block)) first (cellsAt s) cs (halfOf (s .block) (before s) mp) ps
-      → Standing (twoLayers (take (at + length layer - at) (drop at distances)) layer (s .block) (cellsAt s)) (boxOf (s .block)) first (cellsAt s) cs
-      (take (at + length layer - at) (drop at mp)) ps
-  standing-lent mp {first} {cs} {ps} h =
-      subst (λ (lower : List Float). Standing (twoLayers lower layer k z) b first z cs (take (at + length layer - at) (drop at mp)) ps) (sym lower-is)
-      (subst (λ (l : List ℕ). Standing (between s layer distances) b first z cs l ps) (sym (half-read k (before s) mp (r .offered .long) ea)) h)
+      → Standing (twoLayers lower layer (s .block) (cellsAt s)) (boxOf (s .block)) first (cellsAt s) cs mp' ps
+  standing-lent mp {mp'} e {first} {cs} {ps} h =
+      subst (λ (l : List Float). Standing (twoLayers l layer k z) b first z cs mp' ps) (sym lower-is)
+      (subst (λ (l : List ℕ). Standing (between s layer distances) b first z cs l ps) (sym e) h)
 
-  edges-lent : 6 * length (layerEdges (twoLayers (take (at + length layer - at) (drop at distances)) layer (s .block) (cellsAt s)) (boxOf (s .block)) (flagsOf (s .block))
+  edges-lent : 6 * length (layerEdges (twoLayers lower layer (s .block) (cellsAt s)) (boxOf (s .block)) (flagsOf (s .block))
       (cellsAt s))
       ≡ 6 * length (layerEdges (between s layer distances) (boxOf (s .block)) (flagsOf (s .block)) (cellsAt s))
   edges-lent = ap (λ (lower : List Float). 6 * length (layerEdges (twoLayers lower layer k z) b (flagsOf k) z)) lower-is
 
   pub edges-fit : {n : ℕ} → 6 * length (layerEdges (between s layer distances) (boxOf (s .block)) (flagsOf (s .block)) (cellsAt s)) ≤ n
-      → 0 + 6 * length (layerEdges (twoLayers (take (at + length layer - at) (drop at distances)) layer (s .block) (cellsAt s)) (boxOf (s .block)) (flagsOf (s .block))
+      → 0 + 6 * length (layerEdges (twoLayers lower layer (s .block) (cellsAt s)) (boxOf (s .block)) (flagsOf (s .block))
       (cellsAt s)) ≤ n
   edges-fit h = omega (arith, edges-lent, h)
 
-  module _ {under : ℕ} (eu : under ≡ length layer * (s .taken % 2)) (mp : List ℕ) (long : 2 * plane (s .block) ≤ length mp) where
-    pub under-corner : inLayer (point (s .block .dims)) (point (s .block .high)) < length (take (under + length layer - under) (drop under mp))
-    under-corner = omega (arith, corner-low r, ap length (half-read k (s .taken) mp (r .offered .long) eu) ∙ half-length k (s .taken) mp long)
+  -- the half below
+  module _ (mp : List ℕ) {mu : List ℕ} (eu : mu ≡ halfOf (s .block) (s .taken) mp) where
+    pub under-corner : 2 * plane (s .block) ≤ length mp → inLayer (point (s .block .dims)) (point (s .block .high)) < length mu
+    under-corner long = omega (arith, corner-low r, ap length eu ∙ half-length k (s .taken) mp long)
 
     pub faces-put : (first below : ℕ) (kept : List Float) (ix₀ : List ℕ) {ix : List ℕ}
-        → ix ≡ sets ix₀ 0 (indicesOver (twoLayers (take (at + length layer - at) (drop at distances)) layer (s .block) (cellsAt s)) (boxOf (s .block))
-        (flagsOf (s .block)) first (cellsAt s)
-        (record { map = take (under + length layer - under) (drop under mp); positions = kept; first = below }))
+        → ix ≡ sets ix₀ 0 (indicesOver (twoLayers lower layer (s .block) (cellsAt s)) (boxOf (s .block)) (flagsOf (s .block)) first (cellsAt s)
+        (record { map = mu; positions = kept; first = below }))
         → ix ≡ sets ix₀ 0 (indicesOver (between s layer distances) (boxOf (s .block)) (flagsOf (s .block)) first (cellsAt s)
         (record { map = halfOf (s .block) (s .taken) mp; positions = kept; first = below }))
     faces-put first below kept ix₀ e =
-        e ∙ ap₂ (λ (lower : List Float) (l : List ℕ). sets ix₀ 0
-        (indicesOver (twoLayers lower layer k z) b (flagsOf k) first z (record { map = l; positions = kept; first = below })))
-        lower-is (half-read k (s .taken) mp (r .offered .long) eu)
+        e ∙ ap₂ (λ (f : List Float) (l : List ℕ). sets ix₀ 0
+        (indicesOver (twoLayers f layer k z) b (flagsOf k) first z (record { map = l; positions = kept; first = below }))) lower-is eu
 
 -- ---- the layer offered, in its half of the map
 

@@ -1,7 +1,7 @@
 -- A layer that is about to be taken: the cells below it lie between two layers of distances, they are few, and their count is that of what is brought
 -- out. Assumes nothing.
 use Prim.Native.Nat.{ℕ, _+_, _-_, _*_, _%_, _≤_, _<_}
-use native.Mathlib.Nat.{mul-le-mul, le-trans, le-of-eq}
+use native.Mathlib.Nat.{mul-le-mul, mul-le-mul-left, mul-one, mod-lt, le-refl, le-trans, le-of-eq}
 use native.Mathlib.Omega.{arith}
 use mathlib.Core.Bool.{Bool, true, false, cond, not}
 use mathlib.Core.List.{List, []}
@@ -10,7 +10,7 @@ use mathlib.Core.Path.{_≡_, refl, sym, ap, ap₂, subst, _∙_}
 use borrow.Author.Tests.{eq-eqb, ne-eqb, lt-ltb, le-ltb}
 use mir.Syntax.{w32, w64}
 use mir.Val.{Fits}
-use lib.Dec.{T, eqb}
+use lib.Dec.{T, eqb, lit<}
 use lib.ListN.{length, take, drop}
 use lib.Ieee.{Float}
 use Rattle.lists.specs.Lists.{keep, joined}
@@ -177,26 +177,40 @@ module _ {s : State} {layer distances : List Float} (r : Ready s layer distances
 pub half-is : (k : Block) (t : ℕ) {n at : ℕ} → n ≡ plane k → at ≡ n * (t % 2) → at ≡ half k t
 half-is k t en ea = ea ∙ ap (λ (m : ℕ). m * (t % 2)) en
 
+-- such a half, as a part that is lent of the list, and as the rules have it
+pub kept-part : {A : Type 0} (n t : ℕ) (l : List A) {at : ℕ} → at ≡ n * (t % 2) → take (at + n - at) (drop at l) ≡ take n (drop (n * (t % 2)) l)
+kept-part n t l {at} ea = let size : at + n - at ≡ n = omega arith in ap₂ (λ (m a : ℕ). take m (drop a l)) size ea
+
+pub kept-read : {A : Type 0} (k : Block) (t : ℕ) (l : List A) {n : ℕ} {part : List A} → n ≡ plane k → part ≡ take n (drop (n * (t % 2)) l) → part ≡ halfOf k t l
+kept-read k t l en e = e ∙ ap (λ (m : ℕ). take m (drop (m * (t % 2)) l)) en
+
 pub half-read : {A : Type 0} (k : Block) (t : ℕ) (l : List A) {n at : ℕ} → n ≡ plane k → at ≡ n * (t % 2) → take (at + n - at) (drop at l) ≡ halfOf k t l
-half-read k t l {n} {at} en ea =
-    let size : at + n - at ≡ plane k = omega arith in
-    ap₂ (λ (m a : ℕ). take m (drop a l)) size (half-is k t en ea)
+half-read k t l {n} en ea = kept-read k t l en (kept-part n t l ea)
 
 pub half-end : (k : Block) (t : ℕ) {n at : ℕ} → n ≡ plane k → at ≡ n * (t % 2) → at + n ≤ 2 * plane k
 half-end k t en ea = let e = half-is k t en ea in omega (arith, half-ends k t)
 
--- such a half ends within two layers, which are few
-pub record Within (k : Block) (at n : ℕ) : Type 0 where
+-- it ends within two layers, which are few
+pub record Within (size at n : ℕ) : Type 0 where
   pub ordered : at ≤ at + n
-  pub inside : at + n ≤ 2 * plane k
+  pub inside : at + n ≤ size
   pub end-fits : Fits w64 (at + n)
   pub bytes-fit : Fits w64 (at * 4)
 
-pub within-half : {s : State} {layer distances : List Float} → Ready s layer distances → (t : ℕ) {at : ℕ} → at ≡ length layer * (t % 2) → Within (s .block) at (length layer)
-within-half {s} r t ea =
-    let e = half-end (s .block) t (r .offered .long) ea in
-    let p = plane-small r in
-    record { ordered = omega arith; inside = e; end-fits = record { fits = omega arith }; bytes-fit = record { fits = omega arith } }
+pub kept-half : (n t : ℕ) {at size : ℕ} → at ≡ n * (t % 2) → 2 * n ≤ size → n ≤ 1073741824 → Within size at n
+kept-half n t {at} ea long few =
+    let one : t % 2 ≤ 1 = omega (arith, mod-lt t (lit< {m = 0} {n = 2} tt)) in
+    let low : at ≤ n = omega (arith, mul-le-mul-left n one, mul-one n) in
+    record { ordered = omega arith; inside = omega arith; end-fits = record { fits = omega arith }; bytes-fit = record { fits = omega arith } }
+
+-- two layers as long as the one offered are there, where two of the state's are
+pub two-layers : {s : State} {layer distances : List Float} → Ready s layer distances → {size : ℕ} → 2 * plane (s .block) ≤ size
+    → (2 * length layer ≤ size) × (length layer ≤ 1073741824)
+two-layers r h = let p = plane-small r in (omega (arith, r .offered .long), omega (arith, r .offered .long))
+
+pub within-half : {s : State} {layer distances : List Float} → Ready s layer distances → (t : ℕ) {at : ℕ} → at ≡ length layer * (t % 2)
+    → Within (2 * plane (s .block)) at (length layer)
+within-half {s} {layer} r t ea = let h = two-layers r (le-refl (2 * plane (s .block))) in kept-half (length layer) t ea (h .0) (h .1)
 
 -- the layer of cells below the layer offered has a number that fits a word
 pub cells-word : {s : State} {layer distances : List Float} → Ready s layer distances → Fits w32 (s .block .low .z + (s .taken - 1))

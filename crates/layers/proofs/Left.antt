@@ -5,8 +5,6 @@ use mathlib.Core.Bool.{Bool, true, false, not, cond}
 use mathlib.Core.List.{List}
 use mathlib.Core.Path.{_≡_, refl, sym, ap, ap₂, _∙_}
 use borrow.Author.Tests.{eqb-true, leb-false, eq-eqb, ne-eqb, not-false}
-use mir.Syntax.{w32}
-use mir.Val.{Fits}
 use lib.Dec.{T, eqb}
 use lib.ListN.{length}
 use lib.Ieee.{Float}
@@ -18,7 +16,7 @@ use Rattle.judge.proofs.Judging.{room-done}
 use Rattle.layers.specs.declared.State.{State}
 use Rattle.layers.specs.Memory.{Memory, memory, lengths, putHalf, badMemory}
 use Rattle.layers.specs.Offer.{Output, output, roomIn, Left, left, advanced, newVertices, newIndices, newFirst, finished, badLayerLength, badPoints, layerAnswer}
-use Rattle.layers.specs.Offer.{stateAfter, broughtOut, cleared, layerKept, leaves}
+use Rattle.layers.specs.Offer.{runsOn, stateAfter, broughtOut, cleared, layerKept, leaves}
 use Rattle.layers.specs.Ready.{Roomy}
 use Rattle.layers.proofs.Judging.{layer-1, layer-2, layer-8, layer-3, layer-4, layer-5, layer-room, memory-enough}
 
@@ -112,9 +110,8 @@ module _ (s : State) (layer : List Float) (m : Memory) (o : Output) (e : layerAn
   done-state = rw (eq-eqb (layerAnswer s layer m (roomIn m o) .number) 0 e)
 
   -- by the code's first number and count
-  pub state-next : {first count : ℕ} → first ≡ newFirst s layer (m .distances) → count ≡ length (newVertices s layer (m .distances))
-      → advanced s first count ≡ stateAfter s layer m o
-  state-next f n = ap₂ (advanced s) f n ∙ sym done-state
+  pub state-next : {t : State} (count : ℕ) → t ≡ advanced s (runsOn (s .next) count) count → count ≡ length (newVertices s layer (m .distances)) → t ≡ stateAfter s layer m o
+  state-next count e n = e ∙ ap₂ (advanced s) (ap (runsOn (s .next)) n) n ∙ sym done-state
 
   pub done-left : leaves s layer m o ≡ left (layerKept s layer (broughtOut s layer m o .memory)) (broughtOut s layer m o .output)
   unfolding leaves
@@ -142,8 +139,8 @@ module _ (s : State) (layer : List Float) (m : Memory) (o : Output) (e : layerAn
   refused-left = rw (ne-eqb (layerAnswer s layer m (roomIn m o) .number) 0 e)
 
 -- a layer that is taken is one of the box's
-pub advances : {s : State} {layer : List Float} {m : Memory} {o : Output} → Roomy s layer m o → Fits w32 (s .taken + 1)
+pub advances : {s : State} {layer : List Float} {m : Memory} {o : Output} → Roomy s layer m o → s .taken < 4294967295
 advances {s} r =
     let f = box-fits (point (s .block .dims)) (boxOf (s .block)) (r .ready .offered .box) in
     let d = small (point (s .block .dims)) (r .ready .offered .dims) in
-    record { fits = omega (arith, r .ready .more) }
+    omega (arith, r .ready .more)

@@ -93,11 +93,9 @@ fn count_below(s: State, layer: &[f32], distances: &[f32]) -> Tally
     let k = s.block;
     let t = taken - 1;
     let plane = layer.len();
-    let at = keeping::half(plane, t);
-    let end = at + plane;
     count::count_layer(
         32,
-        &distances[at..end],
+        keeping::kept_distances(distances, plane, t),
         layer,
         &[],
         &[],

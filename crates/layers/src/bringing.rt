@@ -60,7 +60,7 @@ fn mark_kept(
     let next = Next { place: 0, number };
     layer_vertices::mark_layer(
         32,
-        &distances[at..end],
+        keeping::kept_distances(distances, plane, t),
         layer,
         &[],
         &[],
@@ -106,14 +106,10 @@ fn face_kept(
     let taken = s.taken;
     let t = taken - 1;
     let plane = layer.len();
-    let at = keeping::half(plane, t);
-    let end = at + plane;
-    let under = keeping::half(plane, taken);
-    let under_end = under + plane;
     let last = 3 * count;
     layer_faces::face_layer(
         32,
-        &distances[at..end],
+        keeping::kept_distances(distances, plane, t),
         layer,
         &[],
         &[],
@@ -123,9 +119,9 @@ fn face_kept(
         k.low.z + t,
         first,
         &cells[..last],
-        &map[at..end],
+        keeping::kept_map(map, plane, t),
         &positions[..last],
-        &map[under..under_end],
+        keeping::kept_map(map, plane, taken),
         kept,
         indices,
         0,

@@ -1,7 +1,7 @@
 // What is kept of a layer: its distances, its half of the map, and the positions of the vertices that it brought out.
 ghost use mathlib.Core.Path.{_≡_};
 ghost use Prim.Native.Nat.{_+_, _*_, _%_, _≤_};
-ghost use lib.ListN.{length};
+ghost use lib.ListN.{length, take, drop};
 ghost use lib.Seq.{sets};
 ghost use Rattle.layers.specs.Memory.{plane, putHalf};
 ghost use Rattle.layers.specs.Offer.{cleared};
@@ -27,6 +27,25 @@ pub(crate) fn half(plane: usize, t: u32) -> usize
         return 0;
     }
     plane
+}
+
+// The numbers of the layer number t in such a list.
+pub(crate) fn kept_distances(list: &[f32], plane: usize, t: u32) -> &[f32]
+    requires { ⌜ (2 * plane ≤ length (now list)) × (plane ≤ 1073741824) ⌝ }
+    ensures { λ r. ⌜ now r ≡ take plane (drop (plane * (t % 2)) (now (list .entry))) ⌝ }
+{
+    let at = half(plane, t);
+    let end = at + plane;
+    &list[at..end]
+}
+
+pub(crate) fn kept_map(list: &[u32], plane: usize, t: u32) -> &[u32]
+    requires { ⌜ (2 * plane ≤ length (now list)) × (plane ≤ 1073741824) ⌝ }
+    ensures { λ r. ⌜ now r ≡ take plane (drop (plane * (t % 2)) (now (list .entry))) ⌝ }
+{
+    let at = half(plane, t);
+    let end = at + plane;
+    &list[at..end]
 }
 
 // The layer offered, into its half of the kept distances, and its half of the map, where no point has a vertex yet.

@@ -6,8 +6,9 @@ pub(crate) mod keeping;
 pub mod words;
 
 ghost use mathlib.Core.Path.{_≡_};
+ghost use Prim.Native.Nat.{_≤_, _<_};
 ghost use Rattle.judge.specs.AsRules.{answerOf};
-ghost use Rattle.layers.specs.Offer.{begun, left, roomIn, layerAnswer, stateAfter, leaves};
+ghost use Rattle.layers.specs.Offer.{begun, left, roomIn, layerAnswer, runsOn, advanced, stateAfter, leaves};
 ghost use Rattle.layers.specs.Lent.{memoryBefore, memoryAfter, outputBefore, outputAfter};
 use grid::Block;
 use judge::Answer;
@@ -36,6 +37,21 @@ pub fn begin(k: Block) -> State
         taken: 0,
         next: 0,
         first: 0,
+    }
+}
+
+// The state after a layer that brings out so many vertices.
+fn advance(s: State, count: u64) -> State
+    requires { ⌜ (count ≤ 1073741824) × (s .taken < 4294967295) ⌝ }
+    ensures { λ r. ⌜ r ≡ advanced s (runsOn (s .next) count) count ⌝ }
+{
+    let block = s.block;
+    let first = bringing::first_number(s.next, count as usize);
+    State {
+        block,
+        taken: s.taken + 1,
+        next: first + (count as u32),
+        first,
     }
 }
 
@@ -76,11 +92,10 @@ pub fn offer(
             state: s,
         };
     }
-    let count = a.vertex_count as usize;
-    let first = bringing::first_number(s.next, count);
+    let state = advance(s, a.vertex_count);
     bringing::bring_out(
         s,
-        first,
+        state.first,
         layer,
         distances,
         map,
@@ -93,14 +108,5 @@ pub fn offer(
         indices,
     );
     keeping::keep_layer(s, layer, distances, map);
-    let block = s.block;
-    Offered {
-        answer: a,
-        state: State {
-            block,
-            taken: s.taken + 1,
-            next: first + (count as u32),
-            first,
-        },
-    }
+    Offered { answer: a, state }
 }

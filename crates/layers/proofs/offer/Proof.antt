@@ -1,15 +1,16 @@
 -- A refusal leaves everything; otherwise the layer brings out its cells and is kept. Assumes nothing.
-use Prim.Native.Nat.{ℕ, _+_, _≤_}
+use Prim.Native.Nat.{ℕ, _≤_}
 use mathlib.Core.Path.{_≡_, refl, sym, ap, _∙_}
+use native.Mathlib.Nat.{le-trans, le-of-eq}
 use native.Mathlib.Omega.{arith}
 use lib.ListN.{length}
 use Rattle.rules.specs.Call.{Answer}
+use Rattle.layers.specs.declared.State.{State}
 use Rattle.layers.specs.Memory.{Memory, memory}
 use Rattle.layers.specs.Offer.{Output, output, roomIn, layerAnswer, newVertices, newFirst, runsOn}
 use Rattle.layers.specs.Ready.{Roomy}
-use Rattle.layers.proofs.Cells.{vertices-few, plane-small, runs-short}
+use Rattle.layers.proofs.Cells.{vertices-few, plane-small}
 use Rattle.layers.proofs.Left.{done-roomy, done-vertices, state-next, refused-state, refused-left, kept-whole, advances}
-use borrow.Author.Needs.{needs}
 use Rattle.layers.proofs.offer.Statement.{statement}
 use Rattle.layers.proofs.offer.Tie as tie
 
@@ -24,14 +25,14 @@ output-of s = let a = s .args in output (a .positions .now) (a .normals .now) (a
 abbrev entry-of : tie.After-layer-answer → tie.Start
 entry-of c = (c .before .before .before .before .before .before .before .before .before .before .before .before .before .before)
 
-abbrev numbered-of : tie.After-bring-out → tie.After-first-number
-numbered-of c = (c .before .before .before .before .before .before .before .before .before .before)
+abbrev advanced-of : tie.After-bring-out → tie.After-advance
+advanced-of c = c .before .before .before .before .before .before .before .before .before .before
 
 abbrev brought-of : tie.After-keep-layer → tie.After-bring-out
-brought-of c = (c .before .before .before .before .before .before .before .before .before .before .before .before .before .before .before .before .before .before .before)
+brought-of c = c .before .before .before .before .before .before .before .before .before .before .before .before .before .before .before .before .before .before .before
 
-abbrev kept-of : tie.After-struct-known → tie.After-keep-layer
-kept-of c = c .before .before .before .before .before .before
+abbrev kept-of : tie.After-slice-known19 → tie.After-keep-layer
+kept-of c = c .before .before .before .before
 
 -- ---- what the answer says
 
@@ -59,13 +60,13 @@ count c =
 small : (c : tie.Else1) → c .before .layer-answer .result .«vertex_count» ≤ 1073741824
 small c = let v = vertices-few (roomy c .ready) in let p = plane-small (roomy c .ready) in omega (arith, count c)
 
-first : (c : tie.After-first-number) → let a = entry-of (c .before .before) .args in c .first-number .result ≡ newFirst (a .s) (a .layer .now) (a .distances .now)
-first c = c .first-number .ensures ∙ ap (runsOn (entry-of (c .before .before) .args .s .next)) (count (c .before))
+first : (c : tie.After-advance) → let a = entry-of (c .before .before) .args in c .advance .result .first ≡ newFirst (a .s) (a .layer .now) (a .distances .now)
+first c = ap (λ (t : State). t .first) (c .advance .ensures) ∙ ap (runsOn (entry-of (c .before .before) .args .s .next)) (count (c .before))
 
 -- ---- the needs
 
 layer-answer-requires : tie.Need-layer-answer-requires
-layer-answer-requires c κs = search needs
+layer-answer-requires c κs = tt
 
 same-length : tie.Need-same-length
 same-length c = refl
@@ -84,29 +85,17 @@ returns c =
     let n = refused c in
     (p .layer-answer .ensures, (sym (refused-state (a .s) (a .layer .now) (memory-of s) (output-of s) n), sym (refused-left (a .s) (a .layer .now) (memory-of s) (output-of s) n)))
 
-first-number-requires : tie.Need-first-number-requires
-first-number-requires c κs = small c
+advance-requires : tie.Need-advance-requires
+advance-requires c κs = (small c, advances (roomy c))
 
 bring-out-requires : tie.Need-bring-out-requires
-bring-out-requires c κs = let f = (c .before .before .before .before .before .before .before .before .before) in (roomy (f .before), first f)
+bring-out-requires c κs = let f = c .before .before .before .before .before .before .before .before .before in (roomy (f .before), first f)
 
 keep-layer-requires : tie.Need-keep-layer-requires
-keep-layer-requires c κs = let r = roomy
-    (numbered-of (c .before .before .before .before .before .before .before .before .before .before .before .before .before .before .before .before .before .before) .before) in
-    (r .ready, omega (arith, r .map))
-
-add-t55 : tie.Need-add-t55
-add-t55 c = advances (roomy (numbered-of (brought-of (c .before .before .before .before .before .before)) .before))
-
-cast-t56 : tie.Need-cast-t56
-cast-t56 c = let h = small (numbered-of (brought-of (c .before .before .before .before .before .before)) .before) in record { fits = omega arith }
-
-add-t57 : tie.Need-add-t57
-add-t57 c =
-    let f = numbered-of (brought-of (c .before .before .before .before .before .before)) in
-    let h = small (f .before) in
-    let r = runs-short (entry-of (f .before .before) .args .s .next) (f .before .before .layer-answer .result .«vertex_count») (omega arith) in
-    record { fits = omega (arith, f .first-number .ensures) }
+keep-layer-requires c κs =
+    let b = c .before .before .before .before .before .before .before .before .before .before .before .before .before .before .before .before .before .before in
+    let r = roomy (advanced-of b .before) in
+    (r .ready, le-trans (r .map) (le-of-eq (sym (b .bring-out .kept .1 .1 .1 .1 .0))))
 
 same-length-4 : tie.Need-same-length-4
 same-length-4 c = kept-of c .keep-layer .kept .1 .1 .0
@@ -137,16 +126,16 @@ same-length-12 c = brought-of (kept-of c) .bring-out .kept .1 .1 .1 .1 .1 .1 .1 
 
 returns-2 : tie.Need-returns-2
 returns-2 c =
-    let k = (c .before .before .before .before .before .before) in
+    let k = kept-of c in
     let b = brought-of k in
-    let f = numbered-of b in
+    let f = advanced-of b in
     let q = f .before in
     let s = entry-of (q .before) in
     let a = s .args in
     let d = done q in (
       q .before .layer-answer .ensures,
       (
-        state-next (a .s) (a .layer .now) (memory-of s) (output-of s) d (first f) (count q),
+        state-next (a .s) (a .layer .now) (memory-of s) (output-of s) d (q .before .layer-answer .result .«vertex_count») (f .advance .ensures) (count q),
         kept-whole (a .s) (a .layer .now) (memory-of s) (output-of s) d (b .bring-out .ensures) (k .keep-layer .ensures .0) (k .keep-layer .ensures .1),
       ),
     )
@@ -160,12 +149,9 @@ offer-spec =
     same-length-2
     same-length-3
     returns
-    first-number-requires
+    advance-requires
     bring-out-requires
     keep-layer-requires
-    add-t55
-    cast-t56
-    add-t57
     same-length-4
     same-length-5
     same-length-6

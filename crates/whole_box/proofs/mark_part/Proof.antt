@@ -70,7 +70,8 @@ parts c =
     let s = entry-of p in
     let a = s .args in
     lent-parts (a .width) (a .sdf .now) (a .sdf16 .now) (a .sdf8 .now) (a .k) (s .pre .0) (a .z) (s .pre .1 .0) (p .before .places-of .ensures) (p .places-of2 .ensures)
-    (c .before .before .before .before .before .floats .ensures) (c .before .before .before .before .floats2 .ensures) (c .before .before .before .sixteens .ensures) (c .before .before .sixteens2 .ensures) (c .before .eights .ensures) (c .eights2 .ensures)
+    (c .before .before .before .before .before .floats .ensures) (c .before .before .before .before .floats2 .ensures)
+    (c .before .before .before .sixteens .ensures) (c .before .before .sixteens2 .ensures) (c .before .eights .ensures) (c .eights2 .ensures)
 
 -- ---- the needs
 

@@ -1,10 +1,8 @@
 -- No cells below the first layer; below any other those between its kept layer and itself. Assumes nothing.
-use native.Mathlib.Nat.{le-trans}
 use mathlib.Core.List.{List}
-use mathlib.Core.Path.{refl, sym, ap, subst, _∙_}
+use mathlib.Core.Path.{_≡_, refl, sym, ap, subst, _∙_}
 use native.Mathlib.Omega.{arith}
 use lib.Ieee.{Float}
-use lib.ListN.{length}
 use Rattle.rules.specs.Grid.{GridPoint}
 use Rattle.rules.specs.Vertices.{layerCells}
 use Rattle.grid.specs.Block.{boxOf, flagsOf}
@@ -13,21 +11,22 @@ use Rattle.grid.specs.Values.{gridOf}
 use Rattle.count.specs.Tally.{tallyOf}
 use Rattle.count.proofs.Tallies.{none-counted}
 use Rattle.layers.specs.Offer.{before, cellsAt, between}
-use Rattle.layers.proofs.Cells.{cells-first, cells-later, in-layers, half-read, Within, within-half, cells-word}
+use Rattle.layers.specs.Memory.{halfOf}
+use Rattle.layers.proofs.Cells.{cells-first, cells-later, in-layers, kept-read, two-layers, cells-word}
 use borrow.Author.Needs.{needs}
 use Rattle.layers.proofs.answers.count_below.Statement.{statement}
 use Rattle.layers.proofs.answers.count_below.Tie as tie
 
 -- ---- the places that a later one leads back to
 
-abbrev entry-of : tie.After-half → tie.Start
+abbrev entry-of : tie.After-kept-distances → tie.Start
 entry-of c = c .before .before .before .before .before
 
-abbrev half-of : tie.After-struct-known → tie.After-half
-half-of c = c .before .before .before .before .before .before
+abbrev lower-of : tie.After-struct-known → tie.After-kept-distances
+lower-of c = c .before .before .before .before .before
 
-ends : (c : tie.After-half) → Within (entry-of c .args .s .block) (c .half .result) (length (entry-of c .args .layer .now))
-ends c = let s = entry-of c in within-half (s .pre) (before (s .args .s)) (c .half .ensures)
+lower-is : (d : tie.After-kept-distances) → let a = entry-of d .args in d .kept-distances .result .now ≡ halfOf (a .s .block) (before (a .s)) (a .distances .now)
+lower-is d = let s = entry-of d in let a = s .args in kept-read (a .s .block) (before (a .s)) (a .distances .now) (s .pre .offered .long) (d .kept-distances .ensures)
 
 -- ---- the needs
 
@@ -40,23 +39,8 @@ returns c =
 sub-t : tie.Need-sub-t
 sub-t c = search needs
 
-half-requires : tie.Need-half-requires
-half-requires c κs = tt
-
-add-end : tie.Need-add-end
-add-end c = ends c .end-fits
-
-mul-count-layer : tie.Need-mul-count-layer
-mul-count-layer c = ends c .bytes-fit
-
-sub-count-layer : tie.Need-sub-count-layer
-sub-count-layer c = ends c .ordered
-
-part-count-layer-start : tie.Need-part-count-layer-start
-part-count-layer-start c = ends c .ordered
-
-part-count-layer-end : tie.Need-part-count-layer-end
-part-count-layer-end c = le-trans (ends c .inside) (entry-of c .pre .kept)
+kept-distances-requires : tie.Need-kept-distances-requires
+kept-distances-requires c κs = let r = (c .before .before .before .before) .pre in two-layers r (r .kept)
 
 slice-aggregate-count-layer : tie.Need-slice-aggregate-count-layer
 slice-aggregate-count-layer c = refl
@@ -71,29 +55,27 @@ slice-aggregate-count-layer-4 : tie.Need-slice-aggregate-count-layer-4
 slice-aggregate-count-layer-4 c = refl
 
 add-count-layer : tie.Need-add-count-layer
-add-count-layer c = cells-word (entry-of (half-of c) .pre)
+add-count-layer c = cells-word (entry-of (lower-of c) .pre)
 
 count-layer-requires : tie.Need-count-layer-requires
 unfolding gridOf
 count-layer-requires c κs =
-    let h = half-of c in
-    let s = entry-of h in
+    let d = lower-of c in
+    let s = entry-of d in
     let a = s .args in
-    let e = half-read (a .s .block) (before (a .s)) (a .distances .now) (s .pre .offered .long) (h .half .ensures) in
-    let no = h .before .before .if1 .left in
-    subst (λ (lower : List Float). InLayers lower (a .layer .now) (a .s .block) (cellsAt (a .s))) (sym e) (in-layers (s .pre) (omega arith))
+    let no = d .before .before .if1 .left in
+    subst (λ (lower : List Float). InLayers lower (a .layer .now) (a .s .block) (cellsAt (a .s))) (sym (lower-is d)) (in-layers (s .pre) (omega arith))
 
 returns-2 : tie.Need-returns-2
 unfolding gridOf
 returns-2 c =
-    let h = half-of (c .before) in
-    let s = entry-of h in
+    let d = lower-of (c .before) in
+    let s = entry-of d in
     let a = s .args in
     let k = a .s .block in
-    let e = half-read k (before (a .s)) (a .distances .now) (s .pre .offered .long) (h .half .ensures) in
-    let no = h .before .before .if1 .left in
+    let no = d .before .before .if1 .left in
     c .count-layer .ensures
-    ∙ ap (λ (lower : List Float). tallyOf (twoLayers lower (a .layer .now) k (cellsAt (a .s))) (boxOf k) (flagsOf k) (layerCells (boxOf k) (cellsAt (a .s)))) e
+    ∙ ap (λ (lower : List Float). tallyOf (twoLayers lower (a .layer .now) k (cellsAt (a .s))) (boxOf k) (flagsOf k) (layerCells (boxOf k) (cellsAt (a .s)))) (lower-is d)
     ∙ ap (tallyOf (between (a .s) (a .layer .now) (a .distances .now)) (boxOf k) (flagsOf k)) (sym (cells-later (a .s) (omega arith)))
 
 pub count-below-spec : {M : Type 1} → statement M
@@ -102,12 +84,7 @@ count-below-spec =
     (tie.spec
     returns
     sub-t
-    half-requires
-    add-end
-    mul-count-layer
-    sub-count-layer
-    part-count-layer-start
-    part-count-layer-end
+    kept-distances-requires
     slice-aggregate-count-layer
     slice-aggregate-count-layer-2
     slice-aggregate-count-layer-3

@@ -1,9 +1,10 @@
 -- The half holds the layer, and its half of the map no vertex. Assumes nothing.
-use Prim.Native.Nat.{ℕ}
+use Prim.Native.Nat.{ℕ, _*_}
 use native.Mathlib.Nat.{le-trans}
 use mathlib.Core.Path.{ap, _∙_}
 use lib.ListN.{length}
 use lib.Seq.{sets}
+use Rattle.layers.specs.Memory.{plane}
 use Rattle.layers.proofs.Cells.{Within, within-half, half-is}
 use Rattle.layers.proofs.Brought.{part-lent, cleared-put}
 use borrow.Author.Needs.{needs}
@@ -15,7 +16,7 @@ use Rattle.layers.proofs.keeping.keep_layer.Tie as tie
 abbrev entry-of : tie.After-half → tie.Start
 entry-of c = c .before .before .before .before
 
-ends : (c : tie.After-half) → Within (entry-of c .args .s .block) (c .half .result) (length (entry-of c .args .layer .now))
+ends : (c : tie.After-half) → Within (2 * plane (entry-of c .args .s .block)) (c .half .result) (length (entry-of c .args .layer .now))
 ends c = let s = entry-of c in within-half (s .pre .0) (s .args .s .taken) (c .half .ensures)
 
 -- ---- the needs

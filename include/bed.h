@@ -336,6 +336,54 @@ uint32_t bed_is_enclosed_i8(
     const struct bed_box *box,
     bool *enclosed);
 
+/* What the test for holes of one layer answers. The conditions are tried in this order, and the first that holds
+ * answers: 1, 2, 77, 3. */
+enum bed_enclosed_layer_answer {
+    /* The test was made. */
+    BED_ENCLOSED_LAYER_DONE = 0,
+    /* A dimension is 0 or above 16,777,217, or the product of the three is above 1,073,741,824. */
+    BED_ENCLOSED_LAYER_DIMENSIONS = 1,
+    /* Min is above max on an axis, or max is not below its dimension. */
+    BED_ENCLOSED_LAYER_BOX = 2,
+    /* z is below min[2] or above max[2]. */
+    BED_ENCLOSED_LAYER_HEIGHT = 77,
+    /* The layer's length is not dims[0] * dims[1]. */
+    BED_ENCLOSED_LAYER_LENGTH = 3
+};
+
+/* bed_is_enclosed layer by layer, for who cannot hold the grid: whether every point of the box in the layer z with a
+ * distance below zero lies from min + 1 to max - 2 on each axis.
+ *
+ * In:
+ *   layer            the layer z of the grid, exactly dims[0] * dims[1] distances, x innermost. Only those of the box
+ *                    are read.
+ *   box              dimensions of the grid, min and max. max_plane is not read.
+ *   z                from min[2] to max[2].
+ *
+ * Out, on every answer:
+ *   enclosed         the test's outcome on BED_ENCLOSED_LAYER_DONE, false on every other answer.
+ *
+ * Proved: of a grid that bed_is_enclosed does not refuse it says yes exactly if this function says yes of every layer from
+ * min[2] to max[2]. Then what bed_layers_offer brings out of all of them has no hole either.
+ *
+ * enclosed and box are never null, and enclosed may not overlap the others; it points to a bool that holds false or
+ * true, whichever. layer may be null only where its length is 0.
+ */
+uint32_t bed_is_enclosed_layer(
+    const float *layer, size_t layer_len,
+    const struct bed_box *box, uint32_t z,
+    bool *enclosed);
+
+uint32_t bed_is_enclosed_layer_i16(
+    const int16_t *layer, size_t layer_len,
+    const struct bed_box *box, uint32_t z,
+    bool *enclosed);
+
+uint32_t bed_is_enclosed_layer_i8(
+    const int8_t *layer, size_t layer_len,
+    const struct bed_box *box, uint32_t z,
+    bool *enclosed);
+
 /* What closing a grid, or a layer, answers. The conditions are tried in this order, and the first that holds
  * answers: 1, 71, 3, 72, 73, 74. BED_CLOSE_HEIGHT is of a layer alone. */
 enum bed_close_answer {

@@ -280,6 +280,7 @@ def _signatures():
         all_of["bed_surface_nets" + ending] = asked + _lists(*vertices, _NUMBER, _NUMBER) + counts
         all_of["bed_answer" + ending] = asked + [_COUNT] * 7 + counts
         all_of["bed_is_enclosed" + ending] = asked + _out(_FLAG)
+        all_of["bed_is_enclosed_layer" + ending] = _lists(kind) + block + [_NUMBER] + _out(_FLAG)
     return all_of
 
 
@@ -470,6 +471,16 @@ def is_enclosed(distances, dims=None, min=(0, 0, 0), max=None):
     grid, dims, ending = _grid(distances, dims)
     enclosed = _FLAG()
     _done(_call("bed_is_enclosed" + ending, *_lent(grid), _bed_box(dims, *_box(dims, min, max)), ctypes.byref(enclosed)))
+    return enclosed.value
+
+
+def is_enclosed_layer(layer, dims, z, min=(0, 0, 0), max=None):
+    """is_enclosed of one layer of the grid, the layer z: a grid is enclosed exactly if each layer of the box is."""
+    dims, z = _three("dims", dims), _whole("z", z)
+    low, high = _box(dims, min, max)
+    numbers, _, ending = _grid(layer, dims)
+    enclosed = _FLAG()
+    _done(_call("bed_is_enclosed_layer" + ending, *_lent(numbers), _bed_box(dims, low, high), builtins.min(z, _LARGEST), ctypes.byref(enclosed)))
     return enclosed.value
 
 

@@ -23,14 +23,15 @@ impl WholeDistance for i8 {}
 /// Public for the trait above and not reachable from outside: so it is sealed.
 pub(crate) mod functions {
     use crate::raw::{
-        self, Answer, Close, CloseLayer, CutLayerInto, Deepest, IsEnclosed, Levels, LevelsLayer,
-        SurfaceNets, Tally, TallyLayer,
+        self, Answer, Close, CloseLayer, CutLayerInto, Deepest, IsEnclosed, IsEnclosedLayer, Levels,
+        LevelsLayer, SurfaceNets, Tally, TallyLayer,
     };
 
     /// The library's functions over a kind of distance.
     pub trait Functions: Sized {
         const SURFACE_NETS: SurfaceNets<Self>;
         const IS_ENCLOSED: IsEnclosed<Self>;
+        const IS_ENCLOSED_LAYER: IsEnclosedLayer<Self>;
         const ANSWER: Answer<Self>;
         const CLOSE: Close<Self>;
         const CLOSE_LAYER: CloseLayer<Self>;
@@ -57,6 +58,7 @@ pub(crate) mod functions {
     impl Functions for f32 {
         const SURFACE_NETS: SurfaceNets<Self> = raw::bed_surface_nets;
         const IS_ENCLOSED: IsEnclosed<Self> = raw::bed_is_enclosed;
+        const IS_ENCLOSED_LAYER: IsEnclosedLayer<Self> = raw::bed_is_enclosed_layer;
         const ANSWER: Answer<Self> = raw::bed_answer;
         const CLOSE: Close<Self> = raw::bed_close;
         const CLOSE_LAYER: CloseLayer<Self> = raw::bed_close_layer;
@@ -70,6 +72,7 @@ pub(crate) mod functions {
     impl Functions for i16 {
         const SURFACE_NETS: SurfaceNets<Self> = raw::bed_surface_nets_i16;
         const IS_ENCLOSED: IsEnclosed<Self> = raw::bed_is_enclosed_i16;
+        const IS_ENCLOSED_LAYER: IsEnclosedLayer<Self> = raw::bed_is_enclosed_layer_i16;
         const ANSWER: Answer<Self> = raw::bed_answer_i16;
         const CLOSE: Close<Self> = raw::bed_close_i16;
         const CLOSE_LAYER: CloseLayer<Self> = raw::bed_close_layer_i16;
@@ -83,6 +86,7 @@ pub(crate) mod functions {
     impl Functions for i8 {
         const SURFACE_NETS: SurfaceNets<Self> = raw::bed_surface_nets_i8;
         const IS_ENCLOSED: IsEnclosed<Self> = raw::bed_is_enclosed_i8;
+        const IS_ENCLOSED_LAYER: IsEnclosedLayer<Self> = raw::bed_is_enclosed_layer_i8;
         const ANSWER: Answer<Self> = raw::bed_answer_i8;
         const CLOSE: Close<Self> = raw::bed_close_i8;
         const CLOSE_LAYER: CloseLayer<Self> = raw::bed_close_layer_i8;

@@ -260,6 +260,45 @@ extern "C" {
         enclosed: *mut bool,
     ) -> u32;
 
+    /// [`bed_is_enclosed`] of one layer of X·Y distances, the layer `z` of the box, and returns the answer number, 0 to 3 or 77.
+    ///
+    /// # Safety
+    ///
+    /// As for [`bed_is_enclosed`]; `block` points to one, of which the max plane is not read.
+    pub fn bed_is_enclosed_layer(
+        layer: *const f32,
+        layer_len: usize,
+        block: *const BedBox,
+        z: u32,
+        enclosed: *mut bool,
+    ) -> u32;
+
+    /// [`bed_is_enclosed_layer`] over signed 16-bit distances.
+    ///
+    /// # Safety
+    ///
+    /// As for [`bed_is_enclosed_layer`].
+    pub fn bed_is_enclosed_layer_i16(
+        layer: *const i16,
+        layer_len: usize,
+        block: *const BedBox,
+        z: u32,
+        enclosed: *mut bool,
+    ) -> u32;
+
+    /// [`bed_is_enclosed_layer`] over signed 8-bit distances.
+    ///
+    /// # Safety
+    ///
+    /// As for [`bed_is_enclosed_layer`].
+    pub fn bed_is_enclosed_layer_i8(
+        layer: *const i8,
+        layer_len: usize,
+        block: *const BedBox,
+        z: u32,
+        enclosed: *mut bool,
+    ) -> u32;
+
     /// Checks a list of blocks against a whole and returns the answer number: 0, 41 or 42.
     ///
     /// # Safety
@@ -818,6 +857,10 @@ pub type Answer<D> = unsafe extern "C" fn(
 
 /// The type of [`bed_is_enclosed`], and of the same function over other distances.
 pub type IsEnclosed<D> = unsafe extern "C" fn(*const D, usize, *const BedBox, *mut bool) -> u32;
+
+/// The type of [`bed_is_enclosed_layer`], and of the same function over other distances.
+pub type IsEnclosedLayer<D> =
+    unsafe extern "C" fn(*const D, usize, *const BedBox, u32, *mut bool) -> u32;
 
 /// The type of [`bed_close`], and of the same function over other distances.
 pub type Close<D> =

@@ -10,7 +10,7 @@ use Rattle.grid.specs.declared.Extent.{Extent}
 use Rattle.grid.specs.declared.Block.{Block}
 use Rattle.grid.specs.Block.{point, callOf}
 use Rattle.skin.specs.declared.Enclosed.{Enclosed}
-use Rattle.skin.specs.Scan.{examined}
+use Rattle.skin.specs.Scan.{examined, examinedLayer}
 use Rattle.levels.specs.Call.{boxFrom, levelsAnswer, levelsAfter, layerAnswer, layerAfter}
 use Rattle.closing.specs.Answers.{closeAnswer, closedRoom, layerAnswer as closedAnswer, layerRoom}
 use Rattle.fixtures.specs.Cut.{cutAnswer, cutGrid}
@@ -28,6 +28,9 @@ Meshed grid lent says left k = Answered grid (room lent) says k × (left ≡ aft
 
 abbrev pub Examined : List Float → Enclosed → Block → Type 0
 Examined grid says k = says ≡ examined grid (k .dims) (k .low) (k .high)
+
+abbrev pub LayerExamined : List Float → ℕ → Enclosed → Block → Type 0
+LayerExamined layer z says k = says ≡ examinedLayer layer (k .dims) (k .low) (k .high) z
 
 abbrev pub Levelled : List Float → List Float → ℕ → List Float → Block → Type 0
 Levelled grid old number left k =

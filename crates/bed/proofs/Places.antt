@@ -13,7 +13,7 @@ use Rattle.rules.specs.Call.{Room, Answer, answer, room}
 use Rattle.grid.specs.Block.{point}
 use Rattle.grid.specs.Values.{asFloats}
 use Rattle.whole_box.specs.LentLists.{buffersGiven}
-use Rattle.skin.specs.Scan.{answers, examined}
+use Rattle.skin.specs.Scan.{answers, examined, examinedLayer}
 use Rattle.mesh_file.specs.Mesh.{Mesh, mesh, Held}
 use Rattle.mesh_file.specs.Writing.{writing, written}
 use Rattle.mesh_file.specs.Reading.{Bytes, readOf, checked, readingIn, filledIn}
@@ -53,6 +53,12 @@ use Rattle.bed.proofs.enclosed.bed_is_enclosed_i16.Kinds as enclosed-i1
 use Rattle.bed.proofs.enclosed.bed_is_enclosed_i16.Reads as enclosed-i16
 use Rattle.bed.proofs.enclosed.bed_is_enclosed_i8.Kinds as enclosed-i8-kinds
 use Rattle.bed.proofs.enclosed.bed_is_enclosed_i8.Reads as enclosed-i8
+use Rattle.bed.proofs.enclosed.bed_is_enclosed_layer.Kinds as enclosed-layer-kinds
+use Rattle.bed.proofs.enclosed.bed_is_enclosed_layer.Reads as enclosed-layer
+use Rattle.bed.proofs.enclosed.bed_is_enclosed_layer_i16.Kinds as enclosed-layer-i16-kinds
+use Rattle.bed.proofs.enclosed.bed_is_enclosed_layer_i16.Reads as enclosed-layer-i16
+use Rattle.bed.proofs.enclosed.bed_is_enclosed_layer_i8.Kinds as enclosed-layer-i8-kinds
+use Rattle.bed.proofs.enclosed.bed_is_enclosed_layer_i8.Reads as enclosed-layer-i8
 use Rattle.bed.proofs.files.bed_write_mesh.Kinds as write-kinds
 use Rattle.bed.proofs.files.bed_write_mesh.Reads as write
 use Rattle.bed.proofs.files.bed_write_record.Kinds as record-kinds
@@ -239,6 +245,33 @@ is-enclosed-i16-by-place u = u .fits
 pub is-enclosed-i8-by-place : (u : EnclosedCall8)
     → (let (sdf, (words, _)) = u .args in let (_, (_, (yes', _))) = u .last in ExaminedOf (asFloats (sdf .now)) (words .now) (u .result) yes')
 is-enclosed-i8-by-place u = u .fits
+
+-- ---- bed_is_enclosed_layer, bed_is_enclosed_layer_i16, bed_is_enclosed_layer_i8: the layer, the twelve words, z, the yes or no
+
+abbrev pub EnclosedLayerCall : Type 0
+EnclosedLayerCall = Called 3 enclosed-layer-kinds.ps enclosed-layer-kinds.r enclosed-layer.Learnt
+
+abbrev pub EnclosedLayerCall16 : Type 0
+EnclosedLayerCall16 = Called 3 enclosed-layer-i16-kinds.ps enclosed-layer-i16-kinds.r enclosed-layer-i16.Learnt
+
+abbrev pub EnclosedLayerCall8 : Type 0
+EnclosedLayerCall8 = Called 3 enclosed-layer-i8-kinds.ps enclosed-layer-i8-kinds.r enclosed-layer-i8.Learnt
+
+abbrev pub LayerExaminedOf : List Float → List ℕ → ℕ → ℕ → Bool → Type 0
+LayerExaminedOf layer words z number yes' =
+    answers number yes' ≡ examinedLayer layer (words12.dimsAsked words) (words12.lowAsked words) (words12.highAsked words) z
+
+pub is-enclosed-layer-by-place : (u : EnclosedLayerCall)
+    → (let (layer, (words, (z, _))) = u .args in let (_, (_, (_, (yes', _)))) = u .last in LayerExaminedOf (layer .now) (words .now) z (u .result) yes')
+is-enclosed-layer-by-place u = u .fits
+
+pub is-enclosed-layer-i16-by-place : (u : EnclosedLayerCall16)
+    → (let (layer, (words, (z, _))) = u .args in let (_, (_, (_, (yes', _)))) = u .last in LayerExaminedOf (asFloats (layer .now)) (words .now) z (u .result) yes')
+is-enclosed-layer-i16-by-place u = u .fits
+
+pub is-enclosed-layer-i8-by-place : (u : EnclosedLayerCall8)
+    → (let (layer, (words, (z, _))) = u .args in let (_, (_, (_, (yes', _)))) = u .last in LayerExaminedOf (asFloats (layer .now)) (words .now) z (u .result) yes')
+is-enclosed-layer-i8-by-place u = u .fits
 
 -- ---- bed_write_mesh: positions, normals, indices, the file, its number of bytes
 

@@ -17,8 +17,8 @@ const RECORD: u128 = 32;
 const PLY: [u128; 3] = [25, 13, 512];
 
 /// Bytes for each point of a layer, where a block is taken layer by layer: what the library keeps, the layer as bytes and as
-/// floats, the four that the test for holes is asked with, and the most that a layer brings out, with a quarter more.
-const LAYERED: u128 = 28 + 8 + 16 + (VERTEX + 18 * INDEX) * 5 / 4;
+/// floats, and the most that a layer brings out, with a quarter more.
+const LAYERED: u128 = 28 + 8 + (VERTEX + 18 * INDEX) * 5 / 4;
 
 /// What is in memory of a grid.
 #[derive(Clone, Copy)]

@@ -1,17 +1,14 @@
 //! The test for a skin without a hole, of a grid that comes layer by layer.
 //!
 //! The library's test asks that every point of the box below zero lies from min + 1 to max - 2 on each axis. A point lies in
-//! one layer, so that the layers can be asked one after the other, by the library's test of a smaller grid each: of the layer
-//! alone, which says whether it has a point below zero at all; and, where its z is inside, of the layer between others that
-//! have none. That the answers make up that of the whole grid is this command's claim.
+//! one layer, and the library tests one layer too: its answers for all layers of the box make up that for the grid, which is
+//! proved.
 
-use bed::{Block, Refusal};
+use bed::{Block, EnclosedRefusal};
 
 pub struct Enclosing {
     dims: [u32; 3],
     block: Block,
-    /// Four layers: one above zero, one to be asked, two above zero.
-    between: Vec<f32>,
     /// Whether the layers so far are as the test asks.
     pub enclosed: bool,
 }
@@ -21,38 +18,14 @@ impl Enclosing {
         Self {
             dims,
             block,
-            between: Vec::new(),
             enclosed: true,
         }
     }
 
-    pub fn add(&mut self, z: u32, layer: &[f32]) -> Result<(), Refusal> {
-        if self.enclosed {
-            let inside = self.block.min[2] < z && z.saturating_add(2) <= self.block.max[2];
-            self.enclosed = self.ask(layer, 1)? || inside && self.inside(layer)?;
-        }
-        Ok(())
-    }
-
-    /// Whether the layer's points below zero lie inside on x and y.
-    fn inside(&mut self, layer: &[f32]) -> Result<bool, Refusal> {
-        let mut between = std::mem::take(&mut self.between);
-        between.resize(4 * layer.len(), 1.0);
-        between[layer.len()..][..layer.len()].copy_from_slice(layer);
-        let answer = self.ask(&between, 4);
-        self.between = between;
-        answer
-    }
-
-    /// The library's test of a grid of so many layers, in all of them.
-    fn ask(&self, grid: &[f32], layers: u32) -> Result<bool, Refusal> {
+    pub fn add(&mut self, z: u32, layer: &[f32]) -> Result<(), EnclosedRefusal> {
         let Block { min, max, .. } = self.block;
-        bed::is_enclosed(
-            grid,
-            [self.dims[0], self.dims[1], layers],
-            [min[0], min[1], 0],
-            [max[0], max[1], layers - 1],
-        )
+        self.enclosed = self.enclosed && bed::is_enclosed_layer(layer, self.dims, min, max, z)?;
+        Ok(())
     }
 }
 

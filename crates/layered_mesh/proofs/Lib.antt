@@ -13,3 +13,4 @@ pub mod SoFar
 pub mod Untouched
 pub mod Instances
 pub mod Runs
+pub mod NoHole

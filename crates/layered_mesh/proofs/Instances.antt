@@ -2,21 +2,25 @@
 -- number that document 01 gives. Assumes nothing.
 use Prim.Native.Nat.{ℕ, zero, suc, _+_, _*_, _<_, _≤_}
 use native.Mathlib.Nat.{zero-add}
+use native.Mathlib.Omega.{arith}
 use mathlib.Core.Bool.{true, false}
-use mathlib.Core.List.{List, [], _∷_}
+use mathlib.Core.List.{List, [], _∷_, _++_}
 use mathlib.Core.Logic.{inl, inr}
 use mathlib.Core.Path.{_≡_, refl, sym, ap}
 use lib.Dec.{lit≤, lit<}
 use lib.Ieee.{Float}
-use lib.ListN.{getD, take, drop, replicate}
+use lib.ListN.{getD, drop, set, replicate}
 use Rattle.rules.specs.Cell.{one32}
 use Rattle.rules.specs.Call.{Buffers, answers, answer, room as roomIs}
-use Rattle.rules.proofs.Cases.{opened}
-use Rattle.lists.specs.Lists.{upTo}
+use Rattle.rules.proofs.Cases.{minusOne, opened}
+use Rattle.lists.specs.Lists.{many, upTo}
 use Rattle.grid.specs.declared.Block.{Block}
 use Rattle.grid.specs.Block.{callOf}
 use Rattle.grid.specs.Inside.{Inside}
 use Rattle.judge.proofs.Judging.{Enough}
+use Rattle.skin.specs.Links.{link, sameLink, links}
+use Rattle.skin.specs.Enclosed.{inner}
+use Rattle.skin.specs.Scan.{layerEnclosed, judgedLayer, examinedLayer, answers as enclosedAnswers}
 use Rattle.layers.specs.Memory.{memory, halfOf, startAnswer}
 use Rattle.layers.specs.Offer.{begun, Output, roomIn}
 use Rattle.layered_mesh.specs.Fed.{Offered, wrote, joinedWith, nothing, layerOf, Fed, started, taken}
@@ -24,6 +28,7 @@ use Rattle.layered_mesh.proofs.Cases.{extent, block, ball, flat, middle
 use Rattle.layered_mesh.proofs.Again.{offered-again}
 use Rattle.layered_mesh.proofs.Taken.{AsLong, InTurn, outAt, all-taken, all-out}
 use Rattle.layered_mesh.proofs.SoFar.{so-far-begins}
+use Rattle.layered_mesh.proofs.NoHole.{layers-no-hole}
 use Rattle.layered_mesh.proofs.Untouched.{rest-kept, map-beside-keeps}
 
 -- ---- offered again
@@ -138,3 +143,56 @@ beside = made (begun small) (replicate 12 one32) (memory (replicate 24 one32) (u
 pub small-beside : getD (halfOf small 0 (beside .after .memory .map)) 7 0 ≡ 107
 unfolding opened layersOpened
 small-beside = map-beside-keeps beside 7 (lit< tt) (λ t. t) 0
+
+-- ---- no hole
+
+-- one point below zero, (1, 1, 1) of 4 by 4 by 4, in four layers; the test says yes of each
+abbrev single : Block
+single = block (extent 4 4 4) (extent 3 3 3)
+
+abbrev around : List Float
+around = replicate 16 one32
+
+abbrev inside : List Float
+inside = set around 5 minusOne
+
+abbrev singleGrid : List Float
+singleGrid = around ++ (inside ++ (around ++ around))
+
+abbrev s0 : Offered
+s0 = made (begun single) around (memory (replicate 32 one32) (replicate 32 7) (replicate 48 one32)) (room 0 0)
+
+abbrev s1 : Offered
+s1 = made (s0 .next) inside (s0 .after .memory) (room 4 6)
+
+abbrev s2 : Offered
+s2 = made (s1 .next) around (s1 .after .memory) (room 4 30)
+
+abbrev s3 : Offered
+s3 = made (s2 .next) around (s2 .after .memory) (room 0 0)
+
+abbrev singleOut : Output
+singleOut = joinedWith (joinedWith (joinedWith (joinedWith nothing (wrote s0)) (wrote s1)) (wrote s2)) (wrote s3)
+
+single-fed : Fed singleGrid single 4 (s3 .next) (s3 .after .memory) singleOut
+unfolding opened layersOpened startAnswer
+single-fed =
+    taken (taken (taken (taken (started (memory (replicate 32 one32) (replicate 32 7) (replicate 48 one32)) refl) s0 refl refl refl refl) s1 refl refl refl refl) s2 refl refl refl refl) s3
+    refl refl refl refl
+
+single-inside : Inside singleGrid single
+unfolding opened
+single-inside = record { dims = tt; box = tt; size = tt }
+
+each-yes : (z : ℕ) → 0 ≤ z → z ≤ 3 → examinedLayer (layerOf singleGrid single z) (single .dims) (single .low) (single .high) z ≡ enclosedAnswers 0 true
+unfolding opened judgedLayer layerEnclosed inner
+each-yes zero l h = refl
+each-yes (suc zero) l h = refl
+each-yes (suc (suc zero)) l h = refl
+each-yes (suc (suc (suc zero))) l h = refl
+each-yes (suc (suc (suc (suc z)))) l h = absurd (omega arith)
+
+-- the side from 2 to 1 occurs once, and so the one from 1 to 2
+pub single-no-hole : many (sameLink (link 1 2)) (links (singleOut .indices)) ≡ 1
+unfolding opened layersOpened links
+single-no-hole = layers-no-hole singleGrid single single-inside single-fed refl each-yes 1 2

@@ -6,3 +6,4 @@ pub mod Applied
 pub mod Planned
 pub mod Bounded
 pub mod WholeNumbers
+pub mod Moved

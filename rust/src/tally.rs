@@ -85,13 +85,6 @@ impl CellCounts {
     }
 }
 
-fn block(dims: [u32; 3], min: [u32; 3], max: [u32; 3], max_plane: MaxPlane) -> BedBox {
-    BedBox {
-        max_plane: [max_plane.x, max_plane.y, max_plane.z].map(u32::from),
-        ..BedBox::with(dims, min, max)
-    }
-}
-
 /// Counts the cells of the box from `min` to `max` that lie wholly in the sludge, and V and I.
 ///
 /// ```
@@ -116,7 +109,7 @@ pub fn tally<D: Distance>(
         D::TALLY(
             sdf.as_ptr(),
             sdf.len(),
-            &block(dims, min, max, max_plane),
+            &BedBox::new(dims, min, max, max_plane),
             &mut counts,
         )
     };
@@ -144,7 +137,7 @@ pub fn tally_layer<D: Distance>(
             below.len(),
             layer.as_ptr(),
             layer.len(),
-            &block(dims, min, max, max_plane),
+            &BedBox::new(dims, min, max, max_plane),
             z,
             so_far,
         )

@@ -131,7 +131,8 @@ bed plan PLAN GRID
 bed plan --make X,Y,Z GRID [--max-plane xyz] [-o PLAN]
 
 Says whether the blocks are a plan of the whole: every edge that the whole owns is owned by exactly one block, and no
-block owns any other. And whether the mesher takes the whole and each block on the grid.
+block owns any other. Where they are not, the first edge that shows it is named, with the lines of the plan that own it: x edges before
+y before z edges, then by the lowest z, y and x. And whether the mesher takes the whole and each block on the grid.
 
 PLAN is a text: the whole on the first line, then a block a line, min, max and the letters of its max planes, as
   0 0 0 64 64 32 xz

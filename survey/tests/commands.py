@@ -49,6 +49,7 @@ def helps():
         expect(f"{command} in the help", f"bed {command} " in bed("--help")[1])
         expect(f"{command} --version", bed(command, "--version")[:2] == (0, version))
         expect(f"{command} -- --help", bed(command, "--", "--help")[0] == 2)
+    expect("what is said of no plan", "with the lines of the plan that own it" in bed("plan", "--help")[1])
 
 
 def uses():

@@ -1,7 +1,7 @@
 -- C and Rust call by place, and a contract goes by name: two parameters of one type that are exchanged in a signature leave every contract true. So
 -- the contract of each exported function is said once more by the places of its parameters, in the order of include/bed.h. Assumes nothing.
 use Prim.Native.Nat.{ℕ}
-use mathlib.Core.Path.{_≡_}
+use mathlib.Core.Path.{_≡_, sym, subst}
 use mathlib.Core.Bool.{Bool}
 use mathlib.Core.List.{List, [], _∷_}
 use lib.Ieee.{Float}
@@ -112,6 +112,7 @@ use Rattle.bed.proofs.levelled.bed_levels_layer_i16.Reads as levels-lay
 use Rattle.bed.proofs.levelled.bed_levels_layer_i8.Kinds as levels-layer-i8-kinds
 use Rattle.bed.proofs.levelled.bed_levels_layer_i8.Reads as levels-layer-i8
 use Rattle.witness.specs.Witness.{pieceIn, Tells}
+use Rattle.witness.proofs.Once.{same-outcome}
 use Rattle.bed.proofs.plans.bed_plan_witness.Kinds as witness-kinds
 use Rattle.bed.proofs.plans.bed_plan_witness.Reads as witness-reads
 use Rattle.bed.proofs.tallied.bed_tally.Kinds as tally-kinds
@@ -597,6 +598,26 @@ WitnessCall = Called 3 witness-kinds.ps witness-kinds.r witness-reads.Learnt
 pub plan-witness-by-place : (u : WitnessCall)
     → (let (blocks, (whole, (edge, _))) = u .args in let (_, (_, (left', _))) = u .last in Tells (blocks .now) (pieceIn (whole .now) 0) (u .result) (edge .now) left')
 plan-witness-by-place u = u .fits
+
+-- what a call tells, by its three lists before, its answer and the edge afterwards
+abbrev pub Told : List ℕ → List ℕ → List ℕ → ℕ → List ℕ → Type 0
+Told blocks whole old number left' = Tells blocks (pieceIn whole 0) number old left'
+
+same-told : {blocks blocks' whole whole' old old' : List ℕ} {n n' : ℕ} {l l' : List ℕ} → blocks ≡ blocks' → whole ≡ whole' → old ≡ old'
+    → Told blocks whole old n l → Told blocks' whole' old' n' l' → (n ≡ n') × (l ≡ l')
+same-told {blocks = blocks} {blocks' = blocks'} {whole = whole} {whole' = whole'} {old = old} {n' = n'} {l' = l'} eb ew eo t t' =
+    same-outcome blocks (pieceIn whole 0) t
+    (subst (λ (b : List ℕ). Told b whole old n' l') (sym eb)
+    (subst (λ (w : List ℕ). Told blocks' w old n' l') (sym ew) (subst (λ (o : List ℕ). Told blocks' whole' o n' l') (sym eo) t')))
+
+-- two calls on the same lists end alike: the answer, and the edge afterwards
+pub plan-witness-once : (u v : WitnessCall)
+    → (let (blocks, (whole, (edge, _))) = u .args in
+    let (blocks', (whole', (edge', _))) = v .args in
+    let (_, (_, (left', _))) = u .last in
+    let (_, (_, (left'', _))) = v .last in
+    blocks .now ≡ blocks' .now → whole .now ≡ whole' .now → edge .now ≡ edge' .now → (u .result ≡ v .result) × (left' ≡ left''))
+plan-witness-once u v eb ew ee = same-told eb ew ee (u .fits) (v .fits)
 
 -- ---- bed_tally, bed_tally_i16, bed_tally_i8: sdf, the twelve words, the three counts
 

@@ -40,18 +40,18 @@ second-block = refl
 -- ---- owners
 
 -- a tank from (0, 0, 0) to (6, 4, 3) with the max plane of z
-abbrev tank : List ℕ
+abbrev pub tank : List ℕ
 tank = 0 ∷ 0 ∷ 0 ∷ 0 ∷ 0 ∷ 0 ∷ 6 ∷ 4 ∷ 3 ∷ 0 ∷ 0 ∷ 1 ∷ []
 
-abbrev words : ℕ → ℕ → ℕ → ℕ → ℕ → ℕ → ℕ → ℕ → ℕ → List ℕ
+abbrev pub words : ℕ → ℕ → ℕ → ℕ → ℕ → ℕ → ℕ → ℕ → ℕ → List ℕ
 words x y z x' y' z' fx fy fz = 0 ∷ 0 ∷ 0 ∷ x ∷ y ∷ z ∷ x' ∷ y' ∷ z' ∷ fx ∷ fy ∷ fz ∷ []
 
 -- it is cut on x at 2 into [0, 3] and [2, 6], and the upper on y at 1 into [0, 2] and [1, 4]; before them a block of one cell, which owns nothing
-abbrev plan : List ℕ
+abbrev pub plan : List ℕ
 plan = words 5 3 1 6 4 2 0 0 0 ++ (words 0 0 0 3 4 3 0 0 9 ++ (words 2 0 0 6 2 3 0 0 1 ++ words 2 1 0 6 4 3 0 0 1))
 
 -- the lower piece with its max plane of x left on; and the upper ends one step out of the tank
-abbrev wrong : List ℕ
+abbrev pub wrong : List ℕ
 wrong = words 5 3 1 6 4 2 0 0 0 ++ (words 0 0 0 3 4 3 1 0 9 ++ (words 2 0 0 6 2 3 0 0 1 ++ words 2 1 0 6 4 4 0 0 1))
 
 abbrev ownersIn : List ℕ → Axis → ℕ → ℕ → ℕ → List ℕ

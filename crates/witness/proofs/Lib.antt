@@ -7,3 +7,4 @@ pub mod Named
 pub mod Outcomes
 pub mod Once
 pub mod Instances
+pub mod Cases

@@ -23,6 +23,13 @@ pub struct Fixtures {
     pub digest: Digest,
 }
 
+impl Fixtures {
+    /// A refusal of the records, with the name of their file.
+    pub fn refused(&self, refusal: bed::FixtureRefusal) -> Failure {
+        Failure::refused(self.path.display(), refusal.number(), refusal)
+    }
+}
+
 const BOX: u32 = 1;
 const UNION: u32 = 2;
 const INTERSECTION: u32 = 3;

@@ -86,9 +86,8 @@ the columns with a point below zero. Exit status 3 where no volume is told: with
 
 /// What a survey says of large grids beside it.
 const LAYERS: &str = "\
-The bed is closed, weighed and levelled layer by layer too, and the page says what that leaves unproved. Fixtures are
-cut out of grids in memory alone. With a plan each block reads the layers that it lies in, so that blocks
-which are cut on z alone are the quickest.
+Fixtures are cut out, and the bed is closed, weighed and levelled, layer by layer too, and the page says what that leaves
+unproved. With a plan each block reads the layers that it lies in, so that blocks which are cut on z alone are the quickest.
 ";
 
 const MESH: &str = "\

@@ -1,6 +1,7 @@
-//! Where the layers of a bed come from: a grid that stays in its file, one in memory, or either of them closed by the library.
+//! Where the layers of a bed come from: a grid that stays in its file, one in memory, either with fixtures cut out of it, or closed by the library.
 
 use crate::failure::Failure;
+use crate::fixtures::Fixtures;
 use crate::grid::{Grid, Layer, Stored};
 use crate::numbers::{Header, Numbers};
 use bed::Block;
@@ -116,4 +117,55 @@ impl Layered for Closed<'_> {
     fn changed(&self) -> Failure {
         self.open.changed()
     }
+}
+
+/// A grid with fixtures cut out of each layer as it is read.
+pub struct Raked<'a> {
+    pub open: &'a dyn Layered,
+    pub fixtures: &'a Fixtures,
+}
+
+impl Layered for Raked<'_> {
+    fn header(&self) -> Header {
+        Header {
+            numbers: Numbers::Float32,
+            ..self.open.header()
+        }
+    }
+
+    fn length(&self) -> u64 {
+        self.open.length()
+    }
+
+    fn read_layer(&self, z: u32, layer: &mut Layer) -> Result<(), Failure> {
+        self.open.read_layer(z, layer)?;
+        let dims = self.open.header().dims;
+        bed::cut_fixtures_layer(&self.fixtures.records, dims, z, &mut layer.distances)
+            .map_err(|refusal| self.fixtures.refused(refusal))
+    }
+
+    fn changed(&self) -> Failure {
+        self.open.changed()
+    }
+}
+
+impl Raked<'_> {
+    /// How many points of the grid the fixtures change: each layer is read once more, and compared.
+    pub fn points_cut(&self) -> Result<u64, Failure> {
+        let (mut open, mut cut) = (Layer::default(), Layer::default());
+        let mut points = 0;
+        for z in 0..self.open.header().dims[2] {
+            self.open.read_layer(z, &mut open)?;
+            self.read_layer(z, &mut cut)?;
+            points += changed_points(&open.distances, &cut.distances);
+        }
+        Ok(points)
+    }
+}
+
+/// In how many points two layers differ: a distance that is kept keeps its bits.
+pub fn changed_points(before: &[f32], after: &[f32]) -> u64 {
+    let both = before.iter().zip(after);
+    both.filter(|(old, new)| old.to_bits() != new.to_bits())
+        .count() as u64
 }

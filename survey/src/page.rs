@@ -32,7 +32,8 @@ pub struct Page<'a> {
     pub header: Header,
     /// Whether the grid stayed in its file and was taken layer by layer.
     pub by_layers: bool,
-    pub fixtures: Option<&'a Path>,
+    /// And how many points they changed.
+    pub fixtures: Option<(&'a Path, u64)>,
     pub plan: Option<&'a Path>,
     pub whole: Block,
     /// The plan's, in the grid's own coordinates.
@@ -125,9 +126,19 @@ impl Page<'_> {
             lines.rests("proved: what all layers bring out, joined, is what the whole call makes");
             lines.rests("compared: each block's vertices, made two times, and the grid's digest before the first time and after the last");
         }
-        if let Some(fixtures) = self.fixtures {
-            lines.found("fixtures", format!("{}: cut out", fixtures.display()));
+        if let Some((fixtures, points)) = self.fixtures {
+            let changed = match points {
+                0 => "NO POINT CHANGED: they lie outside the grid, or where there is no sludge"
+                    .into(),
+                _ => format!("{points} of {} points changed", self.header.points()),
+            };
+            lines.found(
+                "fixtures",
+                format!("{}: cut out, {changed}", fixtures.display()),
+            );
             lines.rests("proved: a point takes the negated value of the solid where that is greater, and else stays");
+            lines.rests("proved: the layers, cut one by one, are the grid cut at once");
+            lines.rests("counted: the points whose distance is another than before");
             lines.rests("not claimed: that the fixtures stand where the rake does");
         }
         if let Some(plan) = self.plan {

@@ -9,7 +9,7 @@ use crate::grid::{Grid, Stored};
 use crate::judged::{accepted, cut_out, named_block};
 use crate::kept::{self, Beside};
 use crate::layered::{self, Work};
-use crate::layers_of::{Closed, Layered};
+use crate::layers_of::{Closed, Layered, Raked};
 use crate::manifest::{self, Made, MadeBlock, Read};
 use crate::measuring::{self, ClosedBed, Measured, Refused};
 use crate::numbers::Header;
@@ -72,10 +72,11 @@ pub fn survey(words: &[OsString]) -> Result<Said, Failure> {
         floats: fixtures.is_some(),
         viewed: false,
     };
+    let mut points_cut = None;
     let found = if in_memory.fits(memory) {
         let mut grid = source.whole(in_memory.floats)?;
         if let Some(fixtures) = &fixtures {
-            cut_out(fixtures, name, &mut grid)?;
+            points_cut = Some(cut_out(fixtures, name, &mut grid)?);
         }
         let needed = accepted(&grid, &survey.whole, || survey.whole_in_words())?;
         match in_memory.workers(memory, budget::most(needed, &survey.blocks)) {
@@ -91,15 +92,16 @@ pub fn survey(words: &[OsString]) -> Result<Said, Failure> {
     let by_layers = found.is_none();
     let found = match found {
         Some(found) => found,
-        None if fixtures.is_some() => {
-            return Err(arguments.wrong(format!(
-                "--fixtures wants the grid in memory, and {} takes more than --memory there",
-                name.display()
-            )))
-        }
         None => {
             let stored = open_stored(&arguments, 0)?;
-            survey.by_layers(&stored, layered_workers(memory, &header))?
+            let workers = layered_workers(memory, &header);
+            let raked = fixtures.as_ref().map(|fixtures| Raked {
+                open: &stored,
+                fixtures,
+            });
+            let (found, points) = survey.by_layers(&stored, raked.as_ref(), workers)?;
+            points_cut = points;
+            found
         }
     };
     let (weighed, mut written): (Vec<_>, Vec<_>) = found.blocks.into_iter().unzip();
@@ -155,7 +157,7 @@ pub fn survey(words: &[OsString]) -> Result<Said, Failure> {
         name,
         header,
         by_layers,
-        fixtures: cut,
+        fixtures: cut.zip(points_cut),
         plan: path,
         whole: survey.whole,
         blocks: plan.map_or(&[], |(_, plan)| &plan.blocks[..]),
@@ -466,13 +468,23 @@ impl<'a> Survey<'a> {
         })
     }
 
-    fn by_layers(&self, grid: &Stored, workers: usize) -> Result<Found, Failure> {
+    /// What is stored, or what fixtures leave of it, and then how many points they changed.
+    fn by_layers(
+        &self,
+        stored: &Stored,
+        raked: Option<&Raked>,
+        workers: usize,
+    ) -> Result<(Found, Option<u64>), Failure> {
+        let grid: &dyn Layered = match raked {
+            Some(raked) => raked,
+            None => stored,
+        };
         // Refusals of dimensions come before a file of any length is read.
         let of_the_whole = match (self.plan, self.wanted) {
             (None, Wanted::OpenFiles | Wanted::NotClosed) => None,
             _ => Some(self.whole_asked(grid)?),
         };
-        let before = grid.digest()?;
+        let before = stored.digest()?;
         let mut asked = of_the_whole.unwrap_or_default();
         let mut blocks = Vec::new();
         if self.wanted != Wanted::ClosedFiles {
@@ -500,17 +512,19 @@ impl<'a> Survey<'a> {
             };
             blocks = self.files_by_layers(&source, workers)?.0;
         }
+        let points_cut = raked.map(Raked::points_cut).transpose()?;
         // The manifest and the page say what the meshes were made of.
-        if grid.digest()? != before {
-            return Err(grid.changed());
+        if stored.digest()? != before {
+            return Err(stored.changed());
         }
-        Ok(Found {
+        let found = Found {
             needed,
             enclosed: asked.enclosed,
             blocks,
             measured,
             digest: Some(before),
-        })
+        };
+        Ok((found, points_cut))
     }
 
     /// The files of all blocks, and what was asked of the last one.
@@ -543,9 +557,9 @@ impl<'a> Survey<'a> {
         Ok((files, asked))
     }
 
-    fn measured_by_layers(&self, grid: &Stored) -> Result<Measured, Failure> {
+    fn measured_by_layers(&self, grid: &dyn Layered) -> Result<Measured, Failure> {
         let all = Block {
-            max: grid.header.highest(),
+            max: grid.header().highest(),
             ..Block::default()
         };
         let steps = layered::steps(1, &[all, self.closed_box()]);
@@ -575,7 +589,7 @@ impl<'a> Survey<'a> {
     }
 
     /// What is asked of the whole before its blocks are meshed.
-    fn whole_asked(&self, grid: &Stored) -> Result<Asked, Failure> {
+    fn whole_asked(&self, grid: &dyn Layered) -> Result<Asked, Failure> {
         let steps = layered::steps(1, &[self.whole]);
         let asked = blocks::on_cores(1, 1, steps, |_, _: &mut (), report| {
             let work = Work {
@@ -584,7 +598,7 @@ impl<'a> Survey<'a> {
                 place: self.whole_in_words(),
                 report,
             };
-            let mut enclosing = Enclosing::of(grid.header.dims, self.whole);
+            let mut enclosing = Enclosing::of(grid.header().dims, self.whole);
             let needed = work.walk(|taken| {
                 report(taken.lists.vertices());
                 enclosing

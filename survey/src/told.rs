@@ -88,7 +88,11 @@ pub fn json(page: &Page, lines: &Lines, digests: &Digests, status: u8) -> Json {
             ]),
         ),
         ("plan", read(page.plan, digests.plan)),
-        ("fixtures", read(page.fixtures, digests.fixtures)),
+        (
+            "fixtures",
+            read(page.fixtures.map(|(name, _)| name), digests.fixtures),
+        ),
+        ("points_cut", page.fixtures.map(|(_, points)| points).into()),
         ("box", corners(&page.whole)),
         (
             "step_m",

@@ -3,6 +3,7 @@ compares what comes out with what they make of the same grid in memory: mesh fil
 what may go wrong: refused grids, pipes, a file that changes meanwhile; and the most memory that a run had. FOLDER is that of
 scripts/make-tank; BED names the command."""
 import glob
+import json
 import os
 import pty
 import random
@@ -121,6 +122,30 @@ def refusals():
     expect("a bad distance outside the box", one == other and one[0] == 0)
 
 
+def fixtures():
+    """cut out of each layer as it is read: the same meshes, pages and counts as in memory, of every kind of number"""
+    record = struct.Struct("<I6fI").pack
+    dims = (35, 9, 11)
+    for kind, code in (("float32", "<f4"), ("int16", "<i2"), ("int8", "|i1")):
+        put("in.npy", npy(values(kind, 35 * 9 * 11), dims, code))
+        put("two.fixtures", record(2, *struct.unpack("<6f", struct.pack("<6I", 2, 0, 0, 0, 0, 0)), 0)
+            + record(1, 30.5, 1, 2, 40, 7, 5.5, 0) + record(1, 3, 2.25, 6, 9, 8, 20, 0))
+        for more in ((), ("--closed",), ("--open",)):
+            one, other = both("survey", "in.npy", "--fixtures", "two.fixtures", "-o", "out.mesh", "--json", "out.json", *more)
+            expect(f"fixtures, {kind} {more}: {other[:3]}", one[3]["out.mesh"] == other[3]["out.mesh"] and one[0] == other[0] in (0, 3))
+            told = [[line for line in end[1].splitlines() if line.startswith("fixtures: ")] for end in (one, other)]
+            cut = [json.loads(end[3]["out.json"])["points_cut"] for end in (one, other)]
+            expect(f"so many points, {told} {cut}", cut[0] == cut[1] > 0 and told[0] == told[1] == [f"fixtures: two.fixtures: cut out, {cut[0]} of 3465 points changed"])
+    put("away.fixtures", record(1, 300, 1, 2, 400, 7, 5.5, 0))
+    one, other = both("survey", "in.npy", "--fixtures", "away.fixtures", "-o", "out.mesh")
+    for end in (one, other):
+        expect(f"fixtures in the wrong place: {end[1]}", "fixtures: away.fixtures: cut out, NO POINT CHANGED" in end[1])
+    put("empty.fixtures", b"")
+    for way in (MEMORY, LAYERS):
+        status, output, errors = bed("survey", "in.npy", "--fixtures", "empty.fixtures", "-o", "out.mesh", *way)
+        expect(f"an empty file, {way}: {errors}", (status, output) == (1, "") and "bed: empty.fixtures: refused 51: " in errors)
+
+
 def wrong(*words, says):
     before = sorted(os.listdir("."))
     status, output, errors = bed(*words)
@@ -134,7 +159,6 @@ def uses():
         wrong("mesh", ball, "-o", "out.mesh", "--memory", size, says="--memory")
         wrong("survey", ball, "-o", "out.mesh", "--memory", size, says="--memory")
     wrong("plan", "none.plan", ball, "--memory", "1", says="no such option")
-    wrong("survey", ball, "-o", "out.mesh", "--fixtures", f"{TANK}/rake.fixtures", *LAYERS, says="--fixtures wants the grid in memory")
     put("half.npy", got(ball)[:-1])
     wrong("mesh", "half.npy", "-o", "out.mesh", *LAYERS, says="half.npy: ends inside a number")
     # the command's own four MiB, 512 points, a map of them and the mesh; how it is added up the command's own tests say
@@ -309,6 +333,7 @@ def memory():
 
 meshes()
 refusals()
+fixtures()
 uses()
 surveys()
 changes()

@@ -224,6 +224,17 @@ def fixtures_and_plans():
     bed.cut_fixtures(file, grid, (4, 4, 4))
     expect("fixtures, in their place", (grid[0], grid[21], grid[63]) == (-0.75, 0.0, -0.75))
     refused(51, bed.cut_fixtures, file[:-1], grid, (4, 4, 4))
+    for kind in "fhb":
+        layers = [array.array(kind, [-3] * 16) for _ in range(4)]
+        cut = [bed.cut_fixtures_layer(file, layer, (4, 4, 4), z) for z, layer in enumerate(layers)]
+        at_once = array.array("f", [-3.0] * 64)
+        bed.cut_fixtures(file, at_once, (4, 4, 4))
+        one_by_one = [number for layer in (layers if kind == "f" else (sum(map(list, rows(part)), []) for part in cut)) for number in layer]
+        expect(f"fixtures layer by layer, {kind}", one_by_one == at_once.tolist() and at_once[21] == 0.0)
+        expect("whole numbers stay", kind == "f" or layers == [array.array(kind, [-3] * 16)] * 4)
+        refused(81, bed.cut_fixtures_layer, file, layers[0], (4, 4, 4), 2 ** 40)
+        refused(3, bed.cut_fixtures_layer, file, layers[0], (4, 5, 4), 3)
+        refused(51, bed.cut_fixtures_layer, file[:-1], layers[0], (4, 4, 4), 3)
     whole = bed.Block(max=(6, 4, 4))
     lower, upper = bed.Block(max=(4, 4, 4)), bed.Block((3, 0, 0), (6, 4, 4))
     expect("a block is 28 bytes", ctypes.sizeof(bed._Block) == 28)

@@ -75,6 +75,9 @@ WORDS = {
     92: "a count so far is above 2^60",
 }
 
+# What 3 says of a layer that fixtures are cut out of.
+CUT_WORDS = {3: "the layer's length is not the product of the first two dimensions"}
+
 # What 63 and 64 say of a mesh that is weighed.
 WEIGH_WORDS = {
     63: "a coordinate is not finite or not from 0 to 16777216",
@@ -542,10 +545,10 @@ def cut_fixtures_layer(file, layer, dims, z):
     if ending:
         points = dims[0] * dims[1]
         room = _room(_FLOAT, points if points <= 2 ** 30 else 0)
-        _done(_call("bed_cut_fixtures_layer" + ending, *_lent(_read(_BYTE, file)), *_lent(grid), _bed_box(dims), z, *_lent(room)))
+        _done(_call("bed_cut_fixtures_layer" + ending, *_lent(_read(_BYTE, file)), *_lent(grid), _bed_box(dims), z, *_lent(room)), CUT_WORDS)
         return _shaped(room, (dims[1], dims[0]))
     room = _written(_FLOAT, layer, "the distances are changed")
-    _done(_call("bed_cut_fixtures_layer", *_lent(_apart(_read(_BYTE, file), room)), _bed_box(dims), z, *_lent(room)))
+    _done(_call("bed_cut_fixtures_layer", *_lent(_apart(_read(_BYTE, file), room)), _bed_box(dims), z, *_lent(room)), CUT_WORDS)
     return None
 
 

@@ -152,7 +152,7 @@ mod tests {
     #[test]
     fn layers_make_up_the_whole() {
         let dims = [5, 4, 6];
-        let sdf: Vec<f32> = (0..120).map(|n| (n * 17 % 23) as f32 - 15.5).collect();
+        let sdf: Vec<f32> = (0..120).map(|n| (n * 17 % 23) as f32 - 19.5).collect();
         let (min, max) = ([1, 0, 1], [4, 3, 5]);
         let plane = MaxPlane {
             x: true,
@@ -165,7 +165,7 @@ mod tests {
             (whole.vertices, whole.indices),
             (told.vertices as u64, told.indices as u64)
         );
-        assert!(whole.whole > 0);
+        assert_eq!((whole.whole, whole.vertices), (13, 23));
         let mut found = CellCounts {
             whole: u64::MAX,
             vertices: 7,

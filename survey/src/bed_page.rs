@@ -184,6 +184,9 @@ impl Told<'_> {
                 in_grid_steps(sharp_low),
                 in_grid_steps(sharp_high)
             ),
+            Some(Standing::Outside) if self.measured.counts_agree() == Some(false) => {
+                "FAILED: the library and this command count different cells".into()
+            }
             Some(Standing::Outside) => format!(
                 "FAILED: the volume does not lie from {} to {}",
                 in_grid_steps(low),
@@ -195,11 +198,30 @@ impl Told<'_> {
             "counted: {} cells with all corners below zero, {} with some, {} of those between points of the grid, {} edges that change sign; by code that shares nothing with the library",
             counts.below, counts.surface, counts.open_surface, counts.changes
         ));
+        let Some(cells) = self.measured.cells() else {
+            return;
+        };
         lines.rests(format!(
-            "proved: the volume of a closed bed with these counts lies from {} to {}",
-            in_grid_steps(low),
-            in_grid_steps(high)
+            "{}: {} cells with all corners below zero, {} with some, {} faces, as the library counts them",
+            if self.by_layers() { "counted" } else { "proved" },
+            cells.whole,
+            cells.vertices,
+            cells.indices / 6
         ));
+        let (low, high) = cells.bounds();
+        let (low, high) = (in_grid_steps(low), in_grid_steps(high));
+        let enclosed = matches!(&self.measured.closed, Some(Ok(closed)) if closed.enclosed);
+        let agree = self.measured.counts_agree() == Some(true) && enclosed;
+        lines.rests(match (agree, self.by_layers()) {
+            (true, false) => format!("proved: the volume lies from {low} to {high}"),
+            (true, true) => format!("proved: the volume of a closed bed with these counts lies from {low} to {high}"),
+            (false, _) => format!("not claimed: that the volume lies from {low} to {high}"),
+        });
+    }
+
+    /// Whether the closed bed came layer by layer.
+    fn by_layers(&self) -> bool {
+        matches!(&self.measured.closed, Some(Ok(closed)) if closed.by_layers)
     }
 
     pub fn levels(&self, lines: &mut Lines) {
@@ -314,6 +336,8 @@ mod tests {
         let (good, odd, wrong) = (text(6 * 12), text(6 * 13), text(6 * 1000));
         assert!(good.starts_with("tank: every point is below zero"));
         assert!(good.contains("\ncross-check: the volume lies from 12.000 to 12.000"));
+        // 12 - 66/6 and 80 + 66/6
+        assert!(good.contains("\n    proved: the volume lies from 1.000 to 91.000\n"));
         assert!(odd.starts_with("tank: ") && odd.contains("\ncross-check: WARNING"));
         assert!(wrong.starts_with("WRONG: ") && wrong.contains("\ncross-check: FAILED"));
     }

@@ -2,7 +2,8 @@
 //!
 //! The bed is closed: every point beside the grid is taken as outside. Of the cells between points of the grid and around it, some have all
 //! eight corners below zero and some one to seven; some edges change sign. The volume of the closed mesh lies between the first number and both
-//! together, give or take a sixth of a cell for each such edge. A volume outside of that is wrong, whoever worked it out.
+//! together, give or take a sixth of a cell for each such edge: that is proved of the library's own counts, which have to be these. A volume outside of
+//! that is wrong, whoever worked it out.
 
 /// Counts of a closed bed, layer by layer from the lowest up.
 pub struct Counting {
@@ -115,6 +116,11 @@ pub enum Standing {
 }
 
 impl Counts {
+    /// Whether the library counted the same.
+    pub fn agree(&self, cells: &bed::CellCounts) -> bool {
+        (self.below, self.surface, 6 * self.changes) == (cells.whole, cells.vertices, cells.indices)
+    }
+
     /// From where to where the six-fold sum of a closed bed lies.
     pub fn bounds(&self) -> (i128, i128) {
         let [below, surface, changes] = [self.below, self.surface, self.changes].map(i128::from);

@@ -2,7 +2,9 @@
 //! float of the same value. The library meshes each kind as it stands.
 
 use crate::numbers::Numbers;
-use bed::{Block, CloseRefusal, Counts, LevelRefusal, Refusal, SurfaceNetsBuffer};
+use bed::{
+    Block, CellCounts, CloseRefusal, Counts, LevelRefusal, Refusal, SurfaceNetsBuffer, TallyRefusal,
+};
 
 pub enum Distances {
     Float32(Vec<f32>),
@@ -73,6 +75,20 @@ impl Distances {
             Distances::Float32(sdf) => bed::is_enclosed(sdf, dims, min, max),
             Distances::Int16(sdf) => bed::is_enclosed(sdf, dims, min, max),
             Distances::Int8(sdf) => bed::is_enclosed(sdf, dims, min, max),
+        }
+    }
+
+    /// The cells of a box below and on the surface, as the library counts them.
+    pub fn tally(&self, dims: [u32; 3], block: &Block) -> Result<CellCounts, TallyRefusal> {
+        let Block {
+            min,
+            max,
+            max_plane,
+        } = *block;
+        match self {
+            Distances::Float32(sdf) => bed::tally(sdf, dims, min, max, max_plane),
+            Distances::Int16(sdf) => bed::tally(sdf, dims, min, max, max_plane),
+            Distances::Int8(sdf) => bed::tally(sdf, dims, min, max, max_plane),
         }
     }
 

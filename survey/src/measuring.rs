@@ -15,7 +15,9 @@ use crate::mesh::{self, Lists};
 use crate::numbers::{Header, Numbers};
 use crate::said::{NO_VOLUME, WRONG};
 use crate::weighing;
-use bed::{Block, LevelRefusal, MaxPlane, SurfaceNetsBuffer, WeighError, Weight};
+use bed::{
+    Block, CellCounts, LevelRefusal, MaxPlane, SurfaceNetsBuffer, TallyRefusal, WeighError, Weight,
+};
 
 /// What the distances of a box say.
 pub struct Looked {
@@ -42,6 +44,8 @@ pub struct ClosedBed {
     pub triangles: u64,
     pub enclosed: bool,
     pub weight: Result<Weight, WeighError>,
+    /// The library's own counts of its cells, which bound the volume.
+    pub cells: CellCounts,
     /// How many of its vertices lie beyond the outermost points of the box.
     pub beyond: u64,
     /// Whether it was closed, meshed and weighed layer by layer.
@@ -63,9 +67,23 @@ impl Measured {
         closed.enclosed.then_some(weight.sum)
     }
 
-    /// How the volume stands to what was counted.
+    /// What the library counted of the closed bed.
+    pub fn cells(&self) -> Option<CellCounts> {
+        Some(self.closed.as_ref()?.as_ref().ok()?.cells)
+    }
+
+    /// Whether the library's counts are those of this command, which share no code.
+    pub fn counts_agree(&self) -> Option<bool> {
+        self.cells().map(|cells| self.looked.counts.agree(&cells))
+    }
+
+    /// How the volume stands to what was counted: outside where the two countings differ too.
     pub fn standing(&self) -> Option<Standing> {
-        self.volume().map(|sum| self.looked.counts.standing(sum))
+        let sum = self.volume()?;
+        if self.counts_agree() != Some(true) {
+            return Some(Standing::Outside);
+        }
+        Some(self.looked.counts.standing(sum))
     }
 
     /// The volume, where nothing that was counted contradicts it.
@@ -222,6 +240,7 @@ pub fn weigh_in_memory(closed: &Grid, wall: f32) -> Result<ClosedBed, Failure> {
         .mesh(dims, &whole, &mut buffer)
         .map_err(refused)?;
     let lists = mesh::of_call(&buffer);
+    let cells = closed.distances.tally(dims, &whole).map_err(uncounted)?;
     let sizes = dims.map(|size| size - 3);
     Ok(ClosedBed {
         wall,
@@ -229,9 +248,14 @@ pub fn weigh_in_memory(closed: &Grid, wall: f32) -> Result<ClosedBed, Failure> {
         triangles: lists.triangles() as u64,
         enclosed,
         weight: weighing::of(&lists),
+        cells,
         beyond: beyond(&lists, sizes),
         by_layers: false,
     })
+}
+
+fn uncounted(refusal: TallyRefusal) -> Failure {
+    Failure::refused("the closed bed", refusal.number(), refusal)
 }
 
 /// The same layer by layer.
@@ -245,10 +269,30 @@ pub fn weigh_by_layers(closed: &Closed, report: &dyn Fn(usize)) -> Result<Closed
     let mut weight = weighing::InLayers::default();
     let mut enclosing = Enclosing::of(closed.header().dims, work.block);
     let (sizes, mut outside) = (sizes(&closed.whole), 0);
+    let (mut cells, mut below) = (CellCounts::default(), Vec::new());
     let counts = work.walk(|taken| {
         weight.add(&taken.lists);
         outside += beyond(&taken.lists, sizes);
         report(taken.lists.vertices());
+        let Block {
+            min,
+            max,
+            max_plane,
+        } = work.block;
+        let dims = closed.header().dims;
+        bed::tally_layer(
+            &below,
+            taken.distances,
+            dims,
+            min,
+            max,
+            max_plane,
+            taken.z,
+            &mut cells,
+        )
+        .map_err(uncounted)?;
+        below.clear();
+        below.extend(taken.distances);
         enclosing
             .add(taken.z, taken.distances)
             .map_err(|refusal| work.refused(refusal.number(), refusal))
@@ -259,6 +303,7 @@ pub fn weigh_by_layers(closed: &Closed, report: &dyn Fn(usize)) -> Result<Closed
         triangles: counts.indices / 3,
         enclosed: enclosing.enclosed,
         weight: weight.weight,
+        cells,
         beyond: outside,
         by_layers: true,
     })
@@ -288,6 +333,11 @@ pub mod tests {
             triangles: 0,
             enclosed,
             weight,
+            cells: CellCounts {
+                whole: 12,
+                vertices: 68,
+                indices: 6 * 66,
+            },
             beyond: 0,
             by_layers: false,
         };
@@ -325,6 +375,20 @@ pub mod tests {
             ..full_tank(0, true)
         };
         assert_eq!(refused.status(), NO_VOLUME);
+        // a volume that lies well is not trusted where the two countings differ
+        for spoil in [
+            |cells: &mut CellCounts| cells.whole += 1,
+            |cells: &mut CellCounts| cells.vertices -= 1,
+            |cells: &mut CellCounts| cells.indices += 6,
+        ] {
+            let mut odd = full_tank(6 * 12, true);
+            assert_eq!(odd.counts_agree(), Some(true));
+            if let Some(Ok(closed)) = &mut odd.closed {
+                spoil(&mut closed.cells);
+            }
+            assert_eq!(odd.counts_agree(), Some(false));
+            assert_eq!((odd.status(), odd.trusted()), (WRONG, None));
+        }
     }
 
     #[test]
@@ -340,6 +404,8 @@ pub mod tests {
         };
         let other = weigh_by_layers(&source, &|_| ()).unwrap();
         assert_eq!(one.weight, other.weight);
+        assert_eq!(one.cells, other.cells);
+        assert_eq!((one.cells.whole, one.cells.vertices), (12, 68));
         assert_eq!(one.weight.unwrap().sum, 6 * 12 * 256 * 256 * 256);
         assert!(one.enclosed && other.enclosed);
         assert_eq!((one.beyond, other.beyond), (0, 0));

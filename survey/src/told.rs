@@ -114,6 +114,29 @@ pub fn json(page: &Page, lines: &Lines, digests: &Digests, status: u8) -> Json {
         ("cross_check_bounds", bounds(counts.bounds())),
         ("cross_check_sharp_bounds", bounds(counts.sharp_bounds())),
         (
+            "library_counts",
+            measured
+                .cells()
+                .map(|cells| {
+                    Json::object([
+                        ("cells_below", cells.whole.into()),
+                        ("cells_surface", cells.vertices.into()),
+                        ("faces", (cells.indices / 6).into()),
+                    ])
+                })
+                .into(),
+        ),
+        ("counts_agree", measured.counts_agree().into()),
+        (
+            "proved_bounds",
+            measured
+                .volume()
+                .filter(|_| measured.counts_agree() == Some(true))
+                .and_then(|_| measured.cells())
+                .map(|cells| bounds(cells.bounds()))
+                .into(),
+        ),
+        (
             "closed_bed",
             closed
                 .map(|closed| {

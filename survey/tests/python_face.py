@@ -218,6 +218,41 @@ def whole_numbers():
         wrong(bed.surface_nets, array.array(kind.upper(), [1] * 27), dims=(3, 3, 3))
 
 
+def tallied():
+    """cells below and on the surface, by a plain count; whole, and layer by layer whatever stands in the counts before; their bounds hold the volume"""
+    seen = [0, 0, 0]
+    for turn in range(60):
+        dims = x, y, z = tuple(random.randrange(2, 7) for _ in range(3))
+        kind, share = "fhb"[turn % 3], random.choice((0.5, 0.8, 0.95))
+        values = [random.randrange(1, 9) * (-1 if random.random() < share else 1) for _ in range(x * y * z)]
+        grid = array.array(kind, values)
+        low = tuple(random.randrange(2) for _ in range(3))
+        high, flags = tuple(size - 1 for size in dims), tuple(random.random() < 0.5 for _ in range(3))
+        whole, vertices, indices = bed.tally(grid, dims, low, high, flags)
+        corners = [sum(values[a + i % 2 + x * (b + i // 2 % 2 + y * (c + i // 4))] < 0 for i in range(8))
+                   for c in range(low[2], z - 1) for b in range(low[1], y - 1) for a in range(low[0], x - 1)]
+        expect("counted", (whole, vertices, indices) == (corners.count(8), len(corners) - corners.count(8) - corners.count(0), bed.counts(grid, dims, low, high, flags)[1]))
+        counts, below = (2 ** 64 - 1, 5, 7), grid[:0]
+        for height in range(low[2], z):
+            layer = grid[x * y * height:][:x * y]
+            counts, below = bed.tally_layer(below, layer, dims, height, counts, low, high, flags), layer
+        expect("layer by layer", counts == (whole, vertices, indices))
+        seen = [one + other for one, other in zip(seen, counts)]
+        closed = bed.close(grid, dims=dims)
+        sizes = tuple(size + 3 for size in dims)
+        whole, vertices, indices = bed.tally(closed, sizes)
+        mesh = bed.surface_nets(closed, sizes)
+        volume = bed.weigh(mesh.positions, mesh.indices)[0] / (6 * 256 ** 3)
+        expect(f"the bounds hold {volume}", whole - indices / 36 <= volume <= whole + vertices + indices / 36)
+    expect(f"something counted: {seen}", min(seen) > 100)
+    grid = array.array("f", [1.0] * 27)
+    refused(3, bed.tally, grid, dims=(3, 3, 4))
+    refused(2, bed.tally, grid, dims=(3, 3, 3), max=(3, 2, 2))
+    refused(91, bed.tally_layer, grid[:9], grid[:9], (3, 3, 3), 3)
+    refused(92, bed.tally_layer, grid[:9], grid[:9], (3, 3, 3), 1, (0, 2 ** 60 + 1, 0))
+    wrong(bed.tally_layer, grid[:9], array.array("b", [1] * 9), (3, 3, 3), 1)
+
+
 def fixtures_and_plans():
     grid = array.array("f", [-0.75] * 64)
     file = struct.pack("<I6fI", 1, 1, 1, 1, 2, 2, 2, 0)
@@ -340,6 +375,7 @@ buffers()
 layers()
 in_words()
 whole_numbers()
+tallied()
 fixtures_and_plans()
 winding()
 environment()

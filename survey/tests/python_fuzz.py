@@ -161,6 +161,8 @@ CALLS = {
     "close_layer": lambda: bed.close_layer(layer(), small(), number() if random.random() < 0.3 else random.randrange(6), real()),
     "levels": lambda: bed.levels(buffer(), **dims(), **words(BOX)),
     "levels_layer": lambda: bed.levels_layer(layer(), layer(), small(), random.choice((0, 1, 2, number())), floats(9) if random.random() < 0.8 else buffer(), **words(BOX)),
+    "tally": lambda: bed.tally(buffer(), **dims(), **words({**BOX, "max_plane": flags})),
+    "tally_layer": lambda: bed.tally_layer(layer(), layer(), small(), random.choice((0, 1, 2, number())), **words({**BOX, "max_plane": flags, "so_far": three})),
     "write_mesh": lambda: bed.write_mesh(bed.Mesh(*lists())),
     "write_record": lambda: bed.write_record(file() if random.random() < 0.6 else buffer(), number(), record()),
     "check_mesh": lambda: bed.check_mesh(file() if random.random() < 0.7 else buffer()),

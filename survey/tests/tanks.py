@@ -84,6 +84,16 @@ def tilted():
             expect("nothing in metres", told["volume_m3"] is None and told["step_m"] is None)
             expect("on the planes", told["closed_bed"]["vertices_beyond_the_box"] == 0)
             expect("no hole, and inside", (told["hole"], told["closed"], told["cross_check"]) == ("none", True, "inside"))
+            cells = told["library_counts"]
+            expect(f"two countings: {cells}", told["counts_agree"] and (cells["cells_below"], cells["cells_surface"], cells["faces"])
+                   == (told["cells_below"], told["cells_surface"], told["edges_that_change"]))
+            sixths = 6 * cells["cells_below"] - cells["faces"], 6 * (cells["cells_below"] + cells["cells_surface"]) + cells["faces"]
+            near("proved from", told["proved_bounds"][0], sixths[0] / 6, 1e-12)
+            near("proved to", told["proved_bounds"][1], sixths[1] / 6, 1e-12)
+            expect("it lies there", sixths[0] <= 6 * told["volume_steps"] <= sixths[1])
+            words = "proved: the volume of a closed bed with these counts lies from" if "1" in way else "proved: the volume lies from"
+            low, high = (f"{number * 1000 // 6 / 1000:.3f}" for number in sixths)
+            expect(f"bounds on the page: {words} {low} to {high}", f"\n    {words} {low} to {high}\n" in page)
             expect("nothing strange", (told["columns"]["several_changes_of_sign"], told["columns"]["below_zero_at_the_top"]) == (0, 0))
             expect("which way", told["by_layers"] == ("1" in way) == told["closed_bed"]["by_layers"])
             expect("what it was made of", told["grid"]["sha256"] == hashlib.sha256(got("in.npy")).hexdigest() and told["time"].endswith("Z"))

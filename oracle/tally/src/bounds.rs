@@ -94,8 +94,7 @@ impl Seen {
         }
     }
 
-    fn look(&mut self, bed: &Bed, closed: &mut Vec<f32>, mesh: &mut SurfaceNetsBuffer) {
-        let wall = bed::wall_for(bed::deepest(0.0, &bed.sdf));
+    fn look(&mut self, bed: &Bed, wall: f32, closed: &mut Vec<f32>, mesh: &mut SurfaceNetsBuffer) {
         let dims = bed::close(&bed.sdf, bed.dims, wall, closed).expect("a bed can be closed");
         let max = dims.map(|n| n - 1);
         let (none, low) = (MaxPlane::NONE, [0; 3]);
@@ -150,15 +149,21 @@ fn main() -> ExitCode {
         Seen::of("random signs, all one step from zero"),
         Seen::of("random signs, depths from 2^-20 to 2^20"),
         Seen::of("smooth beds on the floor"),
+        Seen::of("random signs, depths and wall from 2^-20 to 2^20"),
     ];
     for turn in 0..beds {
-        // one in ten is smooth, and larger
+        // one in ten is smooth, and larger; half of them have a wall that is not far, so that the border bulges
         let (kind, bed) = match turn % 10 {
             0 => (2, smooth(&mut random)),
-            odd if odd % 2 == 1 => (0, signs(&mut random, false)),
-            _ => (1, signs(&mut random, true)),
+            1 | 2 => (0, signs(&mut random, false)),
+            3 | 4 => (1, signs(&mut random, true)),
+            _ => (3, signs(&mut random, true)),
         };
-        seen[kind].look(&bed, &mut closed, &mut mesh);
+        let wall = match kind {
+            3 => depth(&mut random, true),
+            _ => bed::wall_for(bed::deepest(0.0, &bed.sdf)),
+        };
+        seen[kind].look(&bed, wall, &mut closed, &mut mesh);
     }
     seen.iter().for_each(Seen::print);
     if seen.iter().all(|kind| kind.outside == 0 && kind.beds > 0) {

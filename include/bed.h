@@ -41,7 +41,7 @@ extern "C" {
 /* The version of the library, as one number: BED_VERSION_NUMBER where it is the one that this header came with. Another minor
  * version may take other arguments, and calling it by this header is then undefined: compare before the first call where the
  * library is found at run time. Libraries before 0.2.0 have no such function. */
-uint32_t bed_version(void);
+uint32_t (bed_version)(void);
 
 /* Dimensions, a box and its max plane as one block of twelve 32-bit words, in this order, each for x, y and z. Every function
  * that takes dimensions takes them so; what it does not read of the block it says.

@@ -44,7 +44,7 @@ extern "C" {
 uint32_t (bed_version)(void);
 
 /* Dimensions, a box and its max plane as one block of twelve 32-bit words, in this order, each for x, y and z. Every function
- * that takes dimensions takes them so; what it does not read of the block it says.
+ * that takes dimensions takes them so, and says where a part of the block does not matter.
  *
  *   dims             the grid's dimensions, in points.
  *   min, max         the box's corner points, both included. Its cells run from min to max - 1; a cell is named by its lowest
@@ -64,7 +64,7 @@ struct bed_box {
  *
  *   - Each is aligned for its type.
  *   - A list is a pointer and its length in elements; the pointer may be null only where the length is 0.
- *   - box is never null, and all of its twelve words are set, to anything where a function does not read them. It is only read.
+ *   - box is never null, and all of its twelve words are set, to anything where they do not matter. It is only read.
  *   - Nothing that may be written overlaps anything else that is passed. What is only read may overlap what is only read.
  *   - What a single number or flag is written to, vertex_count, index_count, byte_count, triangle_count, volume, enclosed and
  *     holds, is never null and is written on every answer. What stood there before never matters, but a bool holds false or true
@@ -295,7 +295,7 @@ uint32_t bed_answer_i8(
  * lies from min + 1 to max - 2 on each axis. It reads the distances of the box and writes one yes or no.
  *
  * Answers BED_DONE, BED_BAD_DIMENSIONS, BED_BAD_BOX or BED_BAD_GRID_LENGTH, tried in the order of their
- * numbers; sdf and box are as in bed_surface_nets, but that box->max_plane is not read. What bed_surface_nets refuses for
+ * numbers; sdf and box are as in bed_surface_nets, but that box->max_plane does not matter. What bed_surface_nets refuses for
  * other reasons is tested all the same: a distance that is not a number is not below zero.
  *
  * Out, on every answer:
@@ -408,7 +408,7 @@ enum bed_close_answer {
  *
  * In:
  *   sdf              the distances, x innermost, exactly dims[0] * dims[1] * dims[2] of them.
- *   box              the grid's dimensions in box->dims. Nothing else of box is read.
+ *   box              the grid's dimensions in box->dims. Nothing else of box matters.
  *   wall             the value of every point of the border; see bed_wall_for.
  *
  * Lent for writing:
@@ -511,7 +511,7 @@ enum bed_levels_answer {
  *
  * In:
  *   sdf              the distances, x innermost, as in bed_surface_nets. Only points of the box are looked at.
- *   box              the grid's dimensions and the corners of the box. max_plane is not read.
+ *   box              the grid's dimensions and the corners of the box. max_plane does not matter.
  *
  * Lent for writing:
  *   levels           one float a column, x innermost: the column at x and y stands at
@@ -957,7 +957,7 @@ enum bed_fixture_answer {
  *
  * In:
  *   file             the bytes of the file, all of them and no more.
- *   box              the grid's dimensions in box->dims. Nothing else of box is read.
+ *   box              the grid's dimensions in box->dims. Nothing else of box matters.
  *
  * Lent for reading and writing:
  *   sdf              the distances, x innermost, exactly dims[0] * dims[1] * dims[2] of them.

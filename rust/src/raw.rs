@@ -604,7 +604,7 @@ extern "C" {
     ///
     /// # Safety
     ///
-    /// As for [`bed_surface_nets`]; the flags of `block` are not read.
+    /// As for [`bed_surface_nets`]; the flags of `block` do not matter.
     pub fn bed_levels(
         sdf: *const f32,
         sdf_len: usize,

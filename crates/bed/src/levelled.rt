@@ -1,5 +1,5 @@
 // The level of the bed in each column of a box, for C and Rust: thin functions over crate levels. Dimensions and box come as the twelve words of a `bed_box`,
-// of which the last three are not read; include/bed.h says the rest.
+// of which the last three do not matter; include/bed.h says the rest.
 ghost use mathlib.Core.Path.{_≡_};
 ghost use lib.ListN.{length};
 ghost use Rattle.lists.specs.Floats.{Binary32};

@@ -96,8 +96,9 @@ for _ in range(RUNS):
         expect(f"{asked} fails and changes a file", after == before)
     else:
         expect(f"{asked}: says {errors[:200]!r} and ends with {status}", errors == "" or asked[0] == "info")
+    named = {os.path.normpath(one) for one in asked}
     for name, content in before.items():
-        expect(f"{asked} changes {name}, which is there", after.get(name) == content or status in (0, 3, 4) and name.decode(errors="replace") in asked)
+        expect(f"{asked} changes {name}, which is there", after.get(name) == content or status in (0, 3, 4) and name.decode(errors="replace") in named)
     if after != before:
         clean(before)
 expect(f"every status but 4: {statuses}", {0, 1, 2, 3} <= set(statuses))

@@ -84,7 +84,7 @@ fn three_small(r: &mut Random) {
 
 /// Wholes of up to 8 points an axis: runs of cuts, half of them with a mistake, and lists of blocks at random.
 fn random_small(r: &mut Random) {
-    let (asked, mut plans, mut cut) = (100_000, 0, 0);
+    let (asked, mut plans, mut cut, mut told) = (100_000, 0, 0, 0);
     for n in 0..asked {
         let whole = made::block(r, 8);
         let mut list = if n % 4 == 3 {
@@ -100,6 +100,7 @@ fn random_small(r: &mut Random) {
         }
         let wrong = count::first_wrong(&list, &whole, 11);
         let right = wrong.is_none();
+        told += u32::from(!right);
         witnessed("random plans", &list, &whole, wrong);
         if n % 2 == 0 && !right {
             println!("a run of cuts is no plan: {list:?} in {whole:?}");
@@ -111,12 +112,12 @@ fn random_small(r: &mut Random) {
             differs("random plans", &list, &whole, says)
         }
     }
-    println!("random plans: asked {asked}, runs of cuts {cut}, plans {plans}, wrong none");
+    println!("random plans: asked {asked}, runs of cuts {cut}, plans {plans}, edges told {told}, wrong none");
 }
 
 /// Coordinates up to 16,777,216, counted by the stretches between the boxes' own coordinates.
 fn large(r: &mut Random) {
-    let (asked, mut plans) = (20_000, 0);
+    let (asked, mut plans, mut told) = (20_000, 0, 0);
     for n in 0..asked {
         let whole = made::block(r, 16_777_216);
         let times = r.below(10);
@@ -129,6 +130,7 @@ fn large(r: &mut Random) {
         }
         let wrong = count::first_wrong_anywhere(&list, &whole);
         let right = wrong.is_none();
+        told += u32::from(!right);
         witnessed("large plans", &list, &whole, wrong);
         plans += right as u32;
         let says = check_plan(&list, &whole);
@@ -136,7 +138,7 @@ fn large(r: &mut Random) {
             differs("large plans", &list, &whole, says)
         }
     }
-    println!("large plans: asked {asked}, plans {plans}, wrong none");
+    println!("large plans: asked {asked}, plans {plans}, edges told {told}, wrong none");
 }
 
 fn refusals(r: &mut Random) {

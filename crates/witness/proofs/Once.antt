@@ -1,22 +1,23 @@
 -- "Show that two outcomes that fit are equal": the answer and the words afterwards; and that the answer goes with that of the check of the plan: an edge is told exactly if
--- it says no, and none exactly if it says yes. Assumes nothing.
+-- it says no, and none exactly if it says yes; and whose the edge is. Assumes nothing.
 use Prim.Native.Nat.{ℕ, _%_, _≤_, _<_}
 use native.Mathlib.Omega.{arith}
 use mathlib.Core.Bool.{Bool, true, false, not, cond}
-use mathlib.Core.List.{List}
+use mathlib.Core.List.{List, [], _∷_}
 use mathlib.Core.Logic.{_⊎_, inl, inr}
 use mathlib.Core.Path.{_≡_, refl, sym, ap, subst, _∙_}
 use borrow.Author.Tests.{eq-eqb}
 use lib.Dec.{T, eqb}
-use lib.ListN.{length}
+use lib.ListN.{length, getD}
 use Rattle.lists.specs.Lists.{one, upTo, keep, many}
-use Rattle.lists.proofs.Tests.{is-false, less-or-not}
-use Rattle.lists.proofs.Lists.{length-keep, many-map}
+use Rattle.lists.proofs.Tests.{less-or-not}
+use Rattle.lists.proofs.Lists.{All, none, more, all-keep, length-keep, many-map}
+use Rattle.lists.proofs.Runs.{upTo-each}
 use Rattle.rules.specs.Grid.{GridPoint, Axis, axisX, axisY, axisZ}
 use Rattle.rules.specs.Faces.{Edge, edge, owned}
 use Rattle.rules.specs.Cutting.{Piece, Plan}
 use Rattle.plan.specs.Plan.{planAnswer, Checks}
-use Rattle.witness.specs.Witness.{pieceIn, countIn, piecesIn, owners, Right, axisNumber, Earlier, Before, FirstWrong, refusal, edgeWords, Tells, refused, holds, told}
+use Rattle.witness.specs.Witness.{pieceIn, countIn, piecesIn, owners, Right, axisNumber, Earlier, Before, FirstWrong, refusal, noBlock, edgeWords, Tells, refused, holds, told}
 
 -- ---- of two edges one comes first
 
@@ -62,6 +63,39 @@ first-once blocks n whole e f u v = go (edges-apart e f)
     go (inl (inl h)) = absurd (u .wrong (v .first e h))
     go (inl (inr h)) = absurd (v .wrong (u .first f h))
     go (inr h) = h
+
+-- ---- whose the edge is, by the two numbers that are told
+
+module _ (blocks : ℕ → Piece) (n : ℕ) (whole : Piece) (e : Edge) where
+  abbrev ownedBy : Piece → Bool
+  ownedBy q = owned (q .box) (q .flags) e
+
+  abbrev Owner : ℕ → Type 0
+  Owner i = (i < n) × T (ownedBy (blocks i))
+
+  -- no block, and the whole; one block, and not the whole; or two blocks at least
+  abbrev pub Whose : ℕ → ℕ → Type 0
+  Whose first second =
+      ((first ≡ noBlock) × (second ≡ noBlock) × T (ownedBy whole)) ⊎ ((Owner first × (second ≡ noBlock) × T (not (ownedBy whole))) ⊎ (Owner first × Owner second))
+
+  owners-own : All Owner (owners blocks n whole e)
+  owners-own = all-keep (λ (i : ℕ). ownedBy (blocks i)) (upTo-each 0 n (λ i _ h t. (h, t)))
+
+  pub whose : FirstWrong blocks n whole e → Whose (getD (owners blocks n whole e) 0 noBlock) (getD (owners blocks n whole e) 1 noBlock)
+  whose u = go (owners blocks n whole e) owners-own (u .wrong)
+    where
+      owns : (t : Bool) → (0 ≡ one t → ⊥) → T t
+      owns true h = tt
+      owns false h = h refl
+
+      owns-not : (t : Bool) → (1 ≡ one t → ⊥) → T (not t)
+      owns-not true h = h refl
+      owns-not false h = tt
+
+      go : (os : List ℕ) → All Owner os → (length os ≡ one (ownedBy whole) → ⊥) → Whose (getD os 0 noBlock) (getD os 1 noBlock)
+      go [] none h = inl (refl, refl, owns (ownedBy whole) h)
+      go (a ∷ []) (more p q) h = inr (inl (p, refl, owns-not (ownedBy whole) h))
+      go (a ∷ b ∷ os) (more p (more q r)) h = inr (inr (p, q))
 
 module _ (words : List ℕ) (whole : Piece) where
   abbrev FirstOf : Edge → Type 0

@@ -17,7 +17,8 @@ use Rattle.rules.specs.Grid.{GridPoint, Axis, axisX, axisY, axisZ}
 use Rattle.rules.specs.Faces.{Edge, edge, owned}
 use Rattle.rules.specs.Cutting.{Piece, Plan}
 use Rattle.plan.specs.Plan.{planAnswer, Checks}
-use Rattle.witness.specs.Witness.{pieceIn, countIn, piecesIn, owners, Right, axisNumber, Earlier, Before, FirstWrong, refusal, noBlock, edgeWords, Tells, refused, holds, told}
+use Rattle.witness.specs.Witness.{pieceIn, countIn, piecesIn, owners, Right, axisNumber, Earlier, Before}
+use Rattle.witness.specs.Witness.{FirstWrong, refusal, noBlock, edgeWords, Tells, refused, holds, told}
 
 -- ---- of two edges one comes first
 

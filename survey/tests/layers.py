@@ -235,7 +235,7 @@ def surveys():
         expect(f"the files of {words}", one[3] == other[3] and len(one[3]) == blocks + manifest and ("out.manifest" in one[3]) == bool(manifest))
         expect(f"the page of {words}", lines(one[1]) == lines(other[1]) and "\nlayers: taken one by one" in other[1])
         expect(f"what it says of {words}", f"\nhole: {hole}" in other[1] and re.search(f"^volume: {volume}", other[1], re.M))
-        expect("what is not proved", ("not proved: that the layers' answers" in other[1]) == (wanted == 0) and "not proved: that" not in one[1]
+        expect("what is not proved", ("not proved: that this command hands on the closed grid's layers" in other[1]) == (wanted == 0) and "not proved: that" not in one[1]
                and "not proved: that this command hands on the layers" in other[1])
     # a block outside the grid, and a plan that is none
     put("bad.plan", b"0 0 0 8 8 8 -\n0 0 0 8 8 8 -\n0 0 0 0 0 40 -\n")

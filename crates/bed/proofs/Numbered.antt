@@ -14,7 +14,6 @@ use Rattle.bed.specs.Version.{version}
 use Rattle.bed.specs.Words12.{blockWords}
 use Rattle.bed.specs.Tallied.{countsIn, countsLeft}
 use Rattle.tally.specs.declared.Counts.{Counts}
-use Rattle.tally.specs.declared.Told.{Told}
 
 abbrev wantedBlock : Block
 wantedBlock =

@@ -93,7 +93,8 @@ pub extern "C" fn bed_tally_layer_i16(
 ) -> u32
     ensures { λ r. ⌜ r ≡ layerTold (asFloats (now (below .entry))) (asFloats (now (layer .entry))) (blockWords (now (words .entry))) z (countsIn (now (counts .entry))) .answer ⌝ }
     ensures { λ _. ⌜ now (counts .exit)
-        ≡ countsLeft (layerTold (asFloats (now (below .entry))) (asFloats (now (layer .entry))) (blockWords (now (words .entry))) z (countsIn (now (counts .entry)))) (now (counts .entry)) ⌝ }
+        ≡ countsLeft (layerTold (asFloats (now (below .entry))) (asFloats (now (layer .entry))) (blockWords (now (words .entry))) z (countsIn (now (counts .entry))))
+        (now (counts .entry)) ⌝ }
 {
     let k = crate::words::block_of(words);
     let so_far = counts_of(counts);
@@ -111,7 +112,8 @@ pub extern "C" fn bed_tally_layer_i8(
 ) -> u32
     ensures { λ r. ⌜ r ≡ layerTold (asFloats (now (below .entry))) (asFloats (now (layer .entry))) (blockWords (now (words .entry))) z (countsIn (now (counts .entry))) .answer ⌝ }
     ensures { λ _. ⌜ now (counts .exit)
-        ≡ countsLeft (layerTold (asFloats (now (below .entry))) (asFloats (now (layer .entry))) (blockWords (now (words .entry))) z (countsIn (now (counts .entry)))) (now (counts .entry)) ⌝ }
+        ≡ countsLeft (layerTold (asFloats (now (below .entry))) (asFloats (now (layer .entry))) (blockWords (now (words .entry))) z (countsIn (now (counts .entry))))
+        (now (counts .entry)) ⌝ }
 {
     let k = crate::words::block_of(words);
     let so_far = counts_of(counts);

@@ -1,31 +1,30 @@
 -- The answers from what the tests found, one after the other. A layer is tried by the levels' own answer to it with no room for a level: the box has a column, so
 -- that 78, the last of its answers, says that no condition before it holds. Assumes nothing.
-use Prim.Native.Nat.{ℕ, _+_, _-_, _*_, _≤_, _<_}
+use Prim.Native.Nat.{ℕ, _+_, _-_, _≤_, _<_}
 use native.Mathlib.Nat.{mul-pos}
 use native.Mathlib.Omega.{arith}
 use mathlib.Core.Bool.{Bool, true, false, not, _||_, cond}
 use mathlib.Core.List.{List}
 use mathlib.Core.Path.{_≡_, refl, sym, ap, ap₂, subst, _∙_}
 use borrow.Author.Tests.{lt-ltb, ltb-false, eq-eqb, ne-eqb}
-use lib.Dec.{T, ltb, eqb}
+use lib.Dec.{T, ltb}
 use lib.ListN.{length}
 use lib.Ieee.{Float}
 use Rattle.lists.proofs.Tests.{failed}
 use Rattle.lists.proofs.Either.{or-left, or-right}
 use Rattle.rules.specs.Grid.{GridPoint, Box}
-use Rattle.rules.specs.Call.{badDimensions, badBox, badLength, badDistance}
+use Rattle.rules.specs.Call.{badDimensions, badBox, badDistance}
 use Rattle.rules.proofs.Indexes.{box-fits}
 use Rattle.grid.specs.declared.Block.{Block}
 use Rattle.grid.specs.Block.{point, boxOf, flagsOf, fieldOf}
 use Rattle.grid.specs.Faults.{firstFault}
-use Rattle.grid.specs.Layers.{inLayer, twoLayers, InLayers}
+use Rattle.grid.specs.Layers.{twoLayers, InLayers}
 use Rattle.grid.proofs.Faults.{Faultless, first-answers}
 use Rattle.grid.proofs.Layers.{in-plane}
 use Rattle.levels.specs.Columns.{across, columns}
 use Rattle.levels.specs.Call.{outside, badLayers, badDistances, badRoom, layerAnswer as levelsAnswer}
 use Rattle.levels.proofs.Answering.{upper-long, lower-long}
 use Rattle.tally.specs.declared.Counts.{Counts}
-use Rattle.tally.specs.declared.Told.{Told}
 use Rattle.tally.specs.Call.{nothing, told, plus, countsOf, tallyAnswer, tallied, tooMany, badCounts, layerCounts, taken, layerAnswer, layerTold}
 
 -- ---- the whole grid

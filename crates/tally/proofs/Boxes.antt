@@ -42,7 +42,8 @@ pub record More (f : GridPoint → Bool) (next : List GridPoint) (n n' : ℕ) : 
   pub fits : Fits w64 (n + n')
   pub same : n + n' ≡ many f next
 
-pub more : {f : GridPoint → Bool} (s t : List GridPoint) {next : List GridPoint} {n n' : ℕ} → n ≡ many f s → n' ≡ many f t → next ≡ s ++ t → length next ≤ 1073741824 → More f next n n'
+pub more : {f : GridPoint → Bool} (s t : List GridPoint) {next : List GridPoint} {n n' : ℕ} → n ≡ many f s → n' ≡ many f t → next ≡ s ++ t → length next ≤ 1073741824
+    → More f next n n'
 more {f} s t {next} {n} {n'} e e' grows few =
     let same : n + n' ≡ many f next = ap₂ _+_ e e' ∙ sym (ap (many f) grows ∙ many-append f s t) in
     record { fits = omega (arith, many-most f next); same = same }

@@ -13,7 +13,7 @@ use lib.Count.{trailingZeros}
 use Rattle.lists.specs.Lists.{run, upTo, keep, many, some, joined}
 use Rattle.rules.specs.Grid.{Field}
 use Rattle.rules.specs.Vertices.{rowCells, layerCells, cells, layerVertices, vertices}
-use Rattle.rules.specs.Faces.{owned, changes, cellEdges, layerEdges, layerPoints, points, changingEdges, indices}
+use Rattle.rules.specs.Faces.{owned, changes, cellEdges, layerEdges, layerPoints, points, changingEdges}
 use Rattle.rules.specs.Call.{badDimensions, badBox, badLength, beyond, badLayer, badDistance}
 use Rattle.rules.proofs.Edges.{index-count}
 use Rattle.grid.specs.declared.Block.{Block}
@@ -123,7 +123,8 @@ old = counted 7 8 9
 pub layers-told : layerTold [] layer1 block 1 old ∷ layerTold layer1 layer2 block 2 nothing ∷ layerTold layer2 layer3 block 3 (counted 0 8 12)
     ∷ layerTold layer3 layer4 block 4 (counted 1 15 30) ∷ []
     ≡ told 0 nothing ∷ told 0 (counted 0 8 12) ∷ told 0 (counted 1 15 30) ∷ told 0 (counted 1 24 78) ∷ []
-unfolding layerTold layerAnswer badDimensions badBox badLayer layerPoints beyond some joined upTo run layerDist layerVertices layerEdges cellEdges owned changes layerCells rowCells keep many lt
+unfolding layerTold layerAnswer badDimensions badBox badLayer layerPoints beyond some joined upTo run layerDist
+    layerVertices layerEdges cellEdges owned changes layerCells rowCells keep many lt
 layers-told = refl
 
 -- one case to a condition, with every later one holding too; then each kind of a wrong length and of a bad distance, and the counts so far at and past their limit

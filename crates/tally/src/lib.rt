@@ -3,13 +3,11 @@
 mod whole_cells;
 
 ghost use mathlib.Core.Path.{_≡_};
-ghost use mathlib.Core.Bool.{cond};
 ghost use Prim.Native.Nat.{_≤_};
-ghost use lib.Dec.{eqb};
 ghost use Rattle.grid.specs.Block.{point, boxOf, flagsOf};
 ghost use Rattle.grid.specs.Layers.{twoLayers, InLayers};
 ghost use Rattle.grid.specs.Values.{asFloats, gridGiven, gridBefore};
-ghost use Rattle.levels.specs.Call.{layerAnswer as levelsAnswer, boxFrom};
+ghost use Rattle.levels.specs.Call.{layerAnswer as levelsAnswer};
 ghost use Rattle.tally.specs.Call.{nothing, told, plus, tooMany, layerCounts, tallied, layerTold};
 use grid::Block;
 

@@ -1,5 +1,4 @@
 -- Each way out by what was found of the layers, and by the counts so far. Assumes nothing.
-use Prim.Native.Nat.{_<_}
 use native.Mathlib.Omega.{arith}
 use mathlib.Core.Bool.{false}
 use mathlib.Core.List.{List}

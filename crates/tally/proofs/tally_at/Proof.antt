@@ -1,11 +1,8 @@
 -- The conditions in their order: each way out by the tests that led there. Assumes nothing.
-use mathlib.Core.Bool.{false}
 use mathlib.Core.List.{List}
-use mathlib.Core.Path.{_≡_, ap, sym, _∙_}
+use mathlib.Core.Path.{ap, sym, _∙_}
 use lib.Ieee.{Float}
 use lib.ListN.{length}
-use Rattle.rules.specs.Call.{badDistance}
-use Rattle.count.specs.declared.Tally.{Tally}
 use Rattle.grid.specs.Block.{point, boxOf, flagsOf, fieldOf}
 use Rattle.grid.specs.Inside.{Inside}
 use Rattle.grid.specs.Values.{gridOf}

@@ -1,13 +1,10 @@
 -- What the cells between the two layers count is small, so that the sums fit. Assumes nothing.
 use Prim.Native.Nat.{ℕ, _+_, _≤_}
 use native.Mathlib.Omega.{arith}
-use mathlib.Core.List.{List}
-use mathlib.Core.Path.{_≡_, _∙_}
+use mathlib.Core.Path.{_∙_}
 use mir.Syntax.{w64}
 use mir.Val.{Fits}
-use lib.Ieee.{Float}
 use Rattle.rules.specs.Grid.{Field}
-use Rattle.count.specs.declared.Tally.{Tally}
 use Rattle.grid.specs.Block.{boxOf, flagsOf}
 use Rattle.grid.specs.Layers.{twoLayers}
 use Rattle.grid.specs.Values.{gridOf}

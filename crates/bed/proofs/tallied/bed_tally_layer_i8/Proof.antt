@@ -26,7 +26,8 @@ returns c =
     let k = o .before .before in
     let a = k .before .args in
     left-as (a .counts .now)
-    (t .tally-layer-i8 .ensures ∙ (λ i. layerTold (asFloats (a .below .now)) (asFloats (a .layer .now)) (k .block-of .ensures i) (a .z) (o .counts-of .ensures i))) (c .leave .ensures)
+    (t .tally-layer-i8 .ensures ∙ (λ i. layerTold (asFloats (a .below .now)) (asFloats (a .layer .now)) (k .block-of .ensures i) (a .z) (o .counts-of .ensures i)))
+    (c .leave .ensures)
 
 pub bed-tally-layer-i8-spec : {M : Type 1} → statement M
 bed-tally-layer-i8-spec =

@@ -1,6 +1,5 @@
 -- The row's run lies in the two layers, and counts what the row's cells count. Assumes nothing.
 use Prim.Native.Nat.{_+_, _*_}
-use native.Mathlib.Omega.{arith}
 use mathlib.Core.List.{List}
 use mathlib.Core.Path.{refl, sym, _∙_}
 use lib.Ieee.{Float}

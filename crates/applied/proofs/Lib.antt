@@ -7,3 +7,4 @@ pub mod Planned
 pub mod Bounded
 pub mod WholeNumbers
 pub mod Moved
+pub mod Tallied

@@ -20,8 +20,9 @@ use Rattle.fixtures.specs.Layer.{layerAnswer, cutLayer}
 use Rattle.fixture_widths.specs.Into.{intoAnswer, cutInto}
 
 opened : Unit {0}
-unfolding layerAnswer cutLayer intoAnswer cutInto cutAnswer cutGrid cutAll fileAnswer fileAt solidAt members greater lesser boxValue joins headAt badGroup record-of.badBox past farPoint
-    unknownKind badCount restZero wordAt bytesOf badDimensions badLength run joined placed add sub mul div lt neg ofInt round size units odd sum span climb trailingZeros ofBits ofFields
+unfolding layerAnswer cutLayer intoAnswer cutInto cutAnswer cutGrid cutAll fileAnswer fileAt solidAt members greater lesser boxValue joins headAt badGroup record-of.badBox
+    past farPoint unknownKind badCount restZero wordAt bytesOf badDimensions badLength run joined placed add sub mul div lt neg ofInt round size units odd sum span climb
+    trailingZeros ofBits ofFields
 opened = tt
 
 -- low -9, -9, -9, high 9, 0.5, 1

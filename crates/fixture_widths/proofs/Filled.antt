@@ -92,7 +92,8 @@ module _ (f : List ℕ) (d : GridPoint) (z : ℕ) (layer out : List Float) where
       (zero-or-not (layerAnswer f d z (length layer)))
 
   pub done : {r : ℕ} → r ≡ layerAnswer f d z (length layer) → r ≡ 0 → length layer ≤ length out → {now part : List Float} → now ≡ over layer out
-      → {taken : List Float} → taken ≡ layer → part ≡ cutLayer f d z taken → {n : ℕ} → n ≡ length layer → {s : ℕ} → s ≡ layerAnswer f d z (length taken) → Both s (part ++ drop n now)
+      → {taken : List Float} → taken ≡ layer → part ≡ cutLayer f d z taken → {n : ℕ} → n ≡ length layer → {s : ℕ} → s ≡ layerAnswer f d z (length taken)
+      → Both s (part ++ drop n now)
   done e t h en et ep {n} el es =
       let a : intoAnswer f d z (length layer) (length out) ≡ 0 = into-room (sym e ∙ t) (le-ltb (length out) (length layer) h) in
       let answered = es ∙ (ap (λ (l : List Float). layerAnswer f d z (length l)) et ∙ (sym e ∙ t)) in (

@@ -54,7 +54,8 @@ abbrev turn-of : tie.After-value-at Inv-loop μ-loop → tie.At-loop Inv-loop μ
 turn-of c = c .before .before
 
 stored : (c : tie.After-value-at Inv-loop μ-loop) (fits : length (source (entry-of (turn-of c))) ≤ length (entry-of (turn-of c) .args .out .now))
-    → set (turn-of c .loop .out) (turn-of c .loop .i) (c .value-at .result) ≡ filled (source (entry-of (turn-of c))) (entry-of (turn-of c) .args .out .now) fits (turn-of c .loop .i + 1)
+    → set (turn-of c .loop .out) (turn-of c .loop .i) (c .value-at .result)
+    ≡ filled (source (entry-of (turn-of c))) (entry-of (turn-of c) .args .out .now) fits (turn-of c .loop .i + 1)
 stored c fits =
     let w = turn-of c .loop in
     let s = entry-of (turn-of c) in

@@ -16,9 +16,12 @@ use Rattle.grid.specs.Block.{point}
 use Rattle.skin.specs.declared.Enclosed.{Enclosed}
 use Rattle.skin.specs.Enclosed.{inner, stray, enclosed}
 
--- the points of a row, of a layer and of the box. The distances are read in the layer `place` of a box f; whether a point is stray is asked in the layer z of the box b
+-- the points of a part of a row, of a row, of a layer and of the box. The distances are read in the layer `place` of a box f; whether a point is stray is asked in the layer z of the box b
 abbrev pub strayAt : Field → Box → GridPoint → GridPoint → Bool
 strayAt g b p q = negative (value g p) && not (inner b q)
+
+unfoldable pub strayPart : Field → Box → ℕ → ℕ → ℕ → ℕ → ℕ → Bool
+strayPart g b place z y from end = some (λ (x : ℕ). strayAt g b (record { x = x; y = y; z = place }) (record { x = x; y = y; z = z })) (upTo from end)
 
 unfoldable pub strayRow : Field → Box → Box → ℕ → ℕ → ℕ → Bool
 strayRow g f b place z y = some (λ (x : ℕ). strayAt g b (record { x = x; y = y; z = place }) (record { x = x; y = y; z = z })) (upTo (f .low .x) (f .high .x + 1))

@@ -3,7 +3,7 @@ use Prim.Native.Nat.{ℕ, _*_, _≤_, _<_}
 use native.Mathlib.Omega.{arith}
 use mathlib.Core.Bool.{Bool, false, not}
 use mathlib.Core.List.{List}
-use mathlib.Core.Path.{_≡_, sym, ap, _∙_}
+use mathlib.Core.Path.{_≡_, refl, sym, ap, _∙_}
 use lib.Ieee.{Float}
 use lib.ListN.{length}
 use Rattle.rules.specs.Grid.{Box, Field}
@@ -134,7 +134,7 @@ stray-layer-requires : tie.Need-stray-layer-requires
 stray-layer-requires c κs =
     let e = second-of (fourth-of c) in
     let s = start-of (first-of e) in
-    (flat-inside (s .args .dims) (s .args .low) (s .args .high) (list-of s) (dims-ok (first-of e)) (box-ok e) (long c), (omega arith, omega arith))
+    (flat-inside (s .args .dims) (s .args .low) (s .args .high) (list-of s) (dims-ok (first-of e)) (box-ok e) (long c), ((omega arith, omega arith), (refl, refl)))
 
 returns-6 : tie.Need-returns-6
 returns-6 c =

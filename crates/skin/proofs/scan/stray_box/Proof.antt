@@ -1,5 +1,6 @@
 -- The invariant: the flag says whether a layer before z has a stray point. Assumes nothing.
 use Prim.Native.Nat.{ℕ, _+_, _-_}
+use mathlib.Core.Path.{refl}
 use borrow.Author.Needs.{needs}
 use Rattle.grid.specs.Block.{boxOf, fieldOf}
 use Rattle.grid.specs.Values.{gridOf}
@@ -28,7 +29,7 @@ loop-holds : tie.Need-loop-holds Inv-loop μ-loop
 loop-holds c = scan-begun (point-spans (c .before .before .pre) .z)
 
 stray-layer-requires : tie.Need-stray-layer-requires Inv-loop μ-loop
-stray-layer-requires c κs = (entry-of (c .before) .pre, through (here c))
+stray-layer-requires c κs = (entry-of (c .before) .pre, (through (here c), (refl, refl)))
 
 either-requires : tie.Need-either-requires Inv-loop μ-loop
 either-requires c κs = search needs

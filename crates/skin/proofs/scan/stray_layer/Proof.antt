@@ -31,7 +31,7 @@ stray-row-requires : tie.Need-stray-row-requires Inv-loop μ-loop
 stray-row-requires c κs =
     let s = entry-of (c .before) in
     let (low, high) = through (here c) in
-    (s .pre .0, (low, high, s .pre .1 .0, s .pre .1 .1))
+    (s .pre .0, ((low, high, s .pre .1 .0 .0, s .pre .1 .0 .1), s .pre .1 .1))
 
 either-requires : tie.Need-either-requires Inv-loop μ-loop
 either-requires c κs = search needs

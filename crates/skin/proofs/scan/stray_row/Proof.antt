@@ -1,94 +1,106 @@
--- The invariant: the flag says whether a point before x of the row is stray. Assumes nothing.
-use Prim.Native.Nat.{ℕ, _+_, _-_}
+-- Where the row lies inside, its two ends; and else the whole of it. Assumes nothing.
+use Prim.Native.Nat.{ℕ, _+_, _-_, _≤_}
+use native.Mathlib.Omega.{arith}
+use mathlib.Core.Bool.{Bool, true, _&&_}
 use mathlib.Core.List.{List}
-use lib.Dec.{T}
+use mathlib.Core.Path.{_≡_, sym, _∙_}
+use lib.Dec.{leb}
 use lib.Ieee.{Float}
 use borrow.Author.Needs.{needs}
-use Rattle.rules.specs.Grid.{GridPoint, inBox}
+use borrow.Author.Tests.{not-false}
 use Rattle.grid.specs.Block.{boxOf, fieldOf}
 use Rattle.grid.specs.Values.{gridOf}
-use Rattle.grid.proofs.Rows.{on-row}
-use Rattle.grid.proofs.Bounds.{point-inside, below-length}
-use Rattle.grid.proofs.Walks.{Turn, turn, through, end-fits, Scanned, scan-begun, scan-more, scan-ended, point-spans}
-use Rattle.skin.specs.Scan.{strayAt, strayRow}
+use Rattle.grid.proofs.Bounds.{fits}
+use Rattle.grid.proofs.Walks.{end-fits, point-spans}
+use Rattle.skin.specs.Enclosed.{innerSide}
+use Rattle.skin.proofs.Scans.{middle-wide, row-whole, row-ends}
 use Rattle.skin.proofs.scan.stray_row.Statement.{statement}
 use Rattle.skin.proofs.scan.stray_row.Tie as tie
 
-abbrev Inv-loop : tie.InvT-loop
-Inv-loop width sdf sdf16 sdf8 f k y place z from end stray₀ x₀ found x =
-    Scanned
-    (λ (x' : ℕ). strayAt (fieldOf (gridOf width sdf sdf16 sdf8) f) (boxOf k) (record { x = x'; y = y; z = place }) (record { x = x'; y = y; z = z }))
-    from end x found
-
-abbrev μ-loop : tie.MeasureT-loop
-μ-loop width sdf sdf16 sdf8 f k y place z from end stray₀ x₀ found x = end - x
-
-abbrev entry-of : tie.At-loop Inv-loop μ-loop → tie.Start Inv-loop μ-loop
-entry-of c = c .before .before .before
-
-abbrev grid-of : tie.Start Inv-loop μ-loop → List Float
+abbrev grid-of : tie.Start → List Float
 grid-of s = let a = s .args in gridOf (a .width) (a .sdf .now) (a .sdf16 .now) (a .sdf8 .now)
 
--- the point of a turn
-here : (c : tie.In-loop Inv-loop μ-loop) → let f = entry-of (c .before) .args .f in Turn (f .low .x) (f .high .x + 1) (c .before .loop .x)
-here c = turn (point-spans (entry-of (c .before) .pre .0) .x) (c .before .loop .inv .count) (c .loop-test .taken)
+order : (s : tie.Start) → s .args .f .low .x ≤ s .args .f .high .x
+order s = fits (grid-of s) (s .args .f) (s .pre .0) .x .0
 
-abbrev spot : tie.At-loop Inv-loop μ-loop → GridPoint
-spot c = record { x = c .loop .x; y = entry-of c .args .y; z = entry-of c .args .place }
+abbrev start-of : tie.Else1 → tie.Start
+start-of c = c .before .before .before
 
-within : (c : tie.In-loop Inv-loop μ-loop) → T (inBox (boxOf (entry-of (c .before) .args .f)) (spot (c .before)))
-within c = let (ylow, yhigh, zlow, zhigh) = entry-of (c .before) .pre .1 in on-row (entry-of (c .before) .pre .0) (ylow, yhigh) (zlow, zhigh) (through (here c))
+middle : (c : tie.Else1)
+    → (let a = start-of c .args in (innerSide (a .k .low .y) (a .k .high .y) (a .y) && (innerSide (a .k .low .z) (a .k .high .z) (a .z) && leb 3 (a .f .high .x - a .f .low .x))) ≡ true)
+middle c = sym (c .before .is-middle .ensures) ∙ not-false (c .before .is-middle .result) (c .if1 .left)
 
-add-end : tie.Need-add-end Inv-loop μ-loop
-add-end c = end-fits (point-spans (c .before .before .pre .0) .x)
+wide : (c : tie.Else1) → let f = start-of c .args .f in 3 ≤ f .high .x - f .low .x
+wide c =
+    let a = start-of c .args in
+    middle-wide (innerSide (a .k .low .y) (a .k .high .y) (a .y)) (innerSide (a .k .low .z) (a .k .high .z) (a .z)) (a .f .high .x - a .f .low .x) (middle c)
 
-loop-holds : tie.Need-loop-holds Inv-loop μ-loop
-loop-holds c = scan-begun (point-spans (c .before .before .pre .0) .x)
+sub-is-middle : tie.Need-sub-is-middle
+sub-is-middle c = order (c .before)
 
-linearize-requires : tie.Need-linearize-requires Inv-loop μ-loop
-linearize-requires c κs = let s = entry-of (c .before) in point-inside (grid-of s) (s .args .f) (s .pre .0) (spot (c .before)) (within c)
+is-middle-requires : tie.Need-is-middle-requires
+is-middle-requires c κs = search needs
 
-value-at-requires : tie.Need-value-at-requires Inv-loop μ-loop
-value-at-requires c κs =
-    let t = c .before in
-    let s = entry-of (t .before) in
-    rw (c .linearize .ensures) (below-length (grid-of s) (s .args .f) (s .pre .0) (spot (t .before)) (within t))
+add-stray-part : tie.Need-add-stray-part
+add-stray-part c = end-fits (point-spans (c .before .before .before .pre .0) .x)
 
-is-stray-requires : tie.Need-is-stray-requires Inv-loop μ-loop
-is-stray-requires c κs = search needs
+stray-part-requires : tie.Need-stray-part-requires
+stray-part-requires c κs =
+    let s = c .before .before .before in
+    let o = order s in
+    (s .pre .0, (s .pre .1 .0, (omega arith, omega arith, omega arith)))
 
-either-requires : tie.Need-either-requires Inv-loop μ-loop
+returns : tie.Need-returns
+returns c =
+    let s = c .before .before .before .before in
+    let a = s .args in
+    row-whole (fieldOf (grid-of s) (a .f)) (boxOf (a .f)) (boxOf (a .k)) (a .place) (a .z) (a .y) (s .pre .1 .1) (c .stray-part .ensures)
+
+add-stray-part-2 : tie.Need-add-stray-part-2
+add-stray-part-2 c = let e = end-fits (point-spans (start-of c .pre .0) .x) in let o = order (start-of c) in omega arith
+
+stray-part-requires-2 : tie.Need-stray-part-requires-2
+stray-part-requires-2 c κs =
+    let s = start-of c in
+    let o = order s in
+    (s .pre .0, (s .pre .1 .0, (omega arith, omega arith, omega arith)))
+
+sub-stray-part : tie.Need-sub-stray-part
+sub-stray-part c = let w = wide (c .before) in omega arith
+
+add-stray-part-3 : tie.Need-add-stray-part-3
+add-stray-part-3 c = end-fits (point-spans (start-of (c .before) .pre .0) .x)
+
+stray-part-requires-3 : tie.Need-stray-part-requires-3
+stray-part-requires-3 c κs =
+    let s = start-of (c .before) in
+    let w = wide (c .before) in
+    (s .pre .0, (s .pre .1 .0, (omega arith, omega arith, omega arith)))
+
+either-requires : tie.Need-either-requires
 either-requires c κs = search needs
 
-add-x : tie.Need-add-x Inv-loop μ-loop
-add-x c = here (c .before .before .before .before) .fits
-
-loop-less : tie.Need-loop-less Inv-loop μ-loop
-loop-less c = here (c .before .before .before .before) .less
-
-loop-again : tie.Need-loop-again Inv-loop μ-loop
-loop-again c =
-    let v = c .before .before in
-    let t = v .before .before in
-    scan-more (t .before .loop .inv) (here t) (rw (← v .before .linearize .ensures, ← v .value-at .ensures) (c .before .is-stray .ensures)) (c .either .ensures)
-
-returns : tie.Need-returns Inv-loop μ-loop
-unfolding strayRow
-returns c = scan-ended (c .before .loop .inv) (c .loop-test .left)
+returns-2 : tie.Need-returns-2
+returns-2 c =
+    let e = c .before .before .before in
+    let s = start-of e in
+    let a = s .args in
+    row-ends (fieldOf (grid-of s) (a .f)) (boxOf (a .f)) (boxOf (a .k)) (a .place) (a .z) (a .y) (s .pre .1 .1) (middle e) (c .before .before .stray-part2 .ensures)
+    (c .before .stray-part3 .ensures) (c .either .ensures)
 
 pub stray-row-spec : {M : Type 1} → statement M
 stray-row-spec =
     tie.close
     (tie.spec
-    Inv-loop
-    μ-loop
-    add-end
-    loop-holds
-    linearize-requires
-    value-at-requires
-    is-stray-requires
+    sub-is-middle
+    is-middle-requires
+    add-stray-part
+    stray-part-requires
+    returns
+    add-stray-part-2
+    stray-part-requires-2
+    sub-stray-part
+    add-stray-part-3
+    stray-part-requires-3
     either-requires
-    add-x
-    loop-less
-    loop-again
-    returns)
+    returns-2)

@@ -1,5 +1,5 @@
--- The volume that does not change where the mesh is moved, applied: what the call of OnePoint on the whole box wrote, weighed where it stands and moved by 2, 5 and 11 grid steps; and
--- the blocks of Planned, whose sums make up the tank's. The moved positions were worked out in binary32 apart from these definitions. Assumes nothing.
+-- The volume that does not change where the mesh is moved, applied: what the call of OnePoint on the whole box wrote, weighed where it stands and moved by 2, 5 and 11 grid
+-- steps; and the blocks of Planned, whose sums make up the tank's. The moved positions were worked out in binary32 apart from these definitions. Assumes nothing.
 use Prim.Native.Nat.{ℕ, zero, suc, _<_}
 use native.Mathlib.Omega.{arith}
 use mathlib.Core.Bool.{false}

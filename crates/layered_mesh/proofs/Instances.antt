@@ -177,8 +177,7 @@ singleOut = joinedWith (joinedWith (joinedWith (joinedWith nothing (wrote s0)) (
 single-fed : Fed singleGrid single 4 (s3 .next) (s3 .after .memory) singleOut
 unfolding opened layersOpened startAnswer
 single-fed =
-    taken (taken (taken (taken (started (memory (replicate 32 one32) (replicate 32 7) (replicate 48 one32)) refl) s0 refl refl refl refl) s1 refl refl refl refl) s2 refl refl refl refl) s3
-    refl refl refl refl
+    taken (taken (taken (taken (started (s0 .memory) refl) s0 refl refl refl refl) s1 refl refl refl refl) s2 refl refl refl refl) s3 refl refl refl refl
 
 single-inside : Inside singleGrid single
 unfolding opened

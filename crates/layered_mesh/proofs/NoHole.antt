@@ -1,5 +1,6 @@
--- The verdict on holes of a bed taken layer by layer, from the test of its layers alone: if the test says yes of every layer of the box, then in what all layers brought out each directed
--- triangle side occurs as often as its reverse. Over the contracts of the test, that for C too; and two outcomes that fit one of these are equal. Assumes nothing.
+-- The verdict on holes of a bed taken layer by layer, from the test of its layers alone: if the test says yes of every layer of the box, then in what all layers brought out
+-- each directed triangle side occurs as often as its reverse. Over the contracts of the test, that for C too; and two outcomes that fit one of these are equal. Assumes
+-- nothing.
 use Prim.Native.Nat.{ℕ, _≤_}
 use mathlib.Core.Bool.{Bool, true}
 use mathlib.Core.List.{List}

@@ -1,5 +1,6 @@
--- The calls of `layers::offer`, and of bed_layers_offer, with an outcome that fits the contract: each is an offer with what came of it. So the theorems over offers are theorems over the
--- generated contracts. Last, all layers of a grid offered in turn by calls, of either: each is answered 0, and what came out is the whole call's mesh. Assumes nothing.
+-- The calls of `layers::offer`, and of bed_layers_offer, with an outcome that fits the contract: each is an offer with what came of it. So the theorems over offers are
+-- theorems over the generated contracts. Last, all layers of a grid offered in turn by calls, of either: each is answered 0, and what came out is the whole call's mesh.
+-- Assumes nothing.
 use Prim.Native.Nat.{ℕ, suc, _+_, _<_}
 use mathlib.Core.List.{List}
 use mathlib.Core.Path.{_≡_, ap, _∙_}

@@ -42,7 +42,8 @@ first-joined g vs ws is js =
       indices = take-at is js (length is) refl i;
     }
 
-module _ (sdf : List Float) (k : Block) (inside : Inside sdf k) {n c : ℕ} {s t : State} {m o : Memory} {so-far out : Output} (some : Fed sdf k (suc n) s m so-far) (fed : Fed sdf k c t o out)
+module _ (sdf : List Float) (k : Block) (inside : Inside sdf k) {n c : ℕ} {s t : State} {m o : Memory} {so-far out : Output}
+    (some : Fed sdf k (suc n) s m so-far) (fed : Fed sdf k c t o out)
     (all-in : c ≡ pointsInZ k) (fewer : suc n ≤ pointsInZ k) where
   abbrev z : ℕ
   z = k .low .z + n

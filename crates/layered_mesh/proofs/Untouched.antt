@@ -1,6 +1,6 @@
--- What no layer touches, whatever the state, the kept memory and the answer: of each list lent for output what lies past the first 3V, 3V, 3V, V, V and I numbers; the kept positions
--- past 3V; of the kept map the entries beside the box, in both halves, and what lies past them; of the kept distances the half that is not the layer's, and what lies past both.
--- Assumes nothing.
+-- What no layer touches, whatever the state, the kept memory and the answer: of each list lent for output what lies past the first 3V, 3V, 3V, V, V and I numbers; the kept
+-- positions past 3V; of the kept map the entries beside the box, in both halves, and what lies past them; of the kept distances the half that is not the layer's, and what
+-- lies past both. Assumes nothing.
 use Prim.Native.Nat.{ℕ, _+_, _-_, _*_, _/_, _%_, _≤_, _<_}
 use native.Mathlib.Nat.{zero-add}
 use native.Mathlib.Omega.{arith}
@@ -277,7 +277,8 @@ module _ (u : Offered) where
   block = u .state .block
 
   -- the answer is 0 or not
-  by-answer : (P : Left → Type 0) → (layerAnswer (u .state) (u .layer) (u .memory) (roomIn (u .memory) (u .lent)) .number ≡ 0 → P (leaves (u .state) (u .layer) (u .memory) (u .lent)))
+  by-answer : (P : Left → Type 0)
+      → (layerAnswer (u .state) (u .layer) (u .memory) (roomIn (u .memory) (u .lent)) .number ≡ 0 → P (leaves (u .state) (u .layer) (u .memory) (u .lent)))
       → P (left (u .memory) (u .lent)) → P (u .after)
   by-answer P yes' no' = subst P (sym (u .left)) (go (less-or-not 0 number))
     where

@@ -1,5 +1,5 @@
--- One layer of a grid, tested by itself: as a grid one layer high its rows are those of the layer; and of every layer of the box the answer is yes exactly if that of the grid is. Assumes
--- nothing.
+-- One layer of a grid, tested by itself: as a grid one layer high its rows are those of the layer; and of every layer of the box the answer is yes exactly if that of the
+-- grid is. Assumes nothing.
 use Prim.Native.Nat.{ℕ, _+_, _-_, _*_, _≤_, _<_}
 use native.Mathlib.Nat.{mul-zero, mul-one, mul-add, mul-le-mul-left, le-trans, le-of-eq}
 use native.Mathlib.Omega.{arith}
@@ -87,7 +87,8 @@ pub flat-strays : (layer : List Float) (dims low high : Extent) (z : ℕ)
     → not (strayLayer (fieldOf layer (flat dims low high)) (boxOf (flat dims low high)) (boxFrom low high) 0 z) ≡ layerEnclosed (layerGrid layer dims z) (boxFrom low high) z
 unfolding strayLayer strayRow layerEnclosed
 flat-strays layer dims low high z =
-    ap not (some-same (all-each (λ y. some-same (all-each (point-same y) (upTo (low .x) (high .x + 1)))) (upTo (low .y) (high .y + 1))) ∙ sym (layer-is (layerGrid layer dims z) (boxFrom low high) z))
+    ap not (some-same (all-each (λ y. some-same (all-each (point-same y) (upTo (low .x) (high .x + 1)))) (upTo (low .y) (high .y + 1)))
+    ∙ sym (layer-is (layerGrid layer dims z) (boxFrom low high) z))
   where
     point-same : (y x : ℕ) → strayAt (fieldOf layer (flat dims low high)) (boxFrom low high) (record { x = x; y = y; z = 0 }) (record { x = x; y = y; z = z })
         ≡ strayAt (layerGrid layer dims z) (boxFrom low high) (record { x = x; y = y; z = z }) (record { x = x; y = y; z = z })
@@ -166,7 +167,9 @@ module _ (sdf : List Float) (dims low high : Extent) (i : Inside sdf (blockOf di
       let bx = between (low .x) (high .x) (p .x) in
       let by = between (low .y) (high .y) (p .y) in
       let bz = between (low .z) (high .z) (p .z) in
-      let there : T (isLayerPoint b z p) = and-i bx (by && eqb (p .z) z) (and-l bx (by && bz) in-it) (and-i by (eqb (p .z) z) (and-l by bz (and-r bx (by && bz) in-it)) (is-test (eqb (p .z) z) (eq-eqb (p .z) z e))) in
+      let here = is-test (eqb (p .z) z) (eq-eqb (p .z) z e) in
+      let there : T (isLayerPoint b z p) =
+      and-i bx (by && eqb (p .z) z) (and-l bx (by && bz) in-it) (and-i by (eqb (p .z) z) (and-l by bz (and-r bx (by && bz) in-it)) here) in
       T-not (some (stray g b) (layerPoints b z)) t
       (some-has samePoint samePoint-sound samePoint-itself (stray g b) p st (layerPoints b z) (omega (arith, layerPoints-once b z p, one-of (isLayerPoint b z p) there)))
 
@@ -186,8 +189,10 @@ module _ (sdf : List Float) (dims low high : Extent) (i : Inside sdf (blockOf di
           let t : T (isLayerPoint b z p) = one-positive (isLayerPoint b z p) (omega (arith, w .1, layerPoints-once b z p)) in
           let rest = and-r bx (by && eqb (p .z) z) t in
           let at : p .z ≡ z = eqb→eq (p .z) z (and-r by (eqb (p .z) z) rest) in
-          let bz : T (between (low .z) (high .z) (p .z)) = and-i (leb (low .z) (p .z)) (leb (p .z) (high .z)) (le→leb (low .z) (p .z) (omega arith)) (le→leb (p .z) (high .z) (omega arith)) in
-          no' p (and-i bx (by && between (low .z) (high .z) (p .z)) (and-l bx (by && eqb (p .z) z) t) (and-i by (between (low .z) (high .z) (p .z)) (and-l by (eqb (p .z) z) rest) bz))
+          let bz : T (between (low .z) (high .z) (p .z)) =
+          and-i (leb (low .z) (p .z)) (leb (p .z) (high .z)) (le→leb (low .z) (p .z) (omega arith)) (le→leb (p .z) (high .z) (omega arith)) in
+          no' p
+          (and-i bx (by && between (low .z) (high .z) (p .z)) (and-l bx (by && eqb (p .z) z) t) (and-i by (between (low .z) (high .z) (p .z)) (and-l by (eqb (p .z) z) rest) bz))
           at (w .2)
 
   -- every layer of the grid says yes by itself: then the grid does

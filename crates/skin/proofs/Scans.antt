@@ -120,4 +120,5 @@ module _ (g : Field) (f b : Box) (place z y : ℕ) (same : (f .low .x ≡ b .low
         r ∙ ap₂ _||_ e d
         ∙ sym (ap (some at) (one ∙ ap (λ (l : List ℕ). upTo a (a + 1) ++ l) two)
         ∙ some-append at (upTo a (a + 1)) (upTo (a + 1) (c - 1) ++ upTo (c - 1) (c + 1))
-        ∙ ap (λ (t : Bool). some at (upTo a (a + 1)) || t) (some-append at (upTo (a + 1) (c - 1)) (upTo (c - 1) (c + 1)) ∙ ap (λ (t : Bool). t || some at (upTo (c - 1) (c + 1))) middle-none))
+        ∙ ap (λ (t : Bool). some at (upTo a (a + 1)) || t)
+        (some-append at (upTo (a + 1) (c - 1)) (upTo (c - 1) (c + 1)) ∙ ap (λ (t : Bool). t || some at (upTo (c - 1) (c + 1))) middle-none))

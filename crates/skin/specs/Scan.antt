@@ -16,7 +16,8 @@ use Rattle.grid.specs.Block.{point}
 use Rattle.skin.specs.declared.Enclosed.{Enclosed}
 use Rattle.skin.specs.Enclosed.{inner, stray, enclosed}
 
--- the points of a part of a row, of a row, of a layer and of the box. The distances are read in the layer `place` of a box f; whether a point is stray is asked in the layer z of the box b
+-- the points of a part of a row, of a row, of a layer and of the box. The distances are read in the layer `place` of a box f; whether a point is stray is asked in the
+-- layer z of the box b
 abbrev pub strayAt : Field → Box → GridPoint → GridPoint → Bool
 strayAt g b p q = negative (value g p) && not (inner b q)
 

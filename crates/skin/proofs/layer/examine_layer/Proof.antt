@@ -128,7 +128,8 @@ returns-5 c =
     let e = second-of f in
     let s = start-of (first-of e) in
     c .refused5 .ensures
-    ∙ layer-3 (grid-of s) (box-of s) (length (list-of s)) (s .args .z) (dims-ok (first-of e)) (box-ok e) (low-ok f) (high-ok f) (λ q. t .if5 .taken (t .before .length-of .ensures ∙ q))
+    ∙ layer-3 (grid-of s) (box-of s) (length (list-of s)) (s .args .z) (dims-ok (first-of e)) (box-ok e) (low-ok f) (high-ok f)
+    (λ q. t .if5 .taken (t .before .length-of .ensures ∙ q))
 
 stray-layer-requires : tie.Need-stray-layer-requires
 stray-layer-requires c κs =

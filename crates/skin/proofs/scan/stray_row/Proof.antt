@@ -27,7 +27,8 @@ abbrev start-of : tie.Else1 → tie.Start
 start-of c = c .before .before .before
 
 middle : (c : tie.Else1)
-    → (let a = start-of c .args in (innerSide (a .k .low .y) (a .k .high .y) (a .y) && (innerSide (a .k .low .z) (a .k .high .z) (a .z) && leb 3 (a .f .high .x - a .f .low .x))) ≡ true)
+    → (let a = start-of c .args in
+    (innerSide (a .k .low .y) (a .k .high .y) (a .y) && (innerSide (a .k .low .z) (a .k .high .z) (a .z) && leb 3 (a .f .high .x - a .f .low .x))) ≡ true)
 middle c = sym (c .before .is-middle .ensures) ∙ not-false (c .before .is-middle .result) (c .if1 .left)
 
 wide : (c : tie.Else1) → let f = start-of c .args .f in 3 ≤ f .high .x - f .low .x

@@ -4,16 +4,20 @@ mod bench;
 mod grids;
 mod said;
 
-use bench::Call;
-use bench::Room;
 use bench::Show;
 use bench::case;
+use grid::Block;
 use grid::EachAxis;
 use grid::Extent;
+use judge::Lengths;
 
 // Room for the largest mesh here, and three numbers to spare in each list.
-const AMPLE: Room = Room {
+const AMPLE: Lengths = Lengths {
     positions: 27,
+    normals: 27,
+    cells: 27,
+    strides: 11,
+    crossings: 11,
     map: 30,
     indices: 39,
 };
@@ -23,8 +27,8 @@ fn at(x: u32, y: u32, z: u32) -> Extent {
 }
 
 // A call without max plane.
-fn plain(dims: Extent, low: Extent, high: Extent) -> Call {
-    Call {
+fn plain(dims: Extent, low: Extent, high: Extent) -> Block {
+    Block {
         dims,
         low,
         high,
@@ -33,17 +37,17 @@ fn plain(dims: Extent, low: Extent, high: Extent) -> Call {
 }
 
 // The box from 0, 0, 0 to a corner of a grid of dimensions 3, 3, 3.
-fn up_to(x: u32, y: u32, z: u32) -> Call {
+fn up_to(x: u32, y: u32, z: u32) -> Block {
     plain(at(3, 3, 3), at(0, 0, 0), at(x, y, z))
 }
 
 // One point of a long row.
-fn row_of(x: u32) -> Call {
+fn row_of(x: u32) -> Block {
     plain(at(x, 1, 1), at(0, 0, 0), at(0, 0, 0))
 }
 
-fn with_plane() -> Call {
-    Call {
+fn with_plane() -> Block {
+    Block {
         dims: at(3, 3, 3),
         low: at(0, 0, 0),
         high: at(2, 2, 2),
@@ -52,18 +56,22 @@ fn with_plane() -> Call {
 }
 
 // A line with the counts, of any grid and of Ball.
-fn counts(name: &[u8], sdf: &[f32], asked: Call) {
+fn counts(name: &[u8], sdf: &[f32], asked: Block) {
     case(name, sdf, asked, AMPLE, Show::Counts);
 }
 
-fn ball(name: &[u8], asked: Call) {
+fn ball(name: &[u8], asked: Block) {
     counts(name, &grids::ball(-1.0), asked);
 }
 
 // Ball, with this much room.
 fn ball_in(name: &[u8], positions: usize, map: usize, indices: usize) {
-    let room = Room {
+    let room = Lengths {
         positions,
+        normals: 27,
+        cells: 27,
+        strides: 11,
+        crossings: 11,
         map,
         indices,
     };

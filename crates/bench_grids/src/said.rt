@@ -1,10 +1,7 @@
-// What is printed. Floats are printed by their bits.
-use libc::STDOUT_FILENO;
-use surface_nets::Answer;
-
-pub(crate) fn text(s: &[u8]) {
-    io::write_all(STDOUT_FILENO, s);
-}
+// What is printed of each bench grid.
+use judge::Answer;
+use printed::counted;
+use printed::text;
 
 pub(crate) fn head() {
     text(
@@ -22,15 +19,6 @@ pub(crate) fn head() {
     text(b"# \"all kept\": the refusal changed nothing.\n");
 }
 
-fn number(n: u64) {
-    io::print_decimal(STDOUT_FILENO, n);
-}
-
-fn word(n: u32) {
-    text(b" ");
-    number(n as u64);
-}
-
 // The name, and blanks up to the column of the answers.
 fn name(s: &[u8]) {
     text(s);
@@ -41,11 +29,6 @@ fn blanks(line: &[u8], used: usize) {
     if used <= line.len() {
         text(&line[used..]);
     }
-}
-
-fn counted(label: &[u8], n: u64) {
-    text(label);
-    number(n);
 }
 
 fn rest(is_kept: bool, is_done: bool) {
@@ -66,38 +49,4 @@ pub(crate) fn answer(label: &[u8], a: Answer, is_kept: bool) {
     counted(b", V ", a.vertex_count);
     counted(b", I ", a.index_count);
     rest(is_kept, a.number == 0);
-}
-
-// The first `count` numbers of a list.
-pub(crate) fn words(label: &[u8], list: &[u32], count: usize) {
-    text(label);
-    let mut j = 0;
-    while j < list.len() && j < count {
-        word(list[j]);
-        j += 1;
-    }
-    text(b"\n");
-}
-
-// A float's bits, or a word for not-a-number, which has no one pattern.
-fn float(x: f32) {
-    if x != x {
-        text(b" nan");
-        return;
-    }
-    text(b" ");
-    io::print_hex(STDOUT_FILENO, marks::bits(x) as u64, 8);
-}
-
-// The v-th three floats of a list.
-pub(crate) fn point(label: &[u8], list: &[f32], v: usize) {
-    text(label);
-    let mut j = 0;
-    while j < list.len() {
-        if j / 3 == v {
-            float(list[j]);
-        }
-        j += 1;
-    }
-    text(b"\n");
 }

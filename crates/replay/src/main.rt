@@ -50,7 +50,7 @@ fn replay_file(name: &[u8]) {
     let fd = os::open_read(name);
     said::name(name);
     if fd < 0 {
-        said::text(b"cannot be opened\n");
+        printed::text(b"cannot be opened\n");
         return;
     }
     said::outcome(replay_open(fd));

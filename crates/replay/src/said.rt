@@ -1,11 +1,9 @@
 // What is printed.
 use crate::tally::Outcome;
 use crate::tally::Tally;
-use libc::STDOUT_FILENO;
-
-pub(crate) fn text(s: &[u8]) {
-    io::write_all(STDOUT_FILENO, s);
-}
+use printed::counted;
+use printed::number;
+use printed::text;
 
 pub(crate) fn head() {
     text(
@@ -24,10 +22,6 @@ pub(crate) fn name(s: &[u8]) {
     text(b": ");
 }
 
-fn number(n: u64) {
-    io::print_decimal(STDOUT_FILENO, n);
-}
-
 fn after(what: &[u8], done: u32) {
     text(what);
     text(b" after ");
@@ -35,28 +29,23 @@ fn after(what: &[u8], done: u32) {
     text(b" calls\n");
 }
 
-fn kind(label: &[u8], n: u64) {
-    text(label);
-    number(n);
-}
-
 fn kinds(t: Tally) {
-    kind(b"    first in: answer ", t.answer);
-    kind(b", V ", t.vertices);
-    kind(b", I ", t.indices);
-    kind(b", positions ", t.positions);
-    kind(b", normals ", t.normals);
-    kind(b", cells ", t.cells);
-    kind(b", strides ", t.strides);
-    kind(b", map ", t.map);
-    kind(b", indices ", t.index_list);
+    counted(b"    first in: answer ", t.answer);
+    counted(b", V ", t.vertices);
+    counted(b", I ", t.indices);
+    counted(b", positions ", t.positions);
+    counted(b", normals ", t.normals);
+    counted(b", cells ", t.cells);
+    counted(b", strides ", t.strides);
+    counted(b", map ", t.map);
+    counted(b", indices ", t.index_list);
     text(b"\n");
 }
 
 fn done(calls: u32, t: Tally) {
     number(calls as u64);
-    kind(b" calls, ", t.agreed);
-    kind(b" agree, ", t.disagreed);
+    counted(b" calls, ", t.agreed);
+    counted(b" agree, ", t.disagreed);
     text(b" disagree\n");
     if t.disagreed != 0 {
         kinds(t);

@@ -1,26 +1,20 @@
 // A stored call, read from an open file: what is asked, and what it must answer.
 use crate::list::read;
+use grid::Block;
 use grid::EachAxis;
 use grid::Extent;
+use judge::Lengths;
 use marks::stored::word;
 
 // What stands before the distances; `grid` is their number.
 pub(crate) struct Asked {
-    pub(crate) dims: Extent,
-    pub(crate) low: Extent,
-    pub(crate) high: Extent,
-    pub(crate) max_plane: EachAxis,
+    pub(crate) block: Block,
     pub(crate) grid: usize,
 }
 
 // What stands after the distances: the length of each lent list, and what is answered. The lists as they must be follow.
 pub(crate) struct Expected {
-    pub(crate) positions: usize,
-    pub(crate) normals: usize,
-    pub(crate) cells: usize,
-    pub(crate) strides: usize,
-    pub(crate) map: usize,
-    pub(crate) indices: usize,
+    pub(crate) lent: Lengths,
     pub(crate) answer: u32,
     pub(crate) vertex_count: u32,
     pub(crate) index_count: u32,
@@ -60,12 +54,18 @@ fn plane(word: u32) -> EachAxis {
     }
 }
 
-fn asked_in(head: &[u8]) -> Asked {
-    Asked {
+fn block_in(head: &[u8]) -> Block {
+    Block {
         dims: corner(head, 0, 1, 2),
         low: corner(head, 3, 4, 5),
         high: corner(head, 6, 7, 8),
         max_plane: plane(word(head, 9)),
+    }
+}
+
+fn asked_in(head: &[u8]) -> Asked {
+    Asked {
+        block: block_in(head),
         grid: word(head, 10) as usize,
     }
 }
@@ -84,14 +84,22 @@ pub(crate) fn read_head(fd: i32) -> Head {
     Head::Call(asked_in(&head))
 }
 
-fn expected_in(tail: &[u8]) -> Expected {
-    Expected {
+// The crossings are not stored: as many are lent as strides, so that no stored answer is another for them.
+fn lent_in(tail: &[u8]) -> Lengths {
+    Lengths {
         positions: word(tail, 0) as usize,
         normals: word(tail, 1) as usize,
         cells: word(tail, 2) as usize,
         strides: word(tail, 3) as usize,
+        crossings: word(tail, 3) as usize,
         map: word(tail, 4) as usize,
         indices: word(tail, 5) as usize,
+    }
+}
+
+fn expected_in(tail: &[u8]) -> Expected {
+    Expected {
+        lent: lent_in(tail),
         answer: word(tail, 6),
         vertex_count: word(tail, 7),
         index_count: word(tail, 8),

@@ -1,9 +1,9 @@
--- `bench_grids::said::point` is safe and ends: the index is at most the length. Assumes nothing.
+-- `printed::point` is safe and ends: the index is at most the length. Assumes nothing.
 use Prim.Native.Nat.{_≤_, _-_}
 use lib.ListN.{length}
 use borrow.Author.Needs.{needs}
-use Rattle.bench_grids.proofs.said.point.Statement.{statement}
-use Rattle.bench_grids.proofs.said.point.Tie as tie
+use Rattle.printed.proofs.point.Statement.{statement}
+use Rattle.printed.proofs.point.Tie as tie
 
 abbrev Inv-loop : tie.InvT-loop
 Inv-loop label list v j₀ t5 j = j ≤ length list

@@ -1,9 +1,9 @@
--- `bench_grids::said::words` is safe and ends: the index is at most the length. Assumes nothing.
+-- `printed::words` is safe and ends: the index is at most the length. Assumes nothing.
 use Prim.Native.Nat.{_≤_, _-_}
 use lib.ListN.{length}
 use borrow.Author.Needs.{needs}
-use Rattle.bench_grids.proofs.said.words.Statement.{statement}
-use Rattle.bench_grids.proofs.said.words.Tie as tie
+use Rattle.printed.proofs.words.Statement.{statement}
+use Rattle.printed.proofs.words.Tie as tie
 
 abbrev Inv-loop : tie.InvT-loop
 Inv-loop label list count j₀ t5 j = j ≤ length list

@@ -42,10 +42,10 @@ wholeTally =
 abbrev wholeAsked : EnclosedCall
 wholeAsked =
     record {
-      lifetimes = ([], ([], tt));
-      args = (to grid, (4, (4, (4, (0, (0, (0, (3, (3, (3, (to false, tt)))))))))));
+      lifetimes = ([], ([], ([], tt)));
+      args = (to grid, (to words, (to false, tt)));
       result = 0;
-      last = (tt, (tt, (tt, (tt, (tt, (tt, (tt, (tt, (tt, (tt, (true, tt)))))))))));
+      last = (tt, (tt, (true, tt)));
       fits = whole-examined;
     }
 

@@ -13,8 +13,7 @@ use Rattle.grid.specs.Values.{asFloats}
 use Rattle.surface_nets.specs.AsRules.{blockOf}
 use Rattle.skin.specs.Scan.{answers}
 use Rattle.weigh.specs.Answers.{sumIn}
-use Rattle.bed.specs.Boundary.{extent}
-use Rattle.bed.specs.Words12.{blockWords}
+use Rattle.bed.specs.Words12.{dimsAsked, lowAsked, highAsked, blockWords}
 use Rattle.bed.specs.Tallied.{countsIn, countsLeft}
 use Rattle.bed.proofs.Places.{Called, TallyCall, TallyCall16, TallyCall8, TallyLayerCall, TallyLayerCall16, TallyLayerCall8, EnclosedCall, EnclosedCall16, EnclosedCall8}
 use Rattle.promises.specs.Served.{Done}
@@ -153,28 +152,28 @@ wordsLeft8 u = let (_, (_, (left', _))) = u .last in left'
 -- what bed_is_enclosed was asked, and answered
 abbrev pub testAsked : EnclosedCall → Input
 testAsked t =
-    let (sdf, (dx, (dy, (dz, (lx, (ly, (lz, (hx, (hy, (hz, _)))))))))) = t .args in
-    input (sdf .now) (extent dx dy dz) (extent lx ly lz) (extent hx hy hz)
+    let (sdf, (words, _)) = t .args in
+    input (sdf .now) (dimsAsked (words .now)) (lowAsked (words .now)) (highAsked (words .now))
 
 abbrev pub testAsked16 : EnclosedCall16 → Input
 testAsked16 t =
-    let (sdf, (dx, (dy, (dz, (lx, (ly, (lz, (hx, (hy, (hz, _)))))))))) = t .args in
-    input (asFloats (sdf .now)) (extent dx dy dz) (extent lx ly lz) (extent hx hy hz)
+    let (sdf, (words, _)) = t .args in
+    input (asFloats (sdf .now)) (dimsAsked (words .now)) (lowAsked (words .now)) (highAsked (words .now))
 
 abbrev pub testAsked8 : EnclosedCall8 → Input
 testAsked8 t =
-    let (sdf, (dx, (dy, (dz, (lx, (ly, (lz, (hx, (hy, (hz, _)))))))))) = t .args in
-    input (asFloats (sdf .now)) (extent dx dy dz) (extent lx ly lz) (extent hx hy hz)
+    let (sdf, (words, _)) = t .args in
+    input (asFloats (sdf .now)) (dimsAsked (words .now)) (lowAsked (words .now)) (highAsked (words .now))
 
 -- answer 0 and yes
 abbrev pub Yes : EnclosedCall → Type 0
-Yes t = let (_, (_, (_, (_, (_, (_, (_, (_, (_, (_, (yes', _))))))))))) = t .last in answers (t .result) yes' ≡ answers 0 true
+Yes t = let (_, (_, (yes', _))) = t .last in answers (t .result) yes' ≡ answers 0 true
 
 abbrev pub Yes16 : EnclosedCall16 → Type 0
-Yes16 t = let (_, (_, (_, (_, (_, (_, (_, (_, (_, (_, (yes', _))))))))))) = t .last in answers (t .result) yes' ≡ answers 0 true
+Yes16 t = let (_, (_, (yes', _))) = t .last in answers (t .result) yes' ≡ answers 0 true
 
 abbrev pub Yes8 : EnclosedCall8 → Type 0
-Yes8 t = let (_, (_, (_, (_, (_, (_, (_, (_, (_, (_, (yes', _))))))))))) = t .last in answers (t .result) yes' ≡ answers 0 true
+Yes8 t = let (_, (_, (yes', _))) = t .last in answers (t .result) yes' ≡ answers 0 true
 
 -- the count's grid and block
 pub record Asked : Type 0 where

@@ -157,7 +157,7 @@ mod tests {
         );
         assert_eq!(weigh(&ONE, 1, &[0, 1, 2]), Err(WeighError::NoVertex));
         assert_eq!(weigh(&ONE, 0, &[0, 1, 3]), Err(WeighError::NoVertex));
-        let wide = [0.0, 0.0, 0.0, 2.0, 2.0, 0.0, 0.0, 2.00390625, 0.0];
+        let wide = [0.0, 0.0, 0.0, 2.0, 2.0, 0.0, 0.0, 2.0 + 1.0 / 256.0, 0.0];
         assert_eq!(weigh(&wide, 0, &[0, 1, 2]), Err(WeighError::Wide));
         assert_eq!(
             weigh(&wide, 0, &[1, 0, 2]),

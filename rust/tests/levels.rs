@@ -18,7 +18,7 @@ const COLUMNS: [[i8; 4]; 6] = [
 ];
 
 /// Worked out by hand: none; max z; 2 + 1/4; 3 + 3/4; 2 + 1; 1 + 1/3 rounded.
-const LEVELS: [f32; 6] = [-1.0, 4.0, 2.25, 3.75, 3.0, f32::from_bits(0x3FAA_AAAB)];
+const LEVELS: [f32; 6] = [-1.0, 4.0, 2.25, 3.75, 3.0, 1.333_333_4]; // the last one has the bits 0x3FAAAAAB
 
 fn grid<D: Copy>(outside: D, of: impl Fn(i8) -> D) -> Vec<D> {
     let mut sdf = vec![outside; 60];

@@ -177,7 +177,7 @@ fn largest(faults: &mut u64) -> Tally {
     for (turn, sign) in [([0, 1, 2], 1), ([0, 2, 1], -1)] {
         for triangles in [1, 16_383, 16_384, 16_385, 16_400] {
             let volume = tally.compare(&corners, &turn.repeat(triangles));
-            let wanted = (triangles <= 16_384).then(|| sign * (triangles as i64) << 46);
+            let wanted = (triangles <= 16_384).then(|| (sign * (triangles as i64)) << 46);
             *faults += u64::from(volume != wanted);
         }
     }

@@ -379,9 +379,9 @@ def readme_tank():
 
 
 def readme_page():
-    """the command of README.md makes the lines that it shows"""
+    """the command of README.md makes the lines that it shows; one that ends with .. is the beginning of a line"""
     readme = open(os.path.join(HERE, "../../README.md")).read()
-    words = re.search(r"^scripts/bed (survey .*)$", readme, re.M)[1].split()
+    words = re.search(r"^\S*bed (survey .*)$", readme, re.M)[1].split()
     shown_there = re.search(r"Of the page:\n\n```text\n(.*?)```", readme, re.S)[1].split("\n")[:-1]
     os.symlink(TANK, "examples")
     os.mkdir("target")
@@ -389,7 +389,7 @@ def readme_page():
     page = output.split("\n")
     expect(f"the README's survey: {errors}", status == 0 and len(shown_there) > 5)
     for line in shown_there:
-        expect(f"the README's line: {line}", line in page)
+        expect(f"the README's line: {line}", line in page or line.endswith(" ..") and any(one.startswith(line[:-3]) for one in page))
 
 
 def noise():

@@ -1300,6 +1300,8 @@ static inline const char *bed_answer_name(uint32_t answer)
     case BED_WEIGH_WIDE: return "BED_WEIGH_WIDE";
     case BED_LEVELS_HEIGHT: return "BED_LEVELS_HEIGHT";
     case BED_LEVELS_ROOM: return "BED_LEVELS_ROOM";
+    case BED_TALLY_HEIGHT: return "BED_TALLY_HEIGHT";
+    case BED_TALLY_COUNTS: return "BED_TALLY_COUNTS";
     default: return "unknown";
     }
 }

@@ -141,11 +141,12 @@ static int names(void)
     NAMED(BED_VOLUME_THREES) NAMED(BED_VOLUME_TOO_MANY) NAMED(BED_VOLUME_OUTSIDE) NAMED(BED_VOLUME_INDEX)
     NAMED(BED_CLOSE_HEIGHT) NAMED(BED_CLOSE_WALL) NAMED(BED_CLOSE_TOO_LARGE) NAMED(BED_CLOSE_ROOM)
     NAMED(BED_WEIGH_TOO_MANY) NAMED(BED_WEIGH_WIDE) NAMED(BED_LEVELS_HEIGHT) NAMED(BED_LEVELS_ROOM)
+    NAMED(BED_TALLY_HEIGHT) NAMED(BED_TALLY_COUNTS)
     unsigned known = 0;
     for (uint32_t answer = 0; answer < 1000; answer++)
         known += strcmp(bed_answer_name(answer), "unknown") != 0;
-    /* 0, 1 to 8, 21 to 30, 40 to 43, 51 to 56, 61 to 64, 71 to 78 */
-    return known == 1 + 8 + 10 + 4 + 6 + 4 + 8 ? 0 : 1;
+    /* 0, 1 to 8, 21 to 30, 40 to 43, 51 to 56, 61 to 64, 71 to 78, 81 and 82, 91 and 92 */
+    return known == 1 + 8 + 10 + 4 + 6 + 4 + 8 + 2 + 2 ? 0 : 1;
 }
 
 static int size(void)

@@ -600,15 +600,15 @@ pub plan-witness-by-place : (u : WitnessCall)
 plan-witness-by-place u = u .fits
 
 -- what a call tells, by its three lists before, its answer and the edge afterwards
-abbrev pub Told : List ℕ → List ℕ → List ℕ → ℕ → List ℕ → Type 0
-Told blocks whole old number left' = Tells blocks (pieceIn whole 0) number old left'
+abbrev pub EdgeTold : List ℕ → List ℕ → List ℕ → ℕ → List ℕ → Type 0
+EdgeTold blocks whole old number left' = Tells blocks (pieceIn whole 0) number old left'
 
 same-told : {blocks blocks' whole whole' old old' : List ℕ} {n n' : ℕ} {l l' : List ℕ} → blocks ≡ blocks' → whole ≡ whole' → old ≡ old'
-    → Told blocks whole old n l → Told blocks' whole' old' n' l' → (n ≡ n') × (l ≡ l')
+    → EdgeTold blocks whole old n l → EdgeTold blocks' whole' old' n' l' → (n ≡ n') × (l ≡ l')
 same-told {blocks = blocks} {blocks' = blocks'} {whole = whole} {whole' = whole'} {old = old} {n' = n'} {l' = l'} eb ew eo t t' =
     same-outcome blocks (pieceIn whole 0) t
-    (subst (λ (b : List ℕ). Told b whole old n' l') (sym eb)
-    (subst (λ (w : List ℕ). Told blocks' w old n' l') (sym ew) (subst (λ (o : List ℕ). Told blocks' whole' o n' l') (sym eo) t')))
+    (subst (λ (b : List ℕ). EdgeTold b whole old n' l') (sym eb)
+    (subst (λ (w : List ℕ). EdgeTold blocks' w old n' l') (sym ew) (subst (λ (o : List ℕ). EdgeTold blocks' whole' o n' l') (sym eo) t')))
 
 -- two calls on the same lists end alike: the answer, and the edge afterwards
 pub plan-witness-once : (u v : WitnessCall)

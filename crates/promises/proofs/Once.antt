@@ -1,7 +1,7 @@
 -- Document 01, "What a claim has to settle": "Show that two outcomes that fit are equal". For each public function of marks, grid, stores, row_signs, count, judge,
 -- layer_estimates, layer_vertices, layer_faces, whole_box, surface_nets and bed
 -- one outcome alone fits the contract: the result, and every list behind a `&mut` afterwards, refused calls too. Those of cube stand in
--- its own proofs/Unique. Assumes nothing.
+-- its own proofs/Unique, but for some_of_eight. Assumes nothing.
 use Prim.Native.Nat.{ℕ}
 use mathlib.Core.List.{List}
 use mathlib.Core.Path.{_≡_, _∙_, sym}
@@ -35,8 +35,8 @@ use Rattle.grid.proofs.values.sixteen_place.Kinds as sixteen-place-kinds
 use Rattle.grid.proofs.values.sixteen_place.Reads as sixteen-place
 use Rattle.grid.proofs.values.eight_place.Kinds as eight-place-kinds
 use Rattle.grid.proofs.values.eight_place.Reads as eight-place
-use Rattle.grid.proofs.corners.corners.Kinds as corners-kinds
-use Rattle.grid.proofs.corners.corners.Reads as corners
+use Rattle.cube.proofs.some_of_eight.Kinds as some-of-eight-kinds
+use Rattle.cube.proofs.some_of_eight.Reads as some-of-eight
 use Rattle.count.proofs.count_layer.Kinds as count-layer-kinds
 use Rattle.count.proofs.count_layer.Reads as count-layer
 use Rattle.count.proofs.count_box.Kinds as count-box-kinds
@@ -93,6 +93,8 @@ use Rattle.stores.proofs.put_three.Kinds as put-three-kinds
 use Rattle.stores.proofs.put_three.Reads as put-three
 use Rattle.stores.proofs.put_six.Kinds as put-six-kinds
 use Rattle.stores.proofs.put_six.Reads as put-six
+use Rattle.row_signs.proofs.mixed_code.Kinds as mixed-code-kinds
+use Rattle.row_signs.proofs.mixed_code.Reads as mixed-code
 use Rattle.row_signs.proofs.one_sign.Kinds as one-sign-kinds
 use Rattle.row_signs.proofs.one_sign.Reads as one-sign
 use Rattle.row_signs.proofs.read_row.Kinds as read-row-kinds
@@ -177,8 +179,11 @@ eight-place-once κs a o o' l l' = let s = l ∙ sym l' in λ i. record { result
 pub side-between-once : OneOutcome 6 side-between-kinds.ps side-between-kinds.r side-between.Learnt
 side-between-once κs a o o' l l' = let s = l ∙ sym l' in λ i. record { result = s i; last = o .last }
 
-pub corners-once : OneOutcome 0 corners-kinds.ps corners-kinds.r corners.Learnt
-corners-once κs a o o' l l' = let s = l ∙ sym l' in λ i. record { result = s i; last = o .last }
+pub some-of-eight-once : OneOutcome 0 some-of-eight-kinds.ps some-of-eight-kinds.r some-of-eight.Learnt
+some-of-eight-once κs a o o' l l' = let s = l ∙ sym l' in λ i. record { result = s i; last = o .last }
+
+pub mixed-code-once : OneOutcome 0 mixed-code-kinds.ps mixed-code-kinds.r mixed-code.Learnt
+mixed-code-once κs a o o' l l' = let s = l ∙ sym l' in λ i. record { result = s i; last = o .last }
 
 pub one-sign-once : OneOutcome 0 one-sign-kinds.ps one-sign-kinds.r one-sign.Learnt
 one-sign-once κs a o o' l l' = let s = l ∙ sym l' in λ i. record { result = s i; last = o .last }

@@ -18,7 +18,7 @@ returns : tie.Need-returns
 returns c =
     let u = c .before .before in
     let d = u .before .before in
-    let a = d .before .before .before .before .args in
+    let a = d .before .before .before .args in
     let r = u .cut-fixtures-layer-i16 in
     subst (LayerCutInto (a .file .now) (asFloats (a .layer .now)) (a .z) (a .out .now) (r .result) (r .last .1 .1 .1 .1 .0)) (d .dims-of .ensures) (r .ensures)
 

@@ -13,7 +13,7 @@ is-enclosed-layer-requires c κs = tt
 returns : tie.Need-returns
 returns c =
     let k = c .before in
-    let a = k .before .args in
+    let a = k .before .before .args in
     subst (LayerExamined (a .layer .now) (a .z) (c .is-enclosed-layer .result)) (k .block-of .ensures) (c .is-enclosed-layer .ensures)
 
 pub bed-is-enclosed-layer-spec : {M : Type 1} → statement M

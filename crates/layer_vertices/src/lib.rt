@@ -63,7 +63,7 @@ fn class_entry(surface: bool) -> u32
     NULL_VERTEX
 }
 
-// n cells in a row, `at` being the place of the first one's lowest corner.
+// n cells in a row, `at` being the place of the first one's lowest corner. A cell's upper x side is the next one's lower one: its negatives are counted once, and carried.
 fn class_row(
     width: u32,
     lower: &[f32],
@@ -82,18 +82,18 @@ fn class_row(
     ensures { λ _. ⌜ now (map .exit)
         ≡ sets (now (map .entry)) at (classes (gridBefore width lower lower16 lower8) (gridBefore width upper upper16 upper8) at row n) ⌝ }
 {
+    let mut low = grid::signs::side_negatives(
+        width,
+        lower,
+        upper,
+        lower16,
+        upper16,
+        lower8,
+        upper8,
+        at,
+        row,
+    );
     for j in 0usize..n {
-        let low = grid::signs::side_negatives(
-            width,
-            lower,
-            upper,
-            lower16,
-            upper16,
-            lower8,
-            upper8,
-            at + j,
-            row,
-        );
         let high = grid::signs::side_negatives(
             width,
             lower,
@@ -106,6 +106,7 @@ fn class_row(
             row,
         );
         map[at + j] = class_entry(cube::some_of_eight(low + high));
+        low = high;
     }
 }
 

@@ -1,4 +1,4 @@
--- Each main theorem over the contracts, applied to the calls of OnePoint: what it asks for is there, and the numbers that come out are those of the lists. Assumes
+-- Main theorems over the contracts, applied to the calls of OnePoint: what it asks for is there, and the numbers that come out are those of the lists. Assumes
 -- nothing.
 use Prim.Native.Nat.{ℕ, _<_}
 use mathlib.Core.Bool.{false}

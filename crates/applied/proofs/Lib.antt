@@ -1,4 +1,4 @@
--- Each main theorem over the contracts, applied to calls on one small grid, with the numbers that come out: a premise that no call meets would show here.
+-- Main theorems over the contracts, applied to calls on one small grid, with the numbers that come out: a premise that no call meets would show here.
 pub mod Made
 pub mod OneFlag
 pub mod OnePoint

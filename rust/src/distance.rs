@@ -23,8 +23,8 @@ impl WholeDistance for i8 {}
 /// Public for the trait above and not reachable from outside: so it is sealed.
 pub(crate) mod functions {
     use crate::raw::{
-        self, Answer, Close, CloseLayer, CutLayerInto, Deepest, IsEnclosed, IsEnclosedLayer, Levels,
-        LevelsLayer, SurfaceNets, Tally, TallyLayer,
+        self, Answer, Close, CloseLayer, CutLayerInto, Deepest, IsEnclosed, IsEnclosedLayer,
+        Levels, LevelsLayer, SurfaceNets, Tally, TallyLayer,
     };
 
     /// The library's functions over a kind of distance.

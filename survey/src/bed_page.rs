@@ -214,7 +214,9 @@ impl Told<'_> {
         let agree = self.measured.counts_agree() == Some(true) && enclosed;
         lines.rests(match (agree, self.by_layers()) {
             (true, false) => format!("proved: the volume lies from {low} to {high}"),
-            (true, true) => format!("proved: the volume of a closed bed with these counts lies from {low} to {high}"),
+            (true, true) => format!(
+                "proved: the volume of a closed bed with these counts lies from {low} to {high}"
+            ),
             (false, _) => format!("not claimed: that the volume lies from {low} to {high}"),
         });
     }

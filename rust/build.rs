@@ -22,6 +22,8 @@ fn main() {
     }
     println!("cargo:rustc-link-search=native={}", folder.display());
     println!("cargo:rustc-link-lib=static=bed");
+    // which archive that is, for the build scripts of crates above
+    println!("cargo:archive={}", archive.display());
 }
 
 fn folder() -> PathBuf {

@@ -76,8 +76,12 @@ pub fn json(page: &Page, lines: &Lines, digests: &Digests, status: u8) -> Json {
         ("time", now().into()),
         (
             "versions",
-            Json::object([("bed", env!("CARGO_PKG_VERSION").into())]),
+            Json::object([
+                ("bed", env!("CARGO_PKG_VERSION").into()),
+                ("library", library_version().into()),
+            ]),
         ),
+        ("archive", Json::object([("sha256", archive().into())])),
         (
             "grid",
             Json::object([
@@ -274,6 +278,16 @@ fn corners(block: &Block) -> Json {
 fn read(path: Option<&Path>, sha256: Option<Digest>) -> Json {
     path.map(|path| Json::object([("name", name(path)), ("sha256", digest(sha256))]))
         .into()
+}
+
+/// The version that the linked library tells.
+fn library_version() -> String {
+    bed::version().map(|part| part.to_string()).join(".")
+}
+
+/// The digest of the archive that this command was linked with; see build.rs.
+fn archive() -> Option<&'static str> {
+    Some(env!("BED_ARCHIVE_SHA256")).filter(|digest| !digest.is_empty())
 }
 
 fn digest(digest: Option<Digest>) -> Json {

@@ -97,6 +97,8 @@ def tilted():
             expect("nothing strange", (told["columns"]["several_changes_of_sign"], told["columns"]["below_zero_at_the_top"]) == (0, 0))
             expect("which way", told["by_layers"] == ("1" in way) == told["closed_bed"]["by_layers"])
             expect("what it was made of", told["grid"]["sha256"] == hashlib.sha256(got("in.npy")).hexdigest() and told["time"].endswith("Z"))
+            expect("by which archive", told["archive"]["sha256"] == hashlib.sha256(open(os.environ["BED_ARCHIVE"], "rb").read()).hexdigest())
+            expect("of which version", told["versions"]["library"] == told["versions"]["bed"])
             mine = {**told, "grid": None, "closed_bed": {**told["closed_bed"], "wall": None}, "mesh": None}
             first = first or mine
             expect(f"the same numbers at every width and way: {kind} {way}", same(first, mine))

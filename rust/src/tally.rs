@@ -163,7 +163,7 @@ mod tests {
         let told = crate::counts(&sdf, dims, min, max, plane).unwrap();
         assert_eq!(
             (whole.vertices, whole.indices),
-            (told.vertices as u64, told.indices as u64)
+            (told.vertices, told.indices)
         );
         assert_eq!((whole.whole, whole.vertices), (13, 23));
         let mut found = CellCounts {

@@ -1182,8 +1182,9 @@ struct bed_layers {
  *     kept_map         2 * dims[0] * dims[1] numbers: their maps
  *     kept_positions   3 * dims[0] * dims[1] numbers: the positions of the last layer of cells
  *
- * Lend the same three to every offer, and leave them and the state as they are between layers. Neither they nor *layers
- * need a memset: what they held before the start never matters.
+ * Lend the same three to every offer, and leave them and the state as they are between layers. The start writes nothing to
+ * them, and every claim is about lists that hold numbers, so set memory that was never written, as malloc's, once by memset
+ * before the start. What it is set to never matters. *layers itself need not be set.
  *
  * After t + 1 layers were taken, the half t mod 2 of kept_distances is the last layer as it was offered, all of it; the same half
  * of kept_map has no vertex at any point of the box, and the other half the numbers of the cells that came out last, where

@@ -1,4 +1,6 @@
 // The functions that C and Rust link: thin, and nothing else. A slice is a pointer and then a length; include/bed.h says the rest.
+#![tactic(auto)]
+
 pub mod asking;
 pub mod closed;
 pub mod cut;

@@ -5,7 +5,7 @@ use judge::{Answer, Lengths};
 use marked_mesh::{Lists, marks_kept, mesh_marked, written};
 
 // What is printed besides the answer and the counts.
-#[derive(Drop)]
+#[derive(Clone, Copy)]
 pub(crate) enum Show {
     Counts,
     Mesh,

@@ -1,5 +1,7 @@
 // Document 01's bench grids, meshed by the library: a line for each with the answer, V and I, and whether all else is as it was.
 // The published Rust prints the same lines (oracle/oracle/examples/bench_grids.rs); `stdout` holds those, held against document 01.
+#![tactic(auto)]
+
 mod bench;
 mod grids;
 mod said;

@@ -3,6 +3,8 @@
 // count. Each row of points is read once, for the cells on both its sides. Most rows of a bed have points of one sign alone, and nothing is to be counted
 // there: the negatives of a row of points tell it. Where rows are not too long, the others are counted from the codes that were kept of their points, in
 // one loop; else by loops over runs of distances. No loop over a row branches or stops early: which of its edges the box owns is settled outside.
+#![tactic(auto)]
+
 ghost use Rattle.std.specs.Prelude.{◌≡◌, cond, ◌+◌, ◌-◌, ◌<◌, ◌≤◌, length};
 ghost use Rattle.rules.specs.Vertices.{row_cells, layer_cells, cells};
 ghost use Rattle.rules.specs.Call.{bad_distance};
@@ -21,14 +23,14 @@ use grid::ownership::owns;
 use grid::signs::{counted, side_negatives, surface_count};
 
 // Vertices and indices, counted.
-#[derive(Drop)]
+#[derive(Clone, Copy)]
 pub struct Tally {
     pub vertices: usize,
     pub indices: usize,
 }
 
 // What the whole box says before anything is written: condition 5, and both counts.
-#[derive(Drop)]
+#[derive(Clone, Copy)]
 pub struct Findings {
     pub bad: bool,
     pub vertices: usize,
@@ -36,7 +38,7 @@ pub struct Findings {
 }
 
 // How many of a row's x, y and z edges the box owns.
-#[derive(Drop)]
+#[derive(Clone, Copy)]
 struct OwnedEdges {
     x: usize,
     y: usize,
@@ -44,7 +46,7 @@ struct OwnedEdges {
 }
 
 // Surface cells, and x, y and z edges with exactly one negative end, of a row's cells, each cell having the three edges at its lowest corner.
-#[derive(Drop)]
+#[derive(Clone, Copy)]
 struct CodeCounts {
     surface: u32,
     x: u32,

@@ -9,7 +9,7 @@ use crate::tables::{corner_vector, first_end, second_end};
 use std::num::nearest_u32_to_f32;
 
 // The points of the crossed edges summed up, and how many there are.
-#[derive(Drop)]
+#[derive(Clone, Copy)]
 pub struct Crossings {
     pub sum: Point,
     pub count: u32,
@@ -48,7 +48,7 @@ pub fn sum_of_edge_intersections(d: &[f32; 8]) -> Crossings
 }
 
 // Document 02, request 13: "The step that averages crossings must now also answer their number", which fits a byte.
-#[derive(Drop)]
+#[derive(Clone, Copy)]
 pub struct Average {
     pub point: Point,
     pub crossings: u8,

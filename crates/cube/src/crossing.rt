@@ -4,7 +4,7 @@ ghost use Rattle.rules.specs.Cell.{negative};
 ghost use Rattle.cube.specs.AsRules.{fraction_of, crossing_of};
 
 // An edge answers no crossing, or a crossing with its fraction of the way from the first end to the second.
-#[derive(Drop)]
+#[derive(Clone, Copy)]
 pub enum Crossing {
     No,
     At(f32),

@@ -1,6 +1,8 @@
 // What the Rust does with the eight values at the corners of one cell: whether the surface crosses it, the centroid of the crossings on
 // its edges, and the gradient there. Each contract is an equation with document 01's own definition (crate rules, specs/Cell.antt), for
 // every input, infinities and not-a-number included, and no function asks anything of its caller.
+#![tactic(auto)]
+
 mod centroid;
 mod classing;
 mod crossing;

@@ -5,7 +5,7 @@ ghost use Rattle.cube.specs.AsRules.{vector, grid_point};
 
 use std::num::nearest_u32_to_f32;
 
-#[derive(Drop)]
+#[derive(Clone, Copy)]
 pub struct Point {
     pub x: f32,
     pub y: f32,

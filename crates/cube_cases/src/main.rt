@@ -1,4 +1,6 @@
 // Document 01's fractions, and the corner sets on which an easy slip changes bits, run through `cube`: a line for each, floats by their bits.
+#![tactic(auto)]
+
 use cube::{Crossing, Point};
 use libc::STDOUT_FILENO;
 

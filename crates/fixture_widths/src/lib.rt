@@ -1,5 +1,7 @@
 // Fixtures cut out of one layer of a grid of 16-bit or 8-bit whole numbers (document 02, requests 5 and 11): each number means the float of the same value. What
 // is cut is no whole number, so that floats are written into another lent list and the layer is only read. No function asks anything of its caller.
+#![tactic(auto)]
+
 ghost use Rattle.std.specs.Prelude.{◌≡◌, ◌≤◌, length};
 ghost use Rattle.lists.specs.Lists.{over};
 ghost use Rattle.grid.specs.Block.{point};

@@ -4,7 +4,7 @@ ghost use Rattle.grid.specs.Corners.{side_between};
 ghost use Rattle.grid.specs.Values.{grid_given, grid_before};
 
 // The values at the corners of a cell's side, those with one x: at (y, z) = (0, 0), (1, 0), (0, 1), (1, 1).
-#[derive(Drop)]
+#[derive(Clone, Copy)]
 pub struct Side {
     pub a: f32,
     pub b: f32,

@@ -1,5 +1,7 @@
 // A grid, a box in it and the max plane: the conditions 1, 2 and 5 of document 01, and the reading of a cell's corners. What reads the grid asks that
 // the box lies in it, which the conditions 1 to 3 say.
+#![tactic(auto)]
+
 pub mod checks;
 pub mod corners;
 pub mod ownership;
@@ -9,7 +11,7 @@ pub mod signs;
 pub mod values;
 
 // Three numbers, one for each axis: dimensions, or a corner of a box.
-#[derive(Drop)]
+#[derive(Clone, Copy)]
 pub struct Extent {
     pub x: u32,
     pub y: u32,
@@ -18,7 +20,7 @@ pub struct Extent {
 
 // A yes or no for each axis: the max plane, for each axis apart (document 02, request 4; document 01's yes/no is all three, or none), and which of a
 // cell's three edges, those from its lowest corner, the box owns.
-#[derive(Drop)]
+#[derive(Clone, Copy)]
 pub struct EachAxis {
     pub x: bool,
     pub y: bool,
@@ -40,7 +42,7 @@ impl EachAxis {
 }
 
 // A box with its max plane in a grid of these dimensions.
-#[derive(Drop)]
+#[derive(Clone, Copy)]
 pub struct Block {
     pub dims: Extent,
     pub low: Extent,

@@ -1,4 +1,6 @@
 // The answer, before anything is written: document 01's conditions 1 to 7 in their order, with V and I.
+#![tactic(auto)]
+
 ghost use Rattle.std.specs.Prelude.{◌≡◌, ◌^◌, ◌<◌};
 ghost use Rattle.rules.specs.Call.{answer, room_answer};
 ghost use Rattle.grid.specs.Block.{call_of};
@@ -8,7 +10,7 @@ ghost use Rattle.grid.specs.Values.{as_floats, grid_before};
 use grid::Block;
 
 // Document 01's answer number with V and I.
-#[derive(Drop)]
+#[derive(Clone, Copy)]
 pub struct Answer {
     pub number: u32,
     pub vertex_count: u64,
@@ -16,7 +18,7 @@ pub struct Answer {
 }
 
 // How long the lent lists are.
-#[derive(Drop)]
+#[derive(Clone, Copy)]
 pub struct Lengths {
     pub positions: usize,
     pub normals: usize,

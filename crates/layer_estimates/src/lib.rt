@@ -1,6 +1,8 @@
 // The vertices of one layer's surface cells: position, normal and number of crossings of each, the Rust's estimate_surface_in_cube. 32 cells are
 // taken at a time through local arrays, their corner values side by side, so that the compiler works out several cells at once. The entries of a
 // batch past its last cell are worked out too, and written nowhere.
+#![tactic(auto)]
+
 ghost use Rattle.std.specs.Prelude.{◌≡◌, ◌∷◌, [], map, ◌+◌, ◌*◌, ◌≤◌, ◌<◌, min, length, get_or};
 ghost use Rattle.std.proofs.lemmas.List.Edits.{sets};
 ghost use Rattle.lists.specs.Lists.{up_to};

@@ -9,6 +9,8 @@
 //     v2  |  v1      v1 is the cell at p1, v2 one step down along B, v3 one step down along C,
 //     ----p----- B   v4 down along both.
 //     v4  |  v3
+#![tactic(auto)]
+
 ghost use Rattle.std.specs.Prelude.{◌≡◌, ◌+◌, ◌*◌, ◌<◌, ◌≤◌, T, length, if◌then◌else◌, slice_index, slice_index_or, slice_set};
 ghost use Rattle.std.specs.Float.{nan};
 ghost use Rattle.std.proofs.lemmas.List.Edits.{sets};
@@ -28,21 +30,21 @@ use grid::signs::counted;
 use grid::{Block, EachAxis, Extent};
 
 // The number of the layer's first vertex, and of the first of the layer below.
-#[derive(Drop)]
+#[derive(Clone, Copy)]
 pub struct Firsts {
     pub here: u32,
     pub below: u32,
 }
 
 // A vertex that was looked up.
-#[derive(Drop)]
+#[derive(Clone, Copy)]
 pub struct Vertex {
     pub number: u32,
     pub position: Point,
 }
 
 // One of the cells round an edge: so many entries before the edge's own, in this layer or in the one below.
-#[derive(Drop)]
+#[derive(Clone, Copy)]
 pub struct Way {
     pub here: bool,
     pub back: usize,
@@ -209,7 +211,7 @@ fn giving(
 }
 
 // How many edges along each axis are listed, and how many in all.
-#[derive(Drop)]
+#[derive(Clone, Copy)]
 struct Listed {
     x: usize,
     y: usize,

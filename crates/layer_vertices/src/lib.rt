@@ -1,6 +1,8 @@
 // The vertices of one layer of cells, from the two layers of distances that hold its corners: the Rust's estimate_surface, a layer at a time. First
 // the surface cells are found, row by row, with the entry of each point of the box in the layer's part of the map; then their vertices are worked out,
 // from the cells just listed. All go to the lent lists from a place on.
+#![tactic(auto)]
+
 ghost use Rattle.std.specs.Prelude.{◌≡◌, ◌&&◌, ◌∷◌, [], map as each, ◌+◌, ◌*◌, ◌<◌, ◌≤◌, min, leb, length, set, take, drop};
 ghost use Rattle.std.proofs.lemmas.List.Edits.{sets};
 ghost use Rattle.lists.specs.Lists.{placed};
@@ -28,7 +30,7 @@ const MARK: u32 = 0;
 
 // Where the next vertex goes: its place in the lists, and the number that it gets. In a call for the whole box the two are the same; who has the box
 // layer by layer begins each layer's lists anew, while the numbers run on.
-#[derive(Drop)]
+#[derive(Clone, Copy)]
 pub struct Next {
     pub place: usize,
     pub number: u32,

@@ -1,5 +1,7 @@
 // The bed layer by layer (document 02, request 1): dimensions, box and max plane first, then one layer of X.Y distances a call, from min z to max z.
 // What stands between two calls is a state of plain numbers and three lent lists. Any state and any lists may come: no look-up leaves its list.
+#![tactic(auto)]
+
 pub mod answers;
 pub(crate) mod bringing;
 pub(crate) mod keeping;
@@ -14,7 +16,7 @@ use grid::Block;
 use judge::{Answer, Lengths};
 
 // The block with the layers taken of it, the number of the next vertex, and the number of the first vertex of the last layer of cells.
-#[derive(Drop)]
+#[derive(Clone, Copy)]
 pub struct State {
     pub block: Block,
     pub taken: u32,
@@ -23,7 +25,7 @@ pub struct State {
 }
 
 // The answer to a layer, and the state that the next one is offered to.
-#[derive(Drop)]
+#[derive(Clone, Copy)]
 pub struct Offered {
     pub answer: Answer,
     pub state: State,

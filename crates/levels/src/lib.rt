@@ -1,5 +1,7 @@
 // The level of the bed in each column of a box: of a whole grid, and layer by layer from min z up, from floats and from whole numbers of 16 and of 8 bits.
 // No function asks anything of its caller, and a refusal changes nothing.
+#![tactic(auto)]
+
 mod answers;
 mod rising;
 

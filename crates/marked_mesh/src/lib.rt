@@ -1,5 +1,7 @@
 // One call of the mesher on lists of 512 numbers that hold marks, for programs that look at every number of every list afterwards. As much of each list
 // is lent as is asked; the lists come back by value, so that who calls hands on no list. `kept` asks whether the marks are there still.
+#![tactic(auto)]
+
 mod kept;
 
 ghost use Rattle.std.specs.Prelude.{◌≡◌, ◌≤◌};
@@ -26,7 +28,7 @@ pub const MAP: u32 = 0x53000000;
 
 pub const INDICES: u32 = 0x54000000;
 
-#[derive(Drop)]
+#[derive(Clone, Copy)]
 pub struct Lists {
     pub positions: [f32; 512],
     pub normals: [f32; 512],
@@ -37,7 +39,7 @@ pub struct Lists {
     pub indices: [u32; 512],
 }
 
-#[derive(Drop)]
+#[derive(Clone, Copy)]
 pub struct Meshed {
     pub answer: Answer,
     pub lists: Lists,

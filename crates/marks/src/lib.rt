@@ -1,6 +1,8 @@
 // Marks for test programs: what every lent number holds before a call, one more for each next number, so that a number changed by mistake is
 // seen. A list is filled with marks, and is asked whether it kept them. Floats are compared by their bits. `stored` compares a list with stored
 // numbers, bit for bit.
+#![tactic(auto)]
+
 pub mod stored;
 
 ghost use Rattle.std.specs.Prelude.{◌≡◌, ◌≤◌, length};

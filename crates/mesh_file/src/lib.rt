@@ -1,5 +1,7 @@
 // Meshes as files that survive a power cut (document 02, request 2): 32-byte records, each with the sum of its words, and a closing
 // record. The writer and the reader check everything before they write anything.
+#![tactic(auto)]
+
 mod fills;
 mod writer;
 
@@ -14,7 +16,7 @@ pub use mesh_record::{Seen, Step};
 use writer::{write_all, write_answer};
 
 // The reader's answer number, and the mesh's counts.
-#[derive(Drop)]
+#[derive(Clone, Copy)]
 pub struct Read {
     pub answer: u32,
     pub vertices: usize,
@@ -22,7 +24,7 @@ pub struct Read {
 }
 
 // The writer's answer number, and how many bytes it wrote.
-#[derive(Drop)]
+#[derive(Clone, Copy)]
 pub struct Wrote {
     pub answer: u32,
     pub bytes: usize,
@@ -88,7 +90,7 @@ fn check_from(src: &[u8], at: usize) -> Read
 
 // ---- the reader: the lent file and its place, nothing else
 
-#[derive(Drop)]
+#[derive(Clone, Copy)]
 pub struct Reader<'a> {
     pub src: &'a [u8],
     pub at: usize,

@@ -1,13 +1,15 @@
 // Reads the mesh file that each argument names, or standard input where there is none, and prints one line for it: its counts, the
 // number that it is refused with, or that it is longer than 65,536 bytes (document 02, request 2). Where its output cannot be written it
 // says so on the error stream and stops: a program has no exit status of its own to say it with.
+#![tactic(auto)]
+
 ghost use Rattle.std.specs.Prelude.{◌≡◌, ◌≤◌, eqb, length};
 ghost use Rattle.io.specs.Counts.{IsPrefixLen};
 ghost use Rattle.mesh_file.specs.Reading.{checked, read_of};
 
 use libc::{STDIN_FILENO, STDOUT_FILENO};
 
-#[derive(Drop)]
+#[derive(Clone, Copy)]
 struct Got {
     bytes: usize,
     failed: bool,

@@ -1,5 +1,7 @@
 // One record of a mesh file (document 02, request 2): its words, their sum, its faults in the order of their numbers, the step that it is,
 // and the record written. What asks a `requires` here is for the crates above.
+#![tactic(auto)]
+
 ghost use Rattle.std.specs.Prelude.{◌≡◌, ◌+◌, ◌%◌, ◌^◌, ◌<◌, ◌≤◌, [], ◌∷◌, length, ◌==◌, nat_lt};
 ghost use Rattle.lists.specs.Lists.{joined};
 ghost use Rattle.mesh_record.specs.Record.{bytes_of, word_at, sum_of, record_of, laid};
@@ -24,7 +26,7 @@ ghost use Rattle.mesh_record.specs.Faults.{
 };
 
 // The eight words of a record.
-#[derive(Drop)]
+#[derive(Clone, Copy)]
 pub struct Words {
     pub kind: u32,
     pub a: u32,
@@ -37,14 +39,14 @@ pub struct Words {
 }
 
 // What was read so far.
-#[derive(Drop)]
+#[derive(Clone, Copy)]
 pub struct Seen {
     pub vertices: usize,
     pub triangles: usize,
 }
 
 // What stands at a place: a good record of one of the three kinds, or a fault with its number.
-#[derive(Drop)]
+#[derive(Clone, Copy)]
 pub enum Step {
     Vertex,
     Triangle,

@@ -1,6 +1,8 @@
 // Document 02, request 10: whether a list of blocks is a plan of a tank, "yes exactly if every edge the whole owns is owned by exactly one block
 // and no block owns any other edge". No edge is visited: of each axis the edges that a block owns are a box of points, and blocks plan the
 // whole exactly if each of those boxes lies in the whole's, no two meet, and their sizes add up.
+#![tactic(auto)]
+
 pub mod progress;
 pub mod region;
 mod size;
@@ -10,7 +12,7 @@ ghost use Rattle.plan.specs.Plan.{Checks, piece};
 
 // A box between two corners, with the max plane's flags. C hands them over, 28 bytes each.
 #[repr(C)]
-#[derive(Drop)]
+#[derive(Clone, Copy)]
 pub struct Block {
     pub min_x: u32,
     pub min_y: u32,
@@ -24,7 +26,7 @@ pub struct Block {
 }
 
 // Answer 0 with the yes or no, or a refusal, 41 or 42, with `holds` false.
-#[derive(Drop)]
+#[derive(Clone, Copy)]
 pub struct PlanAnswer {
     pub answer: u32,
     pub holds: bool,

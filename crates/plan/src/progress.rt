@@ -8,7 +8,7 @@ ghost use Rattle.plan.specs.Walk.{begun_at, start_of, Bounded, compared_of, weig
 use crate::size::{Sum, Sums};
 use crate::{Block, PlanAnswer, region, size};
 
-#[derive(Drop)]
+#[derive(Clone, Copy)]
 pub(crate) struct Progress {
     pub whole: Block,
     pub count: usize,

@@ -5,14 +5,14 @@ ghost use Rattle.plan.specs.Region.{along_span, across_span, owned_of, spans_mee
 use crate::Block;
 
 // From `from` up to `to`, `to` left out.
-#[derive(Drop)]
+#[derive(Clone, Copy)]
 pub struct Span {
     pub from: u64,
     pub to: u64,
 }
 
 // A box of points.
-#[derive(Drop)]
+#[derive(Clone, Copy)]
 pub struct Region {
     pub x: Span,
     pub y: Span,
@@ -20,7 +20,7 @@ pub struct Region {
 }
 
 // The x, the y and the z edges that a block owns.
-#[derive(Drop)]
+#[derive(Clone, Copy)]
 pub struct Owned {
     pub x: Region,
     pub y: Region,

@@ -6,14 +6,14 @@ ghost use Rattle.plan.specs.Size.{side_of, Small, size_of, sizes_of, SmallAll, a
 use crate::region::{Owned, Region, Span};
 
 // The number high · 2^24 + low.
-#[derive(Drop)]
+#[derive(Clone, Copy)]
 pub(crate) struct Sum {
     pub high: u64,
     pub low: u64,
 }
 
 // How many x, y and z edges.
-#[derive(Drop)]
+#[derive(Clone, Copy)]
 pub(crate) struct Sums {
     pub x: Sum,
     pub y: Sum,

@@ -1,5 +1,7 @@
 // Lines for a person to read, written to standard output by the programs that the gate runs. Floats are printed by their bits. No contract can say what
 // is written; what is said here is that every list is read within its length.
+#![tactic(auto)]
+
 use libc::STDOUT_FILENO;
 
 pub fn text(s: &[u8]) {

@@ -9,7 +9,7 @@ use judge::{Answer, Lengths};
 use marked_mesh::{Lists, mesh_marked};
 
 // What came of a call: it was compared, or the file ends in it, or it is not as the layout says.
-#[derive(Drop)]
+#[derive(Clone, Copy)]
 pub(crate) enum Replayed {
     Compared(Differs),
     Cut,

@@ -3,6 +3,8 @@
 //
 // data/ holds copies of oracle/stored/answers.bin and answers-changed.bin, written by scripts/store-answers; the README beside those gives
 // their layout. The library must agree with every call of the first. In the second a bit of 24 expectations is changed, and each must be found.
+#![tactic(auto)]
+
 mod call;
 mod list;
 mod said;

@@ -5,14 +5,14 @@ use judge::Lengths;
 use marks::stored::word;
 
 // What stands before the distances; `grid` is their number.
-#[derive(Drop)]
+#[derive(Clone, Copy)]
 pub(crate) struct Asked {
     pub(crate) block: Block,
     pub(crate) grid: usize,
 }
 
 // What stands after the distances: the length of each lent list, and what is answered. The lists as they must be follow.
-#[derive(Drop)]
+#[derive(Clone, Copy)]
 pub(crate) struct Expected {
     pub(crate) lent: Lengths,
     pub(crate) answer: u32,
@@ -21,14 +21,14 @@ pub(crate) struct Expected {
 }
 
 // Malformed: a max plane that is above 7, or a list that is too long.
-#[derive(Drop)]
+#[derive(Clone, Copy)]
 pub(crate) enum Head {
     Call(Asked),
     Cut,
     Malformed,
 }
 
-#[derive(Drop)]
+#[derive(Clone, Copy)]
 pub(crate) enum Tail {
     Answer(Expected),
     Cut,

@@ -1,7 +1,7 @@
 // What came of each call, counted.
 
 // The first thing in which a call and its stored answer differ.
-#[derive(Drop)]
+#[derive(Clone, Copy)]
 pub(crate) enum Differs {
     Nowhere,
     Answer,
@@ -15,7 +15,7 @@ pub(crate) enum Differs {
     IndexList,
 }
 
-#[derive(Drop)]
+#[derive(Clone, Copy)]
 pub(crate) struct Tally {
     pub(crate) agreed: u64,
     pub(crate) disagreed: u64,
@@ -31,7 +31,7 @@ pub(crate) struct Tally {
 }
 
 // How a file ended: cut short or malformed after so many calls, with numbers left over, or with all its calls made.
-#[derive(Drop)]
+#[derive(Clone, Copy)]
 pub(crate) enum Outcome {
     Cut(u32),
     Malformed(u32),

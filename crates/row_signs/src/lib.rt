@@ -1,6 +1,8 @@
 // The signs of a row of points in two neighbour layers: how many of them are negative, which tells a row of one sign, and, of a row that is not too
 // long, a code for each place, from which its cells are classed and counted without the distances. A row is read once, and kept for the cells on both
 // its sides.
+#![tactic(auto)]
+
 ghost use Rattle.std.specs.Prelude.{◌≡◌, ◌+◌, ◌≤◌, length};
 ghost use Rattle.std.proofs.lemmas.List.Edits.{sets};
 ghost use Rattle.grid.specs.Values.{grid_given, grid_before};

@@ -1,10 +1,12 @@
 // Words of 64 bits, each bit the sign of a point in a row: what is asked of 64 cells at once. A cell lies along four lines of points, near and far in this
 // layer and in the one above it, and its other four corners are the next points of these lines.
+#![tactic(auto)]
+
 ghost use Rattle.std.specs.Prelude.{◌≡◌, ◌+◌, ◌<◌, min, length};
 ghost use Rattle.sign_words.specs.Words.{onward_of, below_mask, ends_at, mixed_of};
 
 // Where the words of the four lines stand in a list.
-#[derive(Drop)]
+#[derive(Clone, Copy)]
 pub struct Lines {
     pub near: usize,
     pub far: usize,
@@ -13,7 +15,7 @@ pub struct Lines {
 }
 
 // Of the four points at each of 64 places: where some is negative, and where all are.
-#[derive(Drop)]
+#[derive(Clone, Copy)]
 pub struct Ends {
     pub some: u64,
     pub all: u64,

@@ -1,5 +1,7 @@
 // Document 02, request 8: the skin has no hole where every negative point of the box lies from min + 1 to max - 2 on each axis. That law is
 // about the rules and stands in proofs/; here is the test whether a grid and a box meet its premise.
+#![tactic(auto)]
+
 pub mod layer;
 mod scan;
 
@@ -10,7 +12,7 @@ ghost use Rattle.grid.specs.Values.{as_floats, grid_before};
 use grid::{Block, EachAxis, Extent};
 
 // Answer 0 with the test's outcome, or a refusal of document 01, 1, 2 or 3, with `enclosed` false.
-#[derive(Drop)]
+#[derive(Clone, Copy)]
 pub struct Enclosed {
     pub answer: u32,
     pub enclosed: bool,

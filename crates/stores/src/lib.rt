@@ -1,4 +1,6 @@
 // Stores of a few numbers in a row into one lent list: a vector, the three numbers of a cell, the six of a face.
+#![tactic(auto)]
+
 ghost use Rattle.std.specs.Prelude.{◌≡◌, ◌∷◌, [], ◌+◌, ◌<◌, length};
 ghost use Rattle.std.proofs.lemmas.List.Edits.{sets};
 

@@ -1,5 +1,7 @@
 // The bed mesher: document 01's call. The conditions 1 to 7 are tried in their order before anything is written; then each layer of cells is
 // written, its vertices first and then its faces.
+#![tactic(auto)]
+
 ghost use Rattle.std.specs.Prelude.{◌≡◌};
 ghost use Rattle.lists.specs.Floats.{Binary32};
 ghost use Rattle.rules.specs.Call.{answer, afterwards, room};

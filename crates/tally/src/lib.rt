@@ -1,5 +1,7 @@
 // Three counts from the distances alone, which bound the volume of a closed bed: the cells wholly in the sludge, V and I. Of a whole grid, and layer by layer
 // from min z up, from floats and from whole numbers of 16 and of 8 bits. No function asks anything of its caller, and a refusal changes nothing.
+#![tactic(auto)]
+
 mod whole_cells;
 
 ghost use Rattle.std.specs.Prelude.{◌≡◌, ◌≤◌};
@@ -12,7 +14,7 @@ ghost use Rattle.tally.specs.Call.{nothing, told, plus, too_many, layer_counts, 
 use grid::Block;
 
 // The cells wholly in the sludge, V and I.
-#[derive(Drop)]
+#[derive(Clone, Copy)]
 pub struct Counts {
     pub whole: u64,
     pub vertices: u64,
@@ -20,7 +22,7 @@ pub struct Counts {
 }
 
 // The answer number with the counts.
-#[derive(Drop)]
+#[derive(Clone, Copy)]
 pub struct Told {
     pub answer: u32,
     pub counts: Counts,

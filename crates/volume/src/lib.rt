@@ -1,4 +1,6 @@
 // Document 02, request 14: six times the signed volume of a mesh, in steps of 1/256, from its positions and triangles alone.
+#![tactic(auto)]
+
 mod steps;
 mod sum;
 
@@ -9,14 +11,14 @@ use steps::some_outside;
 use sum::{some_without_vertex, sum_over};
 
 // The answer number, and six times the volume: 0 on a refusal.
-#[derive(Drop)]
+#[derive(Clone, Copy)]
 pub struct Weighed {
     pub answer: u32,
     pub volume: i64,
 }
 
 // A vertex in steps.
-#[derive(Drop)]
+#[derive(Clone, Copy)]
 pub struct Corner {
     pub x: u64,
     pub y: u64,

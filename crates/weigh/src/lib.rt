@@ -1,5 +1,7 @@
 // Weighing a mesh of any size that the mesher makes, in document 02 request 14's steps of 1/256: the volume that stands between the triangles and the plane
 // z = 0, and the area seen from above. The terms are small where no triangle is wide, so that no count but 2^33 bounds the list.
+#![tactic(auto)]
+
 mod steps;
 mod sum;
 mod total;
@@ -13,7 +15,7 @@ use steps::some_beyond;
 use sum::{some_without_vertex, sum_over};
 
 // The answer number; the sum, high · 2^64 + low; twice the area seen from above. All 0 but the number on a refusal.
-#[derive(Drop)]
+#[derive(Clone, Copy)]
 pub struct Weight {
     pub answer: u32,
     pub low: u64,

@@ -8,7 +8,7 @@ use crate::triangle::{pillar_of, shadow_of};
 use volume::Corner;
 
 // The sum is high · 2^32 + low.
-#[derive(Drop)]
+#[derive(Clone, Copy)]
 pub(crate) struct Total {
     pub high: u64,
     pub low: u64,

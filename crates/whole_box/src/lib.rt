@@ -1,5 +1,7 @@
 // The whole box, a layer of cells after the other: each layer's vertices, and then its faces. The layer's part of the grid, of the map and of the
 // lists of vertices are lent to the two functions that know one layer alone.
+#![tactic(auto)]
+
 ghost use Rattle.std.specs.Prelude.{◌≡◌, ◌+◌, ◌-◌, ◌*◌, ◌<◌, ◌≤◌, length, take, drop};
 ghost use Rattle.std.proofs.lemmas.List.Edits.{sets};
 ghost use Rattle.lists.specs.Lists.{placed};
@@ -20,7 +22,7 @@ use layer_faces::Firsts;
 use layer_vertices::Next;
 
 // How many vertices and indices are written, and how many vertices there were when the last layer began.
-#[derive(Drop)]
+#[derive(Clone, Copy)]
 pub struct Made {
     pub vertices: usize,
     pub indices: usize,
@@ -58,7 +60,7 @@ fn numbers(list: &[u32], from: usize, to: usize) -> &[u32]
 }
 
 // Where a place of the grid stands in each of the three lists of distances.
-#[derive(Drop)]
+#[derive(Clone, Copy)]
 struct Places {
     float: usize,
     sixteen: usize,

@@ -9,7 +9,7 @@ use crate::search::{Found, search};
 use crate::words::{block_in, refusal};
 use plan::Block;
 
-#[derive(Drop)]
+#[derive(Clone, Copy)]
 struct Told {
     pub axis: u32,
     pub found: Found,

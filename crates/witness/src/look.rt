@@ -12,7 +12,7 @@ pub(crate) const FAR: u64 = 33554432;
 // No block.
 pub(crate) const NO_BLOCK: u32 = 4294967295;
 
-#[derive(Drop)]
+#[derive(Clone, Copy)]
 pub(crate) struct Place {
     pub x: u64,
     pub y: u64,
@@ -20,7 +20,7 @@ pub(crate) struct Place {
 }
 
 // `next`: on x the next point at which a block begins or ends that has this y and z; on y one that has this z; on z any. FAR where there is none.
-#[derive(Drop)]
+#[derive(Clone, Copy)]
 pub(crate) struct Seen {
     pub owners: usize,
     pub first: u32,

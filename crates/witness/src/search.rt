@@ -7,7 +7,7 @@ use crate::look::{FAR, Place, Seen, has, look, region_on};
 use plan::Block;
 use plan::region::Region;
 
-#[derive(Drop)]
+#[derive(Clone, Copy)]
 pub(crate) struct Found {
     pub wrong: bool,
     pub at: Place,

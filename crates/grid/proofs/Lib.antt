@@ -16,5 +16,4 @@ pub mod LayerWalks
 pub mod Slab
 pub mod Parts
 pub mod Widths
-pub mod Told
 pub mod Places

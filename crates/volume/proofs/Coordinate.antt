@@ -69,9 +69,11 @@ from_nothing z (suc n) e = rw (e, is_true (ltb 0 (suc n)) (lt→ltb 0 (suc n) (o
 
 and-true : (t : Bool) → T t → T (t && true)
 and-true true h = tt
+and-true false h = elim h [ ]
 
 true-and : (t : Bool) → T (t && true) → T t
 true-and true h = tt
+true-and false h = elim h [ ]
 
 pub at_most : (n b : ℕ) → not (ltb n b || (eqb n b && true)) ≡ ltb b n
 at_most n b = same_test (not (ltb n b || (eqb n b && true))) (ltb b n) forth back
@@ -111,6 +113,7 @@ value-steps (fin false m e) a c C h =
 
 pub not-not : (t : Bool) → T (not (not t)) → T t
 not-not true h = tt
+not-not false h = elim h [ ]
 
 -- a permitted value is at most 128, and is not below zero
 value-near : (x : Float) (s : Bool) (a c : ℕ) → 0 < c → HasValue x s a c → T (not (outside x)) → a ≤ 128 * c

@@ -1,0 +1,25 @@
+-- `cube::centroid::sum_of_edge_intersections` meets its contract. The invariant: the sum and the count are those of the edges passed.
+-- Assumes nothing.
+use Rattle.std.proofs.Common.{◌≡◌, ℕ, ◌+◌, ◌-◌, ◌<◌, ◌≤◌, true, false, List, map, length, take, sym, refl, ap, ◌∙◌, ⊎_elim, add-zero, arith, rules}
+use lib.Ieee.{Float, of_bits}
+use Rattle.lists.specs.Lists.{many, keep}
+use Rattle.rules.specs.Cell.{Vector, plus, CubeEdge, cube_edge, cube_edges, crosses, crossing_point, zero_vector, summed, crossing_points, crossings}
+use Rattle.cube.specs.AsRules.{vector, edge_at}
+use Rattle.cube.proofs.Taking.{many-turn, sum-turn}
+use Rattle.cube.proofs.Answer.{not-crossed, crossed}
+use Rattle.cube.proofs.centroid.sum_of_edge_intersections.Given as goal
+
+-- `cube::centroid::sum_of_edge_intersections` meets its contract. The invariant: the sum and the count are those of the edges passed.
+-- Assumes nothing.
+-- the sum and the number of the crossings on the first e edges
+abbrev pub sum_to : List Float → ℕ → Vector
+sum_to d e = summed zero_vector (map (crossing_point d) (keep (crosses d) (take e cube_edges)))
+
+abbrev pub count_to : List Float → ℕ → ℕ
+count_to d e = many (crosses d) (take e cube_edges)
+
+abbrev pub invariant-loop-e : goal.invariant-loop-e
+invariant-loop-e l = (l.e ≤ 12) × (l.count ≤ l.e) × (vector l.sum ≡ sum_to l.d l.e) × (l.count ≡ count_to l.d l.e)
+
+abbrev pub decreases-loop-e : goal.decreases-loop-e
+decreases-loop-e l = 12 - l.e

@@ -40,14 +40,7 @@ pub fn value_at(width: u32, f: &[f32], s: &[i16], b: &[i8], i: usize) -> f32
 pub fn wholes(s: &[i16], b: &[i8])
     ensures wholes { Wholes 16 s.now }
     ensures wholes_2 { Wholes 8 b.now }
-{
-    for x in s {
-        let _known = *x;
-    }
-    for y in b {
-        let _known = *y;
-    }
-}
+{}
 
 // Conditions 1 to 3 for the grid of this width. What is known of the numbers of each list, that they are of its type, is handed on.
 pub fn first_fault_of(k: Block, width: u32, f: &[f32], s: &[i16], b: &[i8]) -> u32

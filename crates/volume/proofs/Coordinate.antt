@@ -1,33 +1,14 @@
 -- One coordinate: the test by comparisons of floats is the definition's, and the steps worked out on the bits are the whole part of 256·x.
 -- Assumes nothing.
 use Prim.Native.Nat.{ℕ, zero, suc, ◌+◌, ◌-◌, ◌*◌, ◌/◌, ◌%◌, ◌^◌, ◌≤◌, ◌<◌}
-use native.Mathlib.Nat.{
-  le_trans,
-  le_of_eq,
-  lt_of_lt_of_le,
-  not-le_of_lt,
-  zero-mul,
-  mul-one,
-  mul_assoc,
-  mul_comm,
-  mul_left_comm,
-  mul_right_comm,
-  mul-le-mul,
-  mul-le-mul_left,
-  mul-le-mul_right,
-  le_of_mul-le-mul_right,
-  mul-pos,
-  div-eq_of_lt,
-  mod-lt,
-  le_refl,
-}
+use native.Mathlib.Nat.{le_trans, le_of_eq, lt_of_lt_of_le, not-le_of_lt, zero-mul, mul-one, mul_assoc, mul_left_comm, mul_right_comm, mul-le-mul, mul-le-mul_left, mul-le-mul_right, le_of_mul-le-mul_right, mul-pos, div-eq_of_lt}
 use native.Mathlib.Omega.{arith}
 use mathlib.Core.Bool.{Bool, true, false, not, ◌&&◌, ◌||◌, cond, true≢false}
 use mathlib.Core.Logic.{inl, inr}
 use mathlib.Core.Path.{◌≡◌, refl, sym, ap, subst, ◌∙◌}
 use borrow.Author.Tests.{ne_eqb, eq-eqb}
-use lib.Dec.{T, leb, ltb, eqb, ltb→lt, lt→ltb, nltb→le, eqb→eq, eqb_refl, eqb-zero-suc, eqb-suc-zero, T_not, not_T, lit≤, lit<}
-use lib.IntN.{ℤ, pos}
+use lib.Dec.{T, leb, ltb, eqb, ltb→lt, lt→ltb, nltb→le, eqb→eq, eqb-zero-suc, eqb-suc-zero, T_not, not_T, lit≤, lit<}
+use lib.IntN.{pos}
 use lib.Pow.{pow_pos, pow_mono, pow-add}
 use lib.Ieee.{Float, nan, inf, fin, up, down, lt, eq, le, binary32, odd, of_fields, of_bits, to_bits, fits, is_nan}
 use lib.Ieee.Bits.{is_true, of_bits-to_bits}

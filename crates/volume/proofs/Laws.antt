@@ -1,13 +1,11 @@
 -- Document 02, request 14, about the definition: "Turning every triangle round negates it"; one list after the other is the sum of the two; the
 -- order of the triangles, and a turn of a triangle's corners in place, do not matter. Assumes nothing.
-use Prim.Native.Nat.{ℕ, suc, ◌+◌, ◌*◌, ◌%◌}
+use Prim.Native.Nat.{ℕ, ◌%◌}
 use native.Mathlib.Omega.{arith}
-use mathlib.Core.Bool.{Bool, true, false, ◌||◌}
 use mathlib.Core.List.{List, [], ◌∷◌, ◌++◌}
 use mathlib.Core.Path.{◌≡◌, refl, sym, ap, ap₂, ◌∙◌}
 use lib.IntN.{ℤ, pos, neg_ℤ, ◌+ℤ◌, ◌-ℤ◌, +ℤ_assoc, +ℤ_comm, +ℤ_idl, neg_ℤ-+ℤ}
 use lib.ListN.{length}
-use Rattle.lists.specs.Lists.{some}
 use Rattle.lists.proofs.Permutation.{Perm, nil, skip, swap, trans}
 use Rattle.volume.specs.declared.Corner.{Corner}
 use Rattle.volume.specs.Volume.{falling, rising, determinant, sum_over}

@@ -1,7 +1,6 @@
 -- Whole numbers with a sign: the few laws that the sums of determinants need beside those of the library. Assumes nothing.
-use Prim.Native.Nat.{ℕ, zero, suc, ◌+◌, ◌-◌}
-use native.Mathlib.Omega.{arith}
-use mathlib.Core.Path.{◌≡◌, refl, sym, ap, ap₂, ◌∙◌}
+use Prim.Native.Nat.{ℕ, zero, ◌+◌}
+use mathlib.Core.Path.{◌≡◌, sym, ap, ap₂, ◌∙◌}
 use lib.IntN.{ℤ, pos, neg_ℤ, ◌+ℤ◌, ◌-ℤ◌, +ℤ_assoc, +ℤ_comm, +ℤ_idl, +ℤ_invr, neg_ℤ-neg_ℤ, neg_ℤ-+ℤ, pos-+ℤ-pos}
 
 -- (w + x) + (y + z) = (w + y) + (x + z)

@@ -1,5 +1,5 @@
 -- The answers, by the tests that led to each. Assumes nothing.
-use Rattle.std.proofs.Common.{◌≡◌, ℕ, ◌+◌, ◌-◌, ◌*◌, ◌/◌, ◌%◌, ◌^◌, ◌<◌, ◌≤◌, Bool, true, false, cond, not, ◌||◌, ltb, leb, List, length, get_or, sym, refl, true≢false, arith, ltb-false, leb-false}
+use Rattle.std.proofs.Common.{◌≡◌, ℕ, ◌+◌, ◌-◌, ◌*◌, ◌/◌, ◌^◌, ◌<◌, ◌≤◌, true, false, cond, ltb, leb, List, length, refl, arith, ltb-false, leb-false}
 use lib.Ieee.{Float}
 use Rattle.lists.proofs.Either.{or_left, or_right}
 use Rattle.volume.proofs.Answering.{bad_threes}

@@ -1,6 +1,6 @@
 -- Laws of the sums: every triangle turned round negates them; one list after the other, and any number of parts, add up; neither the order of the triangles
 -- nor a turn of a triangle's corners in place matters. The same for the sum and for the shadow. Assumes nothing.
-use Rattle.std.proofs.Common.{◌≡◌, ℕ, suc, ◌+◌, ◌*◌, ◌%◌, List, [], ◌∷◌, ◌++◌, length, ℤ, pos, ◌+ℤ◌, ◌-ℤ◌, neg_ℤ, sym, refl, ap, ◌∙◌, ap₂, arith}
+use Rattle.std.proofs.Common.{◌≡◌, ℕ, ◌*◌, ◌%◌, List, [], ◌∷◌, ◌++◌, length, ℤ, pos, ◌+ℤ◌, ◌-ℤ◌, neg_ℤ, sym, refl, ap, ◌∙◌, ap₂, arith}
 use lib.IntN.{+ℤ_assoc, +ℤ_comm, +ℤ_idl, neg_ℤ-+ℤ}
 use Rattle.lists.specs.Lists.{joined}
 use Rattle.lists.proofs.Lists.{All, none, more}
@@ -9,7 +9,6 @@ use Rattle.volume.specs.declared.Corner.{Corner}
 use Rattle.volume.specs.Triangles.{turned_round, Rolled, same, kept, rolled, Triangle, triangles}
 use Rattle.volume.proofs.Whole.{neg-minus}
 use Rattle.weigh.specs.Sums.{shadow_of, pillar_of, sum_of}
-use Rattle.weigh.proofs.Whole.{same-difference}
 use Rattle.weigh.proofs.Terms.{forth, back, height, shadow-parts, pillar-parts}
 
 -- ---- one triangle

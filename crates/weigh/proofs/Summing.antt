@@ -1,6 +1,6 @@
 -- The sums as the loop makes them, triangle by triangle from the front, each with a bias for each triangle; and whether one is wide. Assumes nothing.
-use Rattle.std.proofs.Common.{◌≡◌, ℕ, suc, ◌+◌, ◌*◌, ◌<◌, ◌≤◌, Bool, true, false, ◌||◌, List, [], ◌∷◌, length, get_or, drop, ℤ, pos, ◌+ℤ◌, ◌-ℤ◌, sym, refl, ap, ◌∙◌, ap₂, arith, drop_of_length-le, drop-cons}
-use lib.IntN.{+ℤ_assoc, +ℤ_idl, +ℤ_comm}
+use Rattle.std.proofs.Common.{◌≡◌, ℕ, suc, ◌+◌, ◌*◌, ◌<◌, ◌≤◌, Bool, true, false, ◌||◌, List, ◌∷◌, length, get_or, drop, ℤ, pos, ◌+ℤ◌, ◌-ℤ◌, sym, ap, ◌∙◌, ap₂, arith, drop_of_length-le, drop-cons}
+use lib.IntN.{+ℤ_assoc}
 use Rattle.volume.specs.declared.Corner.{Corner}
 use Rattle.volume.proofs.Whole.{minus_plus}
 use Rattle.weigh.specs.Sums.{sum_of}

@@ -1,5 +1,5 @@
 -- A triangle's two terms as differences of natural numbers, as they are defined and as the code has them with their biases. Assumes nothing.
-use Rattle.std.proofs.Common.{◌≡◌, ℕ, ◌+◌, ◌-◌, ◌*◌, ◌^◌, ◌<◌, ◌≤◌, Bool, true, false, ◌||◌, ltb, ℤ, pos, ◌-ℤ◌, ◌*ℤ◌, sym, refl, ap, ◌∙◌, ap₂, true≢false, arith, ltb-false}
+use Rattle.std.proofs.Common.{◌≡◌, ℕ, ◌+◌, ◌*◌, ◌^◌, ◌≤◌, false, ◌||◌, ltb, ℤ, pos, ◌-ℤ◌, ◌*ℤ◌, sym, ap, ◌∙◌, ap₂, arith, ltb-false}
 use Rattle.lists.proofs.Either.{or_left, or_right}
 use Rattle.volume.specs.declared.Corner.{Corner}
 use Rattle.weigh.specs.Sums.{shadow_of, pillar_of}

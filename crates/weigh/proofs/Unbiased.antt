@@ -1,5 +1,5 @@
 -- The biases of n triangles taken off a total: as if there were 2^33, so that one subtraction, of 2^24 from the upper word, is left. Assumes nothing.
-use Rattle.std.proofs.Common.{◌≡◌, ℕ, ◌+◌, ◌-◌, ◌*◌, ◌/◌, ◌%◌, ◌^◌, ◌<◌, ◌≤◌, ℤ, pos, ◌-ℤ◌, sym, refl, ap, ◌∙◌, ap₂, lt_of_lt_of_le, lt_of_le_of_lt, div-le_self, arith, lit≤, w64, SFits, to_z, of_z}
+use Rattle.std.proofs.Common.{◌≡◌, ℕ, ◌+◌, ◌-◌, ◌*◌, ◌/◌, ◌%◌, ◌^◌, ◌<◌, ◌≤◌, ℤ, pos, ◌-ℤ◌, sym, ap, ◌∙◌, ap₂, lt_of_lt_of_le, lt_of_le_of_lt, div-le_self, arith, lit≤, w64, SFits, to_z, of_z}
 use Rattle.volume.proofs.Bounds.{fits-64}
 use Rattle.weigh.specs.declared.Weight.{Weight}
 use Rattle.weigh.specs.Words.{high_of, low_of}

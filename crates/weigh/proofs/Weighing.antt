@@ -1,18 +1,18 @@
 -- The laws over the call's whole answer. Turned round and in another order: refusals too. Joined and in parts: where the parts, or the whole, are answered 0.
 -- Turned in place: where both are answered 0, since a turn may bring a corner that is far from another to the front. Assumes nothing.
-use Rattle.std.proofs.Common.{◌≡◌, ℕ, suc, ◌+◌, ◌*◌, ◌/◌, ◌%◌, ◌^◌, ◌≤◌, Bool, true, false, cond, ◌||◌, List, [], ◌∷◌, ◌++◌, length, ℤ, pos, ◌+ℤ◌, neg_ℤ, sym, refl, ap, ◌∙◌, ap₂, true≢false, arith, length-append, ltb-false, le-ltb, eq-eqb}
+use Rattle.std.proofs.Common.{◌≡◌, ℕ, ◌+◌, ◌*◌, ◌/◌, ◌%◌, ◌^◌, ◌≤◌, Bool, true, false, cond, ◌||◌, List, [], ◌∷◌, ◌++◌, length, ℤ, pos, ◌+ℤ◌, neg_ℤ, sym, refl, ap, ◌∙◌, ap₂, arith, length-append, ltb-false, le-ltb}
 use lib.Ieee.{Float}
 use Rattle.lists.specs.Lists.{some}
-use Rattle.lists.proofs.Either.{or_left, or_right, or-none}
-use Rattle.lists.proofs.Permutation.{Perm, nil, skip, swap, trans, perm-length}
+use Rattle.lists.proofs.Either.{or_left, or_right}
+use Rattle.lists.proofs.Permutation.{Perm, perm-length}
 use Rattle.lists.proofs.Some.{some-append}
 use Rattle.volume.specs.declared.Corner.{Corner}
 use Rattle.volume.specs.Answers.{not_threes}
 use Rattle.volume.specs.Triangles.{turned_round, Rolled, Triangle, triangles}
 use Rattle.volume.proofs.Answering.{bad_threes, in-threes}
-use Rattle.volume.proofs.Weighing.{or_turn, round-length, round-some, triangles-length, some-triangles, perm-some, three-is}
+use Rattle.volume.proofs.Weighing.{round-length, round-some, triangles-length, some-triangles, perm-some, three-is}
 use Rattle.weigh.specs.declared.Weight.{Weight}
-use Rattle.weigh.specs.Words.{high_of, low_of, words_as}
+use Rattle.weigh.specs.Words.{high_of, low_of}
 use Rattle.weigh.specs.Sums.{corner_from, shadow_of, pillar_of, pillars, shadows}
 use Rattle.weigh.specs.Answers.{some_beyond, no_vertex, some_without, too_many, apart, wide, some_wide, says, refuses, weight, sum_in}
 use Rattle.weigh.proofs.Words.{words-make}

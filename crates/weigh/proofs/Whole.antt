@@ -1,8 +1,8 @@
 -- Whole numbers with a sign, each written as a difference of two natural numbers, so that an identity between them is one between natural numbers.
 -- Assumes nothing.
-use Rattle.std.proofs.Common.{◌≡◌, ℕ, zero, suc, ◌+◌, ◌-◌, ◌*◌, ◌<◌, ◌≤◌, Bool, true, false, cond, not, T, ltb, ◌⊎◌, ℤ, pos, negsuc, ◌+ℤ◌, ◌-ℤ◌, ◌*ℤ◌, neg_ℤ, sym, refl, ap, ◌∙◌, ap₂, inl, inr, mul_comm, mul-zero, arith, ltb→lt, nltb→le}
-use lib.IntN.{sub_ℕ, *ℤ_comm, +ℤ_idr, +ℤ_comm, +ℤ_assoc, neg_ℤ-neg_ℤ, neg_ℤ-+ℤ}
-use Rattle.volume.proofs.Whole.{exchange, neg-minus, minus_plus, minus-same}
+use Rattle.std.proofs.Common.{◌≡◌, ℕ, zero, suc, ◌+◌, ◌-◌, ◌*◌, ◌<◌, ◌≤◌, Bool, true, false, not, T, ltb, ℤ, pos, negsuc, ◌+ℤ◌, ◌-ℤ◌, ◌*ℤ◌, neg_ℤ, sym, refl, ap, ◌∙◌, ap₂, mul-zero, arith, ltb→lt, nltb→le}
+use lib.IntN.{+ℤ_idr, neg_ℤ-neg_ℤ}
+use Rattle.volume.proofs.Whole.{neg-minus, minus_plus, minus-same}
 
 -- a - b as the difference of a + k and b + k, so two with the same sums crosswise are equal
 pub same-difference : (a b c d : ℕ) → a + d ≡ c + b → pos a -ℤ pos b ≡ pos c -ℤ pos d

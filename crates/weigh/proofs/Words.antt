@@ -1,6 +1,6 @@
 -- A whole number in two words: they make it, they are the only two that do, and what they are where the number is the difference of a natural number and a
 -- multiple of 2^64. Assumes nothing.
-use Rattle.std.proofs.Common.{◌≡◌, ℕ, zero, suc, ◌+◌, ◌-◌, ◌*◌, ◌/◌, ◌%◌, ◌^◌, ◌<◌, ◌≤◌, ℤ, pos, negsuc, ◌+ℤ◌, ◌-ℤ◌, ◌*ℤ◌, neg_ℤ, nat_abs, sym, refl, ap, ◌∙◌, ap₂, arith, to_z-of_z, w64, SFits, to_z, of_z}
+use Rattle.std.proofs.Common.{◌≡◌, ℕ, zero, suc, ◌+◌, ◌-◌, ◌*◌, ◌/◌, ◌%◌, ◌^◌, ◌<◌, ℤ, pos, negsuc, ◌-ℤ◌, neg_ℤ, sym, ap, ◌∙◌, arith, to_z-of_z, w64, SFits, to_z, of_z}
 use lib.IntN.{+ℤ_idl, +ℤ_comm}
 use mir.Facts.{to_z_pos}
 use Rattle.volume.proofs.Bounds.{minus-most, fits-64}

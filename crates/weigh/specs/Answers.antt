@@ -1,7 +1,7 @@
 -- The answers of the weighing. Refused, with sum and shadow 0, in this order: 61 lists not in threes, 63 any coordinate not finite or not from 0 to 16,777,216
 -- (-0.0 counts as 0), 64 an index without its vertex, 75 more than 2^33 triangles, 76 a triangle whose second or third corner is more than 512 steps from its
 -- first in x or in y. Definitions only. Assumes nothing.
-use Rattle.std.specs.Prelude.{ℕ, ◌+◌, ◌-◌, ◌*◌, ◌/◌, ◌^◌, Bool, true, false, cond, not, ◌||◌, List, [], ◌∷◌, length, ℤ, pos, ◌==◌, nat_le, nat_lt, Float}
+use Rattle.std.specs.Prelude.{ℕ, ◌+◌, ◌*◌, ◌/◌, ◌^◌, Bool, true, false, cond, not, ◌||◌, List, [], ◌∷◌, length, ℤ, pos, ◌==◌, nat_le, nat_lt, Float}
 use Rattle.std.specs.Float.{nan, inf, fin}
 use Rattle.std.specs.Float.Ieee.{up, down}
 use Rattle.lists.specs.Lists.{some}

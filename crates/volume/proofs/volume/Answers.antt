@@ -7,8 +7,8 @@ use mir.Syntax.{w64}
 use mir.Val.{to_z, of_z}
 use mir.Facts.{to_z-of_z}
 use Rattle.volume.specs.Answers.{too_many, some_outside, some_without, weighed}
-use Rattle.volume.proofs.Answering.{bad_threes, said-61, said-62, said-63, said-64, said-0, in-threes, few-enough}
-use borrow.Author.Rules.{rules, sfits_of}
+use Rattle.volume.proofs.Answering.{bad_threes, said-61, said-62, said-63, said-64, said-0}
+use borrow.Author.Rules.{sfits_of}
 use Rattle.volume.proofs.volume.Goals as goal
 use Rattle.volume.proofs.volume.Goals.{Else-bad_lengths, Else-some_outside, Else-some_without_vertex, Else-too_many}
 
@@ -44,5 +44,5 @@ returns-then-some_without_vertex c =
 pub returns : goal.returns
 returns c =
     let n = c.sum_over-sum.result in
-    let read_back : to_z w64 (of_z w64 n) ≡ n = to_z-of_z {w = w64} {z = n} (sfits_of {w = w64} {z = n} c.sum_over-sum.type-inv) in
+    let read_back : to_z w64 (of_z w64 n) ≡ n = to_z-of_z {w = w64} {z = n} (sfits_of {w = w64} {z = n} c.sum_over-sum.type_inv) in
     ap (λ (z : ℤ). weighed 0 z) (read_back ∙ c.sum_over-sum.ensures) ∙ sym (said-0 _ _ (threes (goal.at.returns c).Else-bad_lengths) (few (goal.at.returns c).Else-too_many) (inside (goal.at.returns c).Else-some_outside) (with-vertices (goal.at.returns c).Else-some_without_vertex))

@@ -1,12 +1,7 @@
 -- `volume::steps::some_outside` meets its contract: the search of the whole is that of what is left. Assumes nothing.
-use Prim.Native.Nat.{◌+◌, ◌-◌, ◌≤◌}
-use native.Mathlib.Omega.{arith}
-use mathlib.Core.Bool.{Bool, ◌||◌}
-use mathlib.Core.Path.{◌≡◌, refl, sym, ap, ◌∙◌}
+use mathlib.Core.Path.{sym, ◌∙◌}
 use borrow.Author.Rules.{rules}
-use lib.ListN.{length, drop}
 use lib.Ieee.{nan}
-use Rattle.lists.specs.Lists.{some}
 use Rattle.volume.specs.Steps.{outside}
 use Rattle.lists.proofs.Searching.{some-found, some-passed, some-past}
 use Rattle.volume.proofs.steps.some_outside.Goals as goal
@@ -17,8 +12,7 @@ returns-then-is_outside c =
     (sym c.is_outside.ensures ∙ c.if-is_outside.true))
 
 pub loop-i-preserved : goal.loop-i-preserved
-loop-i-preserved c =
-    (
+loop-i-preserved c = (
   search rules,
   c.loop-i.invariant.1 ∙ some-passed outside nan _ _ c.loop-i-test.true
       (sym c.is_outside.ensures ∙ c.if-is_outside.false),

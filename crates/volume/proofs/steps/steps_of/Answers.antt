@@ -1,15 +1,10 @@
 -- `volume::steps::steps_of` meets its contract: by the fields of the bits. Assumes nothing.
-use Prim.Native.Nat.{◌+◌, ◌-◌, ◌/◌, ◌%◌, ◌^◌, ◌≤◌}
-use native.Mathlib.Nat.{div-le_self}
 use native.Mathlib.Omega.{arith}
 use mathlib.Core.Path.{sym, subst}
-use borrow.Author.Rules.{rules}
 use lib.Dec.{T}
-use lib.Ieee.{binary32, fits, to_bits}
 use Rattle.volume.proofs.Coordinate.{permitted-number, bits_small, bits-large}
 use Rattle.volume.proofs.steps.steps_of.Goals as goal
 
--- `volume::steps::steps_of` meets its contract: by the fields of the bits. Assumes nothing.
 pub float_to_bits-bits : goal.float_to_bits-bits
 float_to_bits-bits c = permitted-number c.args.x c.requires
 

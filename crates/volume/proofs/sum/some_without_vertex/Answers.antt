@@ -1,11 +1,7 @@
 -- `volume::sum::some_without_vertex` meets its contract: the search of the whole is that of what is left. Assumes nothing.
-use Prim.Native.Nat.{◌+◌, ◌-◌, ◌≤◌}
-use native.Mathlib.Omega.{arith}
-use mathlib.Core.Path.{◌≡◌, refl, sym, ap, ◌∙◌}
+use mathlib.Core.Path.{sym, ◌∙◌}
 use borrow.Author.Rules.{rules}
 use borrow.Author.Tests.{le-leb, lt-leb}
-use lib.ListN.{length, drop}
-use Rattle.lists.specs.Lists.{some}
 use Rattle.volume.specs.Answers.{no_vertex}
 use Rattle.lists.proofs.Searching.{some-found, some-passed, some-past}
 use Rattle.volume.proofs.sum.some_without_vertex.Goals as goal
@@ -16,8 +12,7 @@ returns-then-vertices-indices c =
     (le-leb _ _ c.if-vertices-indices.true))
 
 pub loop-i-preserved : goal.loop-i-preserved
-loop-i-preserved c =
-    (
+loop-i-preserved c = (
   search rules,
   c.loop-i.invariant.1 ∙ some-passed (no_vertex c.args.vertices) 0 _ _
       c.loop-i-test.true (lt-leb _ _ c.if-vertices-indices.false),

@@ -1,27 +1,23 @@
 -- `volume::sum::sum_over` meets its contract: what is summed and what is left are together the sum of the whole, and k determinants are at
 -- most k·2^46 in magnitude. Assumes nothing.
-use Prim.Native.Nat.{ℕ, ◌+◌, ◌-◌, ◌*◌, ◌/◌, ◌^◌, ◌≤◌, ◌<◌}
+use Prim.Native.Nat.{ℕ, ◌+◌, ◌*◌, ◌/◌, ◌≤◌, ◌<◌}
 use native.Mathlib.Omega.{arith}
 use mathlib.Core.Bool.{false}
 use mathlib.Core.List.{List}
-use mathlib.Core.Path.{◌≡◌, refl, sym, ap, ◌∙◌}
-use borrow.Author.Rules.{rules}
+use mathlib.Core.Path.{◌≡◌, sym, ap, ◌∙◌}
 use borrow.Author.Tests.{leb-false}
-use lib.Dec.{leb}
-use lib.IntN.{ℤ, pos, nat_abs, ◌+ℤ◌, +ℤ_idl, +ℤ_idr, +ℤ_assoc}
+use lib.IntN.{ℤ, ◌+ℤ◌, +ℤ_idr, +ℤ_assoc}
 use lib.ListN.{length, get_or, drop}
 use mir.Syntax.{w64}
-use mir.Val.{to_z, of_z}
+use mir.Val.{to_z}
 use Rattle.lists.specs.Lists.{some}
 use Rattle.volume.specs.declared.Corner.{Corner}
-use Rattle.volume.specs.Volume.{corner_at, determinant, sum_over, sixfold}
+use Rattle.volume.specs.Volume.{corner_at, determinant, sum_over}
 use Rattle.volume.specs.Answers.{no_vertex}
 use Rattle.lists.proofs.Searching.{none-at}
-use Rattle.volume.proofs.Summing.{sum-from, sum_past, next-most, next_fits, next-read}
+use Rattle.volume.proofs.Summing.{sum-from, sum_past, next-most, next-read}
 use Rattle.volume.proofs.sum.sum_over.Goals as goal
 
--- `volume::sum::sum_over` meets its contract: what is summed and what is left are together the sum of the whole, and k determinants are at
--- most k·2^46 in magnitude. Assumes nothing.
 -- an index that is not without its vertex
 has-vertex : (l : List ℕ) (n : ℕ) → some (no_vertex (n / 3)) l ≡ false → (i : ℕ) → i < length l → 3 * get_or l i 0 + 3 ≤ n
 has-vertex l n e i h =
@@ -64,10 +60,10 @@ loop-k-preserved c =
     let l = c.loop-k in
     let t = c.loop-k-test.true in
     let few : l.k < 16384 = omega arith in
-    let e = next-read l.sum c.triangle-sum.result l.k l.invariant.2 c.triangle-sum.ensures.result_bound few in (
+    let e = next-read l.sum-bits c.triangle-sum.result l.k l.invariant.2 c.triangle-sum.ensures.result_bound few in (
       omega arith,
-      one_more (corner_at c.args.positions.now) c.args.indices.now l.k (to_z w64 l.sum) _ _ _ (omega arith) l.invariant.1 e c.triangle-sum.ensures.value,
-      rw e (next-most l.sum c.triangle-sum.result l.k l.invariant.2 c.triangle-sum.ensures.result_bound few),
+      one_more (corner_at c.args.positions.now) c.args.indices.now l.k (to_z w64 l.sum-bits) _ _ _ (omega arith) l.invariant.1 e c.triangle-sum.ensures.value,
+      rw e (next-most l.sum-bits c.triangle-sum.result l.k l.invariant.2 c.triangle-sum.ensures.result_bound few),
     )
 
 pub returns : goal.returns
@@ -75,4 +71,4 @@ returns c =
     let k = c.loop-k.k in
     let t = c.loop-k-test.false in
     let z = sum_past (corner_at c.args.positions.now) c.args.indices.now (3 * k) (omega arith) in
-    sym (+ℤ_idr _) ∙ ap (λ (y : ℤ). to_z w64 c.loop-k.sum +ℤ y) (sym z) ∙ c.loop-k.invariant.1
+    sym (+ℤ_idr _) ∙ ap (λ (y : ℤ). to_z w64 c.loop-k.sum-bits +ℤ y) (sym z) ∙ c.loop-k.invariant.1

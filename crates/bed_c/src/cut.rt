@@ -1,0 +1,14 @@
+// The exports of bed/src/cut.rt: each calls the library's function, and its clauses are that function's.
+ghost use Rattle.std.specs.Prelude.{◌≡◌, length};
+ghost use Rattle.grid.specs.Block.{point};
+ghost use Rattle.fixtures.specs.Cut.{cut_answer, cut_grid};
+ghost use Rattle.bed.specs.Words12.{dims_asked};
+
+// The answer number: 0, 1, 3 or 51 to 56. Every answer but 0 changes nothing.
+#[unsafe(no_mangle)]
+pub extern "C" fn bed_cut_fixtures(file: &[u8], words: &[u32; 12], sdf: &mut [f32]) -> u32
+    ensures value { result ≡ cut_answer file.now (point (dims_asked words.now)) (length sdf.old) }
+    ensures sdf_after { sdf.new ≡ cut_grid file.now (point (dims_asked words.now)) sdf.old }
+{
+    bed::cut::bed_cut_fixtures(file, words, sdf)
+}

@@ -1,27 +1,25 @@
 -- What is kept of a row that was read: its codes stand where they were put until its half of the list is used again, and the four codes of a cell
 -- between two rows tell whether it is a surface cell. Assumes nothing.
 use Prim.Native.Nat.{ℕ, ◌+◌, ◌-◌, ◌*◌, ◌≤◌, ◌<◌}
-use native.Mathlib.Nat.{add_assoc}
 use native.Mathlib.Omega.{arith}
 use mathlib.Core.Bool.{Bool, true, false, not, ◌&&◌, cond}
-use mathlib.Core.List.{List, map}
+use mathlib.Core.List.{List}
 use mathlib.Core.Logic.{◌⊎◌, inl, inr}
-use mathlib.Core.Path.{◌≡◌, refl, sym, ap, ap₂, subst, ◌∙◌}
+use mathlib.Core.Path.{◌≡◌, refl, sym, ap, ap₂, ◌∙◌}
 use lib.Dec.{leb, eqb}
 use lib.ListN.{length, get_or}
 use lib.Seq.{sets, length-sets}
 use lib.Ieee.{Float, nan}
 use borrow.Author.Tests.{le-leb, lt-leb, eq-eqb, ne_eqb}
-use Rattle.lists.specs.Lists.{one, up_to}
+use Rattle.lists.specs.Lists.{one}
 use Rattle.lists.proofs.Tests.{one-most, less-or-not}
 use Rattle.rules.specs.Cell.{negative, negatives}
 use Rattle.grid.specs.declared.Block.{Block}
-use Rattle.grid.specs.declared.corners.Side.{Side}
 use Rattle.grid.specs.Block.{box_of}
 use Rattle.grid.specs.Corners.{side_between, eight_of}
-use Rattle.grid.specs.Signs.{side_negatives, surface_at}
+use Rattle.grid.specs.Signs.{surface_at}
 use Rattle.grid.proofs.Sides.{both-sides}
-use Rattle.row_signs.specs.Signs.{negative_at, row_length, row_start, row_points}
+use Rattle.row_signs.specs.Signs.{row_length, row_start, row_points}
 use Rattle.row_signs.specs.Codes.{code_at, codes_run, row_kept, Kept, Half, four_codes, mixed_code, SmallFrom}
 use Rattle.row_signs.proofs.Stores.{long, stored_at, stored-apart}
 use Rattle.row_signs.proofs.OneSign.{next_row}

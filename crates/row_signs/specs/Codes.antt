@@ -1,6 +1,6 @@
 -- A row of points as codes: 1 for a negative point of the lower layer and 8 for one of the upper layer, so that the sum of a cell's four codes tells
 -- whether its eight corners have one sign. These follow the code and stand in no contract that a user sees. Definitions only. Assumes nothing.
-use Rattle.std.specs.Prelude.{ℕ, ◌+◌, ◌-◌, ◌*◌, ◌≤◌, ◌<◌, Bool, not, ◌&&◌, cond, List, map, ◌≡◌, ◌⊎◌, leb, eqb, length, get_or, Float}
+use Rattle.std.specs.Prelude.{ℕ, ◌+◌, ◌*◌, ◌≤◌, ◌<◌, Bool, not, ◌&&◌, cond, List, map, ◌≡◌, ◌⊎◌, leb, eqb, length, get_or, Float}
 use Rattle.std.proofs.lemmas.List.Edits.{sets}
 use Rattle.lists.specs.Lists.{one, up_to}
 use Rattle.grid.specs.declared.Block.{Block}

@@ -1,0 +1,18 @@
+-- The invariant: the first j places are counted, and their codes stand in the list; the count is at most twice j, so that it fits 32 bits. Assumes nothing.
+use Prim.Native.Nat.{◌≤◌, ◌+◌, ◌-◌, ◌*◌}
+use mathlib.Core.Path.{◌≡◌}
+use lib.Seq.{sets}
+use Rattle.grid.specs.Values.{grid_of}
+use Rattle.row_signs.specs.Signs.{negatives_run}
+use Rattle.row_signs.specs.Codes.{codes_run}
+use Rattle.row_signs.proofs.code_run.Given as goal
+
+abbrev pub invariant-loop-j : goal.invariant-loop-j
+invariant-loop-j l =
+    let low = grid_of l.width l.lower l.lower16 l.lower8 in
+    let up = grid_of l.width l.upper l.upper16 l.upper8 in
+    (l.j ≤ l.n) × (l.count ≤ 2 * l.j) × (l.count ≡ negatives_run low l.at l.j + negatives_run up l.at l.j)
+    × (l.codes ≡ sets l.initial.codes l.from (codes_run low up l.at l.j))
+
+abbrev pub decreases-loop-j : goal.decreases-loop-j
+decreases-loop-j l = l.n - l.j

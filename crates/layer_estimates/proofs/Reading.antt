@@ -11,7 +11,7 @@ use Rattle.lists.specs.Lists.{run, up_to}
 use Rattle.lists.proofs.Lists.{All, all-at, all-each, all_then, map_same}
 use Rattle.lists.proofs.Runs.{up_to-each}
 use Rattle.rules.specs.Grid.{GridPoint, Field, is_cell}
-use Rattle.rules.specs.Cell.{values, position, normal, crossings}
+use Rattle.rules.specs.Cell.{values, position}
 use Rattle.rules.specs.Vertices.{layer_vertices, vertex_position, vertex_normal, vertex_crossings}
 use Rattle.rules.specs.Call.{flat_points, flat_vectors}
 use Rattle.rules.specs.Cutting.{Vertex, vertex_of, point_in, vector_in, vertices_seen}

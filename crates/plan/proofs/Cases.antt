@@ -1,15 +1,14 @@
 -- Plans that the kernel computes: the turns of a check on them, and what its answer says, a plan or none. The pinwheel, which no run of cuts makes; each of
 -- its blocks left out, doubled or moved; blocks of one cell; sizes past 64 bits; the refusals and their order. Assumes nothing.
-use Prim.Native.Nat.{ℕ, zero, suc, ◌+◌, ◌≤◌, ◌<◌}
+use Prim.Native.Nat.{ℕ, zero, suc, ◌+◌, ◌<◌}
 use native.Mathlib.Nat.{not-suc-le-zero, le_of_suc-le-suc}
 use mathlib.Core.Bool.{Bool, true, false, ◌&&◌, cond}
-use mathlib.Core.List.{List, [], ◌∷◌, ◌++◌, map}
-use mathlib.Core.Path.{◌≡◌, refl, sym, subst}
-use borrow.Author.Tests.{ltb-true, ltb-false}
+use mathlib.Core.List.{List, [], ◌∷◌, map}
+use mathlib.Core.Path.{◌≡◌, refl, subst}
+use borrow.Author.Tests.{ltb-true}
 use lib.Dec.{T, leb, ltb, eqb, leb→le, eqb→eq}
 use lib.Ieee.Fits.{and_l, and_r}
 use lib.ListN.{length, get_or, replicate}
-use Rattle.rules.specs.Cutting.{Plan}
 use Rattle.lists.specs.Lists.{some}
 use Rattle.plan.specs.declared.Block.{Block}
 use Rattle.plan.specs.declared.progress.Progress.{Progress}

@@ -3,17 +3,17 @@
 use Prim.Native.Nat.{ℕ, zero, suc, ◌+◌, ◌-◌, ◌*◌, ◌≤◌, ◌<◌}
 use native.Mathlib.Omega.{arith}
 use mathlib.Core.Bool.{Bool, true, false, ◌&&◌}
-use mathlib.Core.List.{List, [], ◌∷◌, map}
+use mathlib.Core.List.{List, [], ◌∷◌}
 use mathlib.Core.Path.{◌≡◌, refl, sym, ap, subst, ◌∙◌}
 use lib.Dec.{T}
-use lib.Ieee.Fits.{and_i, and_l, and_r}
+use lib.Ieee.Fits.{and_i, and_l}
 use lib.ListN.{length, get_or}
 use Rattle.lists.specs.Lists.{one, keep, many}
 use Rattle.rules.specs.Grid.{GridPoint, Box, same_point, is_cell}
 use Rattle.rules.specs.Vertices.{cells}
 use Rattle.lists.proofs.Tests.{same_test, is-test, one_of, one-not, one-most, one-positive}
-use Rattle.lists.proofs.Lists.{All, none, more, all-each, total, total-same, total-plus, many-total, many-same, many-keep, many-with, many-some, many-none, length-keep}
-use Rattle.lists.proofs.Permutation.{Perm, perm-length, perm-counts}
+use Rattle.lists.proofs.Lists.{All, none, more, all-each, total, total-same, total-plus, many-total, many-same, many-keep, many-with, many-some, length-keep}
+use Rattle.lists.proofs.Permutation.{perm-length, perm-counts}
 use Rattle.rules.proofs.Counting.{same_point-sound, same_point-itself, same_point-moves, cells-once}
 use Rattle.grid.proofs.Order.{box-ends, box-length}
 

@@ -3,7 +3,6 @@ use Prim.Native.Nat.{ℕ}
 use mathlib.Core.Bool.{Bool}
 use mathlib.Core.List.{List}
 use mathlib.Core.Path.{◌≡◌, sym, ◌∙◌}
-use lib.Dec.{T}
 use Rattle.rules.specs.Cutting.{Piece}
 use Rattle.lists.proofs.Tests.{same_test}
 use Rattle.plan.specs.Plan.{Checks}

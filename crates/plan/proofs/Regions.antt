@@ -5,12 +5,12 @@ use native.Mathlib.Omega.{arith}
 use mathlib.Core.Bool.{Bool, true, false, not, ◌&&◌, ◌||◌, cond, and-true}
 use mathlib.Core.List.{List, map}
 use mathlib.Core.Logic.{◌⊎◌, inl, inr}
-use mathlib.Core.Path.{◌≡◌, refl, sym, ap, ◌∙◌}
+use mathlib.Core.Path.{◌≡◌, sym, ap, ◌∙◌}
 use lib.Dec.{T, leb, ltb, eqb, leb→le, le→leb, ltb→lt, lt→ltb, eqb→eq, nleb→lt, T_not, not_T}
 use lib.Ieee.Fits.{and_i, and_l, and_r, eq→eqb}
 use Rattle.lists.specs.Lists.{one, many, below}
 use Rattle.rules.specs.Grid.{GridPoint, Axis, axis_x, axis_y, axis_z, Box, is_cell}
-use Rattle.rules.specs.Faces.{Edge, edge}
+use Rattle.rules.specs.Faces.{edge}
 use Rattle.rules.specs.Cutting.{Piece, Plan}
 use Rattle.lists.proofs.Tests.{same_test, less-or-not, below-low, below-high, below_in, nor-left, nor-right, nor-both}
 use Rattle.lists.proofs.Lists.{all-each, many-map, many-same}

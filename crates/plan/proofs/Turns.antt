@@ -16,7 +16,6 @@ use Rattle.rules.specs.Cutting.{Plan}
 use Rattle.lists.proofs.Tests.{less-or-not, or-second}
 use Rattle.lists.proofs.Lists.{total}
 use Rattle.plan.specs.declared.Block.{Block}
-use Rattle.plan.specs.declared.PlanAnswer.{PlanAnswer}
 use Rattle.plan.specs.declared.size.Sum.{Sum}
 use Rattle.plan.specs.declared.size.Sums.{Sums}
 use Rattle.plan.specs.declared.progress.Progress.{Progress}

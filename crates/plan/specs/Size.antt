@@ -1,6 +1,6 @@
 -- What the code says of itself: how many points a box of points has, as high · 2^24 + low, and when two such sums are equal.
 -- Definitions only. Assumes nothing.
-use Rattle.std.specs.Prelude.{ℕ, ◌+◌, ◌-◌, ◌*◌, ◌/◌, ◌%◌, ◌^◌, ◌≤◌, ◌<◌, Bool, ◌&&◌, eqb}
+use Rattle.std.specs.Prelude.{ℕ, ◌+◌, ◌-◌, ◌*◌, ◌/◌, ◌%◌, ◌≤◌, Bool, ◌&&◌, eqb}
 use Rattle.plan.specs.declared.region.Span.{Span}
 use Rattle.plan.specs.declared.region.Region.{Region}
 use Rattle.plan.specs.declared.region.Owned.{Owned}

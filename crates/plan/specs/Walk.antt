@@ -3,7 +3,6 @@ use Rattle.std.specs.Prelude.{ℕ, ◌+◌, ◌*◌, ◌^◌, ◌≤◌, ◌<◌
 use Rattle.plan.specs.declared.Block.{Block}
 use Rattle.plan.specs.declared.PlanAnswer.{PlanAnswer}
 use Rattle.plan.specs.declared.size.Sum.{Sum}
-use Rattle.plan.specs.declared.size.Sums.{Sums}
 use Rattle.plan.specs.declared.progress.Progress.{Progress}
 use Rattle.plan.specs.Plan.{too_many, bad_block}
 use Rattle.plan.specs.Region.{owned_of, owned_meet, owned_inside}

@@ -55,16 +55,16 @@ fn with_plane() -> Block {
 }
 
 // A line with the counts, of any grid and of Ball.
-fn counts(name: &[u8], sdf: &[f32], asked: Block) {
-    case(name, sdf, asked, AMPLE, Show::Counts);
+fn counts(rt: &impl Print, name: &[u8], sdf: &[f32], asked: Block) {
+    case(rt, name, sdf, asked, AMPLE, Show::Counts);
 }
 
-fn ball(name: &[u8], asked: Block) {
-    counts(name, &grids::ball(-1.0), asked);
+fn ball(rt: &impl Print, name: &[u8], asked: Block) {
+    counts(rt, name, &grids::ball(-1.0), asked);
 }
 
 // Ball, with this much room.
-fn ball_in(name: &[u8], positions: usize, map: usize, indices: usize) {
+fn ball_in(rt: &impl Print, name: &[u8], positions: usize, map: usize, indices: usize) {
     let room = Lengths {
         positions,
         normals: 27,
@@ -74,26 +74,39 @@ fn ball_in(name: &[u8], positions: usize, map: usize, indices: usize) {
         map,
         indices,
     };
-    case(name, &grids::ball(-1.0), up_to(2, 2, 2), room, Show::Counts);
+    case(
+        rt,
+        name,
+        &grids::ball(-1.0),
+        up_to(2, 2, 2),
+        room,
+        Show::Counts,
+    );
 }
 
 // One cell, with its vertex.
-fn cell(name: &[u8], corners: &[f32]) {
+fn cell(rt: &impl Print, name: &[u8], corners: &[f32]) {
     let one = plain(at(2, 2, 2), at(0, 0, 0), at(1, 1, 1));
-    case(name, corners, one, AMPLE, Show::Vertex);
+    case(rt, name, corners, one, AMPLE, Show::Vertex);
 }
 
-fn meshes() {
+fn meshes(rt: &impl Print) {
     let whole = up_to(2, 2, 2);
-    case(b"Ball", &grids::ball(-1.0), whole, AMPLE, Show::Mesh);
-    ball(b"Ball with max plane", with_plane());
-    counts(b"All 1.0", &grids::ball(1.0), whole);
-    counts(b"Ball with -0.0 at the middle", &grids::ball(-0.0), whole);
-    ball(b"Ball, flat box to (0,2,2)", up_to(0, 2, 2));
+    case(rt, b"Ball", &grids::ball(-1.0), whole, AMPLE, Show::Mesh);
+    ball(rt, b"Ball with max plane", with_plane());
+    counts(rt, b"All 1.0", &grids::ball(1.0), whole);
+    counts(
+        rt,
+        b"Ball with -0.0 at the middle",
+        &grids::ball(-0.0),
+        whole,
+    );
+    ball(rt, b"Ball, flat box to (0,2,2)", up_to(0, 2, 2));
 }
 
-fn signs() {
+fn signs(rt: &impl Print) {
     case(
+        rt,
         b"Signs 0x2015 with max plane",
         &grids::signs(0x2015),
         with_plane(),
@@ -102,73 +115,99 @@ fn signs() {
     );
 }
 
-fn dimensions() {
-    ball(b"Dimension 0", plain(at(0, 3, 3), at(0, 0, 0), at(2, 2, 2)));
-    counts(b"Dimensions 16,777,217, 1, 1", &[1.0], row_of(16777217));
-    counts(b"Dimensions 16,777,218, 1, 1", &[1.0], row_of(16777218));
+fn dimensions(rt: &impl Print) {
+    ball(
+        rt,
+        b"Dimension 0",
+        plain(at(0, 3, 3), at(0, 0, 0), at(2, 2, 2)),
+    );
+    counts(rt, b"Dimensions 16,777,217, 1, 1", &[1.0], row_of(16777217));
+    counts(rt, b"Dimensions 16,777,218, 1, 1", &[1.0], row_of(16777218));
 }
 
-fn boxes() {
+fn boxes(rt: &impl Print) {
     ball(
+        rt,
         b"min (2,0,0), max (1,2,2)",
         plain(at(3, 3, 3), at(2, 0, 0), at(1, 2, 2)),
     );
-    ball(b"max (3,2,2)", up_to(3, 2, 2));
+    ball(rt, b"max (3,2,2)", up_to(3, 2, 2));
 }
 
-fn lengths() {
+fn lengths(rt: &impl Print) {
     let short = grids::ball_of_26();
-    counts(b"Grid of 26, box to (2,2,2)", &short, up_to(2, 2, 2));
-    counts(b"Grid of 26, box to (1,1,1)", &short, up_to(1, 1, 1));
-    ball_in(b"Map one short of the grid", 27, 26, 39);
+    counts(rt, b"Grid of 26, box to (2,2,2)", &short, up_to(2, 2, 2));
+    counts(rt, b"Grid of 26, box to (1,1,1)", &short, up_to(1, 1, 1));
+    ball_in(rt, b"Map one short of the grid", 27, 26, 39);
 }
 
-fn not_a_number() {
+fn not_a_number(rt: &impl Print) {
     let nan = grids::ball_with(26, 0.0 / 0.0);
-    counts(b"Ball with not-a-number at (2,2,2)", &nan, up_to(2, 2, 2));
-    counts(b"The same, box to (1,1,1)", &nan, up_to(1, 1, 1));
+    counts(
+        rt,
+        b"Ball with not-a-number at (2,2,2)",
+        &nan,
+        up_to(2, 2, 2),
+    );
+    counts(rt, b"The same, box to (1,1,1)", &nan, up_to(1, 1, 1));
 }
 
-fn large() {
+fn large(rt: &impl Print) {
     let whole = up_to(2, 2, 2);
     counts(
+        rt,
         b"Ball with 2^124 at (0,0,0)",
         &grids::ball_with(0, grids::CAP),
         whole,
     );
     counts(
+        rt,
         b"Ball with the next float up",
         &grids::ball_with(0, grids::ABOVE_CAP),
         whole,
     );
 }
 
-fn room() {
-    ball_in(b"Ball, positions 23", 23, 30, 39);
-    ball_in(b"Ball, positions 23, indices 17", 23, 30, 17);
-    ball_in(b"Ball, indices 17", 27, 30, 17);
+fn room(rt: &impl Print) {
+    ball_in(rt, b"Ball, positions 23", 23, 30, 39);
+    ball_in(rt, b"Ball, positions 23, indices 17", 23, 30, 17);
+    ball_in(rt, b"Ball, indices 17", 27, 30, 17);
 }
 
 // One cell whose four x edges cross alike, and the corners on which other orders of the normal's terms change bits.
-fn cells() {
-    cell(b"Fraction of (1, -1) along x", &grids::along_x(1.0, -1.0));
-    cell(b"Fraction of (0, -1) along x", &grids::along_x(0.0, -1.0));
-    cell(b"Fraction of (-1, 0) along x", &grids::along_x(-1.0, 0.0));
+fn cells(rt: &impl Print) {
     cell(
+        rt,
+        b"Fraction of (1, -1) along x",
+        &grids::along_x(1.0, -1.0),
+    );
+    cell(
+        rt,
+        b"Fraction of (0, -1) along x",
+        &grids::along_x(0.0, -1.0),
+    );
+    cell(
+        rt,
+        b"Fraction of (-1, 0) along x",
+        &grids::along_x(-1.0, 0.0),
+    );
+    cell(
+        rt,
         b"Cell -1 0 0 -1 0 0 0 -1",
         &[-1.0, 0.0, 0.0, -1.0, 0.0, 0.0, 0.0, -1.0],
     );
 }
 
-fn main() {
-    said::head();
-    meshes();
-    signs();
-    dimensions();
-    boxes();
-    lengths();
-    not_a_number();
-    large();
-    room();
-    cells();
+fn main(rt: HostRuntime) {
+    let rt = &rt;
+    said::head(rt);
+    meshes(rt);
+    signs(rt);
+    dimensions(rt);
+    boxes(rt);
+    lengths(rt);
+    not_a_number(rt);
+    large(rt);
+    room(rt);
+    cells(rt);
 }

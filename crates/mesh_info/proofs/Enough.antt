@@ -1,10 +1,5 @@
 -- A file of at most 65,536 bytes has at most 2,047 vertices or triangles, so with room for those the answer is never 29. Assumes nothing.
-use Prim.Native.Nat.{ℕ, ◌*◌, ◌≤◌}
-use native.Mathlib.Omega.{arith}
-use mathlib.Core.Path.{◌≡◌, refl}
-use mathlib.Core.List.{List}
-use borrow.Author.Tests.{le-ltb}
-use lib.ListN.{length}
+use Rattle.std.proofs.Common.{◌≡◌, ℕ, ◌*◌, ◌≤◌, List, length, le-ltb, refl, arith}
 use Rattle.mesh_file.specs.Reading.{Progress, reading, whole, refused, read_of, checked, reading_with}
 use Rattle.mesh_file.proofs.Accepted.{whole_length}
 

@@ -1,13 +1,16 @@
 // Reads the mesh file that each argument names, or standard input where there is none, and prints one line for it: its counts, the
 // number that it is refused with, or that it is longer than 65,536 bytes (document 02, request 2). Where its output cannot be written it
-// says so on the error stream and stops: a program has no exit status of its own to say it with.
+// says so on the error stream and stops; its exit status is 0 all the same.
 #![tactic(auto)]
 
-ghost use Rattle.std.specs.Prelude.{◌≡◌, ◌≤◌, eqb, length};
-ghost use Rattle.io.specs.Counts.{IsPrefixLen};
+ghost use Rattle.std.specs.Prelude.{◌≡◌, ◌≤◌, ◌==◌, length, take};
 ghost use Rattle.mesh_file.specs.Reading.{checked, read_of};
 
-use libc::{STDIN_FILENO, STDOUT_FILENO};
+use std::env::{Env, FillError};
+use std::fs::File;
+use std::io::Read;
+use std::rt::Files;
+use std::{io, str};
 
 #[derive(Clone, Copy)]
 struct Got {
@@ -17,25 +20,24 @@ struct Got {
 
 // A read of no byte is the end, and no other: a pipe may bring one byte at a time.
 fn is_end(more: usize) -> bool
-    ensures { result ≡ eqb more 0 }
+    ensures { result ≡ (more == 0) }
 {
     more == 0
 }
 
 // All that there is to read, up to the buffer's length.
-fn read_all(fd: i32, buf: &mut [u8]) -> Got
-    ensures { IsPrefixLen result.bytes buf.new }
+fn read_all(from: &mut impl Read, buf: &mut [u8]) -> Got
+    ensures in_bounds { result.bytes ≤ length buf.new }
+    ensures prefix { result.bytes ≡ length (take result.bytes buf.new) }
 {
     let mut n = 0;
     while n < buf.len() {
-        let got = libc::read(fd, &mut buf[n..]);
-        if got < 0 {
+        let Ok(more) = from.read(&mut buf[n..]) else {
             return Got {
                 bytes: n,
                 failed: true,
             };
-        }
-        let more = io::count(got, &buf[n..]);
+        };
         if is_end(more) {
             return Got {
                 bytes: n,
@@ -61,74 +63,98 @@ fn answer_for(file: &[u8]) -> mesh_file::Read
     mesh_file::read_mesh(file, &mut positions, &mut normals, &mut indices)
 }
 
-// Each function below answers whether all that it had to print was written.
-fn print(text: &[u8]) -> bool {
-    io::write_all(STDOUT_FILENO, text)
+// Each function below is an error where not all that it had to print was written.
+fn print(rt: &impl Print, text: &[u8]) -> io::Result<()> {
+    rt.write_all(text)
 }
 
-fn print_number(text: &[u8], n: u64) -> bool {
-    if !print(text) {
-        return false;
-    }
-    io::print_decimal(STDOUT_FILENO, n)
+fn print_number(rt: &impl Print, text: &[u8], n: u64) -> io::Result<()> {
+    print(rt, text)?;
+    print!(rt; "{n}")
 }
 
-fn print_answer(read: mesh_file::Read) -> bool {
+fn print_answer(rt: &impl Print, read: mesh_file::Read) -> io::Result<()> {
     if read.answer != 0 {
-        if !print_number(b"refused ", read.answer as u64) {
-            return false;
-        }
-        return print(b"\n");
+        print_number(rt, b"refused ", read.answer as u64)?;
+        return print(rt, b"\n");
     }
-    if !print_number(b"vertices ", read.vertices as u64) {
-        return false;
-    }
-    if !print_number(b" triangles ", read.triangles as u64) {
-        return false;
-    }
-    print(b"\n")
+    print_number(rt, b"vertices ", read.vertices as u64)?;
+    print_number(rt, b" triangles ", read.triangles as u64)?;
+    print(rt, b"\n")
 }
 
-fn report(fd: i32) -> bool {
+fn report(rt: &impl Print, from: &mut impl Read) -> io::Result<()> {
     let mut file = [0u8; 65537];
-    let got = read_all(fd, &mut file);
+    let got = read_all(from, &mut file);
     if got.failed {
-        return print(b"cannot read\n");
+        return print(rt, b"cannot read\n");
     }
     let n = got.bytes;
     if n > 65536 {
-        return print(b"too long\n");
+        return print(rt, b"too long\n");
     }
-    print_answer(answer_for(&file[..n]))
+    print_answer(rt, answer_for(&file[..n]))
 }
 
-fn report_argument(i: usize) -> bool {
-    let mut path = io::buffer();
-    let n = os::arg(i, &mut path);
-    let fd = os::open_read(&path[..n]);
-    if fd < 0 {
-        return print(b"cannot open\n");
+// Puts an argument at the start of the buffer, and answers its length: 0 where it does not fit.
+fn arg(rt: &impl Env, i: usize, buf: &mut [u8]) -> usize
+    ensures { result ≤ length buf.new }
+{
+    rt.arg(i, buf).unwrap_or(0)
+}
+
+// A path is text: a file whose path is not cannot be opened.
+fn open_read<R: Files>(rt: &R, path: &[u8]) -> Option<R::File> {
+    let path = str::from_utf8(path).ok()?;
+    File::open(rt, path).ok()
+}
+
+fn report_argument(rt: &(impl Env + Files + Print), i: usize) -> io::Result<()> {
+    let mut path = [0u8; 4096];
+    let n = arg(rt, i, &mut path);
+    let Some(mut file) = open_read(rt, &path[..n]) else {
+        return print(rt, b"cannot open\n");
+    };
+    report(rt, &mut file)
+}
+
+// How many arguments the program was started with, its own name among them.
+fn arg_count(rt: &impl Env) -> usize {
+    let mut room = [0u8; 0];
+    for i in 0..usize::MAX {
+        if let Err(FillError::NotPresent) = rt.arg(i, &mut room) {
+            return i;
+        }
     }
-    let written = report(fd);
-    libc::close(fd);
-    written
+    usize::MAX
 }
 
-fn tell_not_written() {
-    os::fail(b"mesh_info: cannot write");
+// What the system calls an error, without its number.
+fn words(shown: &str) -> &str {
+    match shown.split_once(" (os error ") {
+        Some((words, _)) => words,
+        None => shown,
+    }
 }
 
-fn main() {
-    let arguments = os::arg_count();
+fn tell_not_written(rt: &(impl Alloc + Eprint), error: io::Error) {
+    let _ = match error.to_string(rt.alloc()) {
+        Ok(shown) => eprintln!(rt; "mesh_info: cannot write: {}", words(&shown)),
+        Err(_) => eprintln!(rt; "mesh_info: cannot write: {error}"),
+    };
+}
+
+fn main(rt: HostRuntime) {
+    let arguments = arg_count(&rt);
     if arguments < 2 {
-        if !report(STDIN_FILENO) {
-            tell_not_written();
+        if let Err(e) = report(&rt, &mut rt.stdin()) {
+            tell_not_written(&rt, e);
         }
         return;
     }
     for i in 1..arguments {
-        if !report_argument(i) {
-            tell_not_written();
+        if let Err(e) = report_argument(&rt, i) {
+            tell_not_written(&rt, e);
             return;
         }
     }

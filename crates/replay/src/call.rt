@@ -7,6 +7,7 @@ use crate::{list, stored};
 use grid::Block;
 use judge::{Answer, Lengths};
 use marked_mesh::{Lists, mesh_marked};
+use std::io::Read;
 
 // What came of a call: it was compared, or the file ends in it, or it is not as the layout says.
 #[derive(Clone, Copy)]
@@ -53,77 +54,81 @@ fn then(before: Differs, agrees: bool, here: Differs) -> Differs {
 }
 
 // The stored lists follow in this order: positions and normals, cells and strides, map and indices.
-fn compare_floats(fd: i32, n: Lengths, before: Differs, lists: Lists) -> Differs {
+fn compare_floats(from: &mut impl Read, n: Lengths, before: Differs, lists: Lists) -> Differs {
     let positions = lists.positions;
     let normals = lists.normals;
     let d = then(
         before,
-        list::floats_agree(fd, &positions, n.positions),
+        list::floats_agree(from, &positions, n.positions),
         Differs::PositionList,
     );
     then(
         d,
-        list::floats_agree(fd, &normals, n.normals),
+        list::floats_agree(from, &normals, n.normals),
         Differs::NormalList,
     )
 }
 
-fn compare_cells(fd: i32, n: Lengths, before: Differs, lists: Lists) -> Differs {
+fn compare_cells(from: &mut impl Read, n: Lengths, before: Differs, lists: Lists) -> Differs {
     let cells = lists.cells;
     let strides = lists.strides;
     let d = then(
         before,
-        list::words_agree(fd, &cells, n.cells),
+        list::words_agree(from, &cells, n.cells),
         Differs::CellList,
     );
     then(
         d,
-        list::words_agree(fd, &strides, n.strides),
+        list::words_agree(from, &strides, n.strides),
         Differs::StrideList,
     )
 }
 
-fn compare_faces(fd: i32, n: Lengths, before: Differs, lists: Lists) -> Differs {
+fn compare_faces(from: &mut impl Read, n: Lengths, before: Differs, lists: Lists) -> Differs {
     let map = lists.map;
     let indices = lists.indices;
-    let d = then(before, list::words_agree(fd, &map, n.map), Differs::MapList);
+    let d = then(
+        before,
+        list::words_agree(from, &map, n.map),
+        Differs::MapList,
+    );
     then(
         d,
-        list::words_agree(fd, &indices, n.indices),
+        list::words_agree(from, &indices, n.indices),
         Differs::IndexList,
     )
 }
 
 // The lists hold what the layout says before the call.
-fn made(fd: i32, grid: &[f32], block: Block, e: Expected) -> Differs {
+fn made(from: &mut impl Read, grid: &[f32], block: Block, e: Expected) -> Differs {
     let lent = e.lent;
     let m = mesh_marked(grid, block, lent);
     let lists = m.lists;
     let d = answers_differ(m.answer, e);
-    let d = compare_floats(fd, lent, d, lists);
-    let d = compare_cells(fd, lent, d, lists);
-    compare_faces(fd, lent, d, lists)
+    let d = compare_floats(from, lent, d, lists);
+    let d = compare_cells(from, lent, d, lists);
+    compare_faces(from, lent, d, lists)
 }
 
-fn replay_asked(fd: i32, a: Asked) -> Replayed {
+fn replay_asked(from: &mut impl Read, a: Asked) -> Replayed {
     let mut stored = [0u8; 1024];
     let mut grid = [0.0f32; 256];
-    if !list::read(fd, a.grid, &mut stored) {
+    if !list::read(from, a.grid, &mut stored) {
         return Replayed::Cut;
     }
     list::take_distances(&mut grid, &stored);
-    match stored::read_tail(fd) {
+    match stored::read_tail(from) {
         Tail::Cut => Replayed::Cut,
         Tail::Malformed => Replayed::Malformed,
-        Tail::Answer(e) => Replayed::Compared(made(fd, distances(&grid, a.grid), a.block, e)),
+        Tail::Answer(e) => Replayed::Compared(made(from, distances(&grid, a.grid), a.block, e)),
     }
 }
 
 // The file's next call.
-pub(crate) fn replay(fd: i32) -> Replayed {
-    match stored::read_head(fd) {
+pub(crate) fn replay(from: &mut impl Read) -> Replayed {
+    match stored::read_head(from) {
         Head::Cut => Replayed::Cut,
         Head::Malformed => Replayed::Malformed,
-        Head::Call(a) => replay_asked(fd, a),
+        Head::Call(a) => replay_asked(from, a),
     }
 }

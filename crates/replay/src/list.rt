@@ -1,14 +1,15 @@
 // Lists of stored numbers: little-endian words of 32 bits, the next of an open file.
 use marks::stored;
 use marks::stored::word;
+use std::io::Read;
 
 // Reads the file's next n numbers; no if it does not hold them all, or the room does not.
-pub(crate) fn read(fd: i32, n: usize, room: &mut [u8]) -> bool {
+pub(crate) fn read(from: &mut impl Read, n: usize, room: &mut [u8]) -> bool {
     if room.len() / 4 < n {
         return false;
     }
     let end = 4 * n;
-    io::read_full(fd, &mut room[0..end]) == end
+    from.read_exact(&mut room[0..end]).is_ok()
 }
 
 // The distance with these bits; every pattern of a not-a-number is not-a-number.
@@ -29,17 +30,17 @@ pub(crate) fn take_distances(grid: &mut [f32], stored: &[u8]) {
 }
 
 // The list begins with the file's next n numbers. They are read in any case.
-pub(crate) fn floats_agree(fd: i32, list: &[f32], n: usize) -> bool {
+pub(crate) fn floats_agree(from: &mut impl Read, list: &[f32], n: usize) -> bool {
     let mut bytes = [0u8; 2048];
-    if !read(fd, n, &mut bytes) {
+    if !read(from, n, &mut bytes) {
         return false;
     }
     stored::floats_are(list, &bytes, n)
 }
 
-pub(crate) fn words_agree(fd: i32, list: &[u32], n: usize) -> bool {
+pub(crate) fn words_agree(from: &mut impl Read, list: &[u32], n: usize) -> bool {
     let mut bytes = [0u8; 2048];
-    if !read(fd, n, &mut bytes) {
+    if !read(from, n, &mut bytes) {
         return false;
     }
     stored::words_are(list, &bytes, n)

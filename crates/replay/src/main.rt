@@ -11,66 +11,96 @@ mod said;
 mod stored;
 mod tally;
 
+ghost use Rattle.std.specs.Prelude.{◌≤◌, length};
+
 use call::Replayed;
 use marks::stored::word;
+use std::env::{Env, FillError};
+use std::fs::File;
+use std::io::Read;
+use std::rt::Files;
+use std::str;
 use tally::Outcome;
 
 // Whether the file goes on.
-fn goes_on(fd: i32) -> bool {
+fn goes_on(from: &mut impl Read) -> bool {
     let mut one = [0u8; 1];
-    io::read_full(fd, &mut one) != 0
+    from.read_exact(&mut one).is_ok()
 }
 
 // Call after call, to the end of the file, which must come right after the last.
-fn replay(fd: i32, calls: u32) -> Outcome {
+fn replay(from: &mut impl Read, calls: u32) -> Outcome {
     let mut tally = tally::NONE;
     let mut done = 0u32;
     while done < calls {
-        match call::replay(fd) {
+        match call::replay(from) {
             Replayed::Cut => return Outcome::Cut(done),
             Replayed::Malformed => return Outcome::Malformed(done),
             Replayed::Compared(d) => tally = tally::counted(tally, d),
         }
         done += 1;
     }
-    if goes_on(fd) {
+    if goes_on(from) {
         return Outcome::LeftOver;
     }
     Outcome::Done(calls, tally)
 }
 
 // The first number is that of the calls.
-fn replay_open(fd: i32) -> Outcome {
+fn replay_open(from: &mut impl Read) -> Outcome {
     let mut first = [0u8; 4];
-    if !list::read(fd, 1, &mut first) {
+    if !list::read(from, 1, &mut first) {
         return Outcome::Cut(0);
     }
-    replay(fd, word(&first, 0))
+    replay(from, word(&first, 0))
 }
 
-fn replay_file(name: &[u8]) {
-    let fd = os::open_read(name);
-    said::name(name);
-    if fd < 0 {
-        printed::text(b"cannot be opened\n");
+// A path is text: a file whose path is not cannot be opened.
+fn open_read<R: Files>(rt: &R, path: &[u8]) -> Option<R::File> {
+    let path = str::from_utf8(path).ok()?;
+    File::open(rt, path).ok()
+}
+
+fn replay_file(rt: &(impl Files + Print), name: &[u8]) {
+    let file = open_read(rt, name);
+    said::name(rt, name);
+    let Some(mut file) = file else {
+        printed::text(rt, b"cannot be opened\n");
         return;
+    };
+    said::outcome(rt, replay_open(&mut file));
+}
+
+// Puts an argument at the start of the buffer, and answers its length: 0 where it does not fit.
+fn arg(rt: &impl Env, i: usize, buf: &mut [u8]) -> usize
+    ensures { result ≤ length buf.new }
+{
+    rt.arg(i, buf).unwrap_or(0)
+}
+
+fn replay_argument(rt: &(impl Env + Files + Print), i: usize) {
+    let mut name = [0u8; 4096];
+    let n = arg(rt, i, &mut name);
+    replay_file(rt, &name[..n]);
+}
+
+// How many arguments the program was started with, its own name among them.
+fn arg_count(rt: &impl Env) -> usize {
+    let mut room = [0u8; 0];
+    for i in 0..usize::MAX {
+        if let Err(FillError::NotPresent) = rt.arg(i, &mut room) {
+            return i;
+        }
     }
-    said::outcome(replay_open(fd));
-    libc::close(fd);
+    usize::MAX
 }
 
-fn replay_argument(i: usize) {
-    let mut name = io::buffer();
-    let n = os::arg(i, &mut name);
-    replay_file(&name[..n]);
-}
-
-fn main() {
-    said::head();
-    let n = os::arg_count();
+fn main(rt: HostRuntime) {
+    said::head(&rt);
+    let n = arg_count(&rt);
     let mut i = 1usize;
     while i < n {
-        replay_argument(i);
+        replay_argument(&rt, i);
         i += 1;
     }
 }

@@ -3,6 +3,7 @@ use crate::list::read;
 use grid::{Block, EachAxis, Extent};
 use judge::Lengths;
 use marks::stored::word;
+use std::io::Read;
 
 // What stands before the distances; `grid` is their number.
 #[derive(Clone, Copy)]
@@ -72,9 +73,9 @@ fn asked_in(head: &[u8]) -> Asked {
     }
 }
 
-pub(crate) fn read_head(fd: i32) -> Head {
+pub(crate) fn read_head(from: &mut impl Read) -> Head {
     let mut head = [0u8; 44];
-    if !read(fd, 11, &mut head) {
+    if !read(from, 11, &mut head) {
         return Head::Cut;
     }
     if 7 < word(&head, 9) {
@@ -120,9 +121,9 @@ fn too_long(tail: &[u8]) -> bool {
     false
 }
 
-pub(crate) fn read_tail(fd: i32) -> Tail {
+pub(crate) fn read_tail(from: &mut impl Read) -> Tail {
     let mut tail = [0u8; 36];
-    if !read(fd, 9, &mut tail) {
+    if !read(from, 9, &mut tail) {
         return Tail::Cut;
     }
     if too_long(&tail) {

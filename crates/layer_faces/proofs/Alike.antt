@@ -1,10 +1,10 @@
 -- The indices of a layer are the rules' own, where what was kept of the layer below is what the rules say of it; of the layer itself they depend on
 -- the two layers of distances alone. Assumes nothing.
-use Rattle.std.proofs.Common.{◌≡◌, ℕ, suc, ◌+◌, ◌-◌, ◌*◌, ◌≤◌, Bool, false, cond, T, eqb, ◌⊎◌, List, map, length, get_or, take, sym, ap, ◌∙◌, subst, ap₂, inl, inr, arith, eq-eqb, ne_eqb}
+use Rattle.std.proofs.Common.{◌≡◌, ℕ, suc, ◌-◌, ◌*◌, ◌≤◌, Bool, false, cond, T, eqb, ◌⊎◌, map, length, take, sym, ap, ◌∙◌, subst, inl, inr, arith, eq-eqb, ne_eqb}
 use lib.Ieee.{Float, lt}
 use Rattle.lists.specs.Lists.{joined}
 use Rattle.rules.specs.Grid.{GridPoint, Box, Field, is_cell, in_box, value}
-use Rattle.rules.specs.Cell.{Vector, negative, squared_distance}
+use Rattle.rules.specs.Cell.{negative, squared_distance}
 use Rattle.rules.specs.Vertices.{surface_cell, layer_vertices, vertex_number, number_in, vertex_position}
 use Rattle.rules.specs.Faces.{Flags, Edge, gives, cell1, cell2, cell3, cell4, six, shorter, face_cells, layer_indices}
 use Rattle.rules.specs.Call.{flat_vectors}

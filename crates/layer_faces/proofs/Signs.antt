@@ -1,6 +1,6 @@
 -- The signs that the code reads at a cell of the layer are those of its three edges' ends, and the look-ups for an edge that gives a face stay within
 -- their lists. Assumes nothing.
-use Rattle.std.proofs.Common.{◌≡◌, ℕ, ◌+◌, ◌-◌, ◌*◌, ◌<◌, ◌≤◌, Bool, ◌&&◌, T, List, length, get_or, sym, ap, ◌∙◌, mul-one, mul-add, arith, w64, Fits}
+use Rattle.std.proofs.Common.{◌≡◌, ℕ, ◌+◌, ◌*◌, ◌<◌, ◌≤◌, Bool, ◌&&◌, T, List, length, get_or, sym, ap, ◌∙◌, mul-one, mul-add, arith, w64, Fits}
 use lib.Ieee.{Float, nan, unlike}
 use Rattle.rules.specs.Grid.{GridPoint, Axis, axis_x, axis_y, axis_z, Box, Field, step_up, is_cell, value}
 use Rattle.rules.specs.Cell.{negative}

@@ -1,7 +1,7 @@
 -- Where the four cells round an owned edge stand in their layers: so many entries before the edge's own cell, in the layer or in the one below.
 -- Assumes nothing.
-use Rattle.std.proofs.Common.{◌≡◌, ℕ, ◌+◌, ◌-◌, ◌*◌, ◌<◌, ◌≤◌, refl, arith}
-use Rattle.rules.specs.Grid.{GridPoint, axis_x, axis_y, axis_z, along, step_down}
+use Rattle.std.proofs.Common.{◌≡◌, ◌+◌, ◌-◌, ◌<◌, arith}
+use Rattle.rules.specs.Grid.{GridPoint, axis_x, axis_y, step_down}
 use Rattle.rules.proofs.Indexes.{index-down}
 use Rattle.grid.specs.Layers.{in_layer}
 

@@ -1,6 +1,6 @@
 -- The indices of the layer z, where the layer below is known by what was kept of it: its part of the map, and its vertices' positions. Whatever is
 -- kept there, the indices are defined; where it is what the rules say of that layer, they are the rules' own. Definitions only. Assumes nothing.
-use Rattle.std.specs.Prelude.{◌≡◌, ℕ, ◌+◌, ◌-◌, ◌*◌, ◌<◌, ◌≤◌, Bool, cond, T, List, map, length, ◌==◌, nat_lt, slice_index, slice_index_or, Float}
+use Rattle.std.specs.Prelude.{◌≡◌, ℕ, ◌+◌, ◌-◌, ◌*◌, ◌<◌, Bool, cond, T, List, map, length, ◌==◌, nat_lt, slice_index, slice_index_or, Float}
 use Rattle.std.specs.Float.{nan}
 use Rattle.std.specs.Float.Ieee.{lt}
 use Rattle.lists.specs.Lists.{joined}

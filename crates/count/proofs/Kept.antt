@@ -8,11 +8,11 @@ use mathlib.Core.List.{List}
 use mathlib.Core.Logic.{◌⊎◌, inl, inr}
 use mathlib.Core.Path.{◌≡◌, refl, sym, ap, ap₂, ◌∙◌}
 use lib.Dec.{ltb, eqb}
-use lib.ListN.{length, get_or}
+use lib.ListN.{get_or}
 use lib.Ieee.{Float, nan, unlike}
 use borrow.Author.Tests.{eq-eqb, ne_eqb}
 use Rattle.lists.specs.Lists.{one, many, run}
-use Rattle.lists.proofs.Tests.{one-most, less-or-not}
+use Rattle.lists.proofs.Tests.{less-or-not}
 use Rattle.rules.specs.Cell.{negative}
 use Rattle.rules.specs.Grid.{Box}
 use Rattle.rules.specs.Faces.{Flags}

@@ -4,15 +4,15 @@ use Prim.Native.Nat.{ℕ}
 use native.Mathlib.Omega.{arith}
 use mathlib.Core.Bool.{Bool, true, false}
 use mathlib.Core.List.{List, [], ◌∷◌, ◌++◌}
-use mathlib.Core.Logic.{◌⊎◌, inl, inr}
+use mathlib.Core.Logic.{inl, inr}
 use mathlib.Core.Path.{◌≡◌, refl}
 use lib.ListN.{replicate}
-use Rattle.lists.specs.Lists.{one, some, run, up_to, keep}
-use Rattle.rules.specs.Grid.{GridPoint, Axis, axis_x, axis_y, axis_z}
-use Rattle.rules.specs.Faces.{Edge, edge, owned}
+use Rattle.lists.specs.Lists.{some, run, up_to, keep}
+use Rattle.rules.specs.Grid.{Axis, axis_x, axis_y, axis_z}
+use Rattle.rules.specs.Faces.{edge, owned}
 use Rattle.rules.specs.Cutting.{Piece}
 use Rattle.plan.specs.declared.Block.{Block}
-use Rattle.plan.specs.Plan.{piece, bad_piece, plan_answer}
+use Rattle.plan.specs.Plan.{bad_piece, plan_answer}
 use Rattle.witness.specs.Witness.{block_in, piece_in, owners, Before, refusal, edge_words}
 
 -- ---- a block in words, the second of two

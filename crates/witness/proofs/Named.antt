@@ -4,11 +4,11 @@ use Prim.Native.Nat.{ℕ, ◌<◌}
 use native.Mathlib.Omega.{arith}
 use mathlib.Core.Bool.{Bool, true, false, not}
 use mathlib.Core.List.{List, map}
-use mathlib.Core.Logic.{◌⊎◌, inl, inr}
+use mathlib.Core.Logic.{inl, inr}
 use mathlib.Core.Path.{◌≡◌, refl, sym, ap, subst, ◌∙◌}
 use lib.Dec.{T}
 use lib.ListN.{length, get_or}
-use Rattle.lists.specs.Lists.{one, up_to, keep, many}
+use Rattle.lists.specs.Lists.{one, up_to}
 use Rattle.lists.proofs.Lists.{all-each, keep_same, length-keep, many-map}
 use Rattle.rules.specs.Grid.{GridPoint, Axis, axis_x, axis_y, axis_z}
 use Rattle.rules.specs.Faces.{Edge, edge, owned}
@@ -19,7 +19,6 @@ use Rattle.plan.specs.declared.region.Region.{Region}
 use Rattle.plan.specs.Plan.{piece}
 use Rattle.plan.proofs.Regions.{owned-box}
 use Rattle.witness.specs.declared.search.Found.{Found}
-use Rattle.witness.specs.declared.axes.Told.{Told}
 use Rattle.witness.specs.Witness.{block_in, piece_in, owners, Right, axis_number, Before, FirstWrong, no_block}
 use Rattle.witness.specs.Steps.{region_of, placed, inside, owners_at, RightAt, Searched}
 use Rattle.witness.specs.Told.{axis_of, edge_of, Names}

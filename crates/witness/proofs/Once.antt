@@ -5,11 +5,11 @@ use native.Mathlib.Omega.{arith}
 use mathlib.Core.Bool.{Bool, true, false, not, cond}
 use mathlib.Core.List.{List, [], ◌∷◌}
 use mathlib.Core.Logic.{◌⊎◌, inl, inr}
-use mathlib.Core.Path.{◌≡◌, refl, sym, ap, subst, ◌∙◌}
+use mathlib.Core.Path.{◌≡◌, refl, sym, ap, ◌∙◌}
 use borrow.Author.Tests.{eq-eqb}
-use lib.Dec.{T, eqb}
+use lib.Dec.{T}
 use lib.ListN.{length, get_or}
-use Rattle.lists.specs.Lists.{one, up_to, keep, many}
+use Rattle.lists.specs.Lists.{one, up_to}
 use Rattle.lists.proofs.Tests.{less-or-not}
 use Rattle.lists.proofs.Lists.{All, none, more, all_keep, length-keep, many-map}
 use Rattle.lists.proofs.Runs.{up_to-each}
@@ -17,7 +17,7 @@ use Rattle.rules.specs.Grid.{GridPoint, Axis, axis_x, axis_y, axis_z}
 use Rattle.rules.specs.Faces.{Edge, edge, owned}
 use Rattle.rules.specs.Cutting.{Piece, Plan}
 use Rattle.plan.specs.Plan.{plan_answer, Checks}
-use Rattle.witness.specs.Witness.{piece_in, count_in, pieces_in, owners, Right, axis_number, Earlier, Before}
+use Rattle.witness.specs.Witness.{piece_in, count_in, pieces_in, owners, Before}
 use Rattle.witness.specs.Witness.{FirstWrong, refusal, no_block, edge_words, Tells, refused, holds, told}
 
 -- ---- of two edges one comes first

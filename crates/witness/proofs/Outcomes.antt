@@ -2,9 +2,8 @@
 use Prim.Native.Nat.{ℕ}
 use mathlib.Core.Bool.{Bool, true, false, not}
 use mathlib.Core.List.{List, [], ◌∷◌}
-use mathlib.Core.Path.{◌≡◌, refl, sym, ap, subst, ◌∙◌}
+use mathlib.Core.Path.{◌≡◌, refl, sym, subst, ◌∙◌}
 use lib.Dec.{T}
-use Rattle.rules.specs.Cutting.{Piece}
 use Rattle.plan.specs.declared.Block.{Block}
 use Rattle.plan.specs.Plan.{piece}
 use Rattle.witness.specs.declared.axes.Told.{Told}

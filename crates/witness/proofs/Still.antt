@@ -2,14 +2,14 @@
 -- owners. Assumes nothing.
 use Prim.Native.Nat.{ℕ, zero, suc, ◌+◌, ◌≤◌, ◌<◌}
 use native.Mathlib.Omega.{arith}
-use mathlib.Core.Bool.{Bool, true, false, not, ◌&&◌, cond}
+use mathlib.Core.Bool.{Bool, true, false, ◌&&◌, cond}
 use mathlib.Core.List.{List, [], ◌∷◌, ◌++◌, append-nil}
 use mathlib.Core.Logic.{◌⊎◌, inl, inr}
 use mathlib.Core.Path.{◌≡◌, refl, sym, ap, subst, ◌∙◌}
 use borrow.Author.Tests.{ltb-true, ltb-false, ne_eqb}
-use lib.Dec.{T, ltb, eqb}
+use lib.Dec.{ltb}
 use lib.ListN.{length, get_or, length-append}
-use Rattle.lists.specs.Lists.{one, up_to, keep, below}
+use Rattle.lists.specs.Lists.{one, up_to, keep}
 use Rattle.lists.proofs.Tests.{same_test, less-or-not, below-low, below-high, below_in}
 use Rattle.lists.proofs.Lists.{keep_same, keep_append}
 use Rattle.lists.proofs.Runs.{up_to-last, up_to-none, up_to-each}

@@ -1,15 +1,15 @@
 -- The way from point to point: before each of them every edge is right, and each lies nearer to the end; where the way ends, the edge is the first wrong one or
 -- there is none. Assumes nothing.
-use Prim.Native.Nat.{ℕ, suc, ◌+◌, ◌-◌, ◌*◌, ◌≤◌, ◌<◌}
+use Prim.Native.Nat.{ℕ, ◌+◌, ◌-◌, ◌*◌, ◌≤◌, ◌<◌}
 use native.Mathlib.Omega.{arith}
 use mathlib.Core.Bool.{Bool, true, false, not, ◌&&◌, ◌||◌, cond}
 use mathlib.Core.Logic.{◌⊎◌, inl, inr}
 use mathlib.Core.Path.{◌≡◌, refl, sym, ap, subst, ◌∙◌}
-use borrow.Author.Tests.{ltb-true, ltb-false, eq-eqb}
-use lib.Dec.{T, ltb, eqb, eqb→eq, T_not, not_T}
+use borrow.Author.Tests.{ltb-true, ltb-false}
+use lib.Dec.{T, ltb, eqb, eqb→eq, T_not}
 use lib.Ieee.Fits.{and_l, and_r, eq→eqb}
-use lib.ListN.{length, get_or}
-use Rattle.lists.specs.Lists.{one, up_to, keep, below}
+use lib.ListN.{length}
+use Rattle.lists.specs.Lists.{one}
 use Rattle.lists.proofs.Tests.{is_false, less-or-not, below-high}
 use Rattle.lists.proofs.Lists.{keep-none}
 use Rattle.lists.proofs.Runs.{up_to-each}
@@ -17,10 +17,9 @@ use Rattle.rules.specs.Grid.{GridPoint}
 use Rattle.plan.specs.declared.region.Region.{Region}
 use Rattle.witness.specs.declared.look.Place.{Place}
 use Rattle.witness.specs.declared.look.Seen.{Seen}
-use Rattle.witness.specs.declared.search.Found.{Found}
 use Rattle.witness.specs.Witness.{Earlier}
-use Rattle.witness.specs.Steps.{far, placed, inside, holds_at, nearest, first_look, look_to, wrong_in, more, goes_on, moved_to, owners_at, RightAt, Searched}
-use Rattle.witness.proofs.Still.{at, still-x, still-y, still-z, less-x, less-y, less-z, past-x, past-y, past-z, right-still, seen-past, Counts, seen-counts}
+use Rattle.witness.specs.Steps.{far, placed, inside, holds_at, first_look, look_to, wrong_in, more, goes_on, moved_to, owners_at, RightAt, Searched}
+use Rattle.witness.proofs.Still.{at, still-x, still-y, still-z, less-x, less-y, less-z, past-x, past-y, past-z, right-still, seen-past, seen-counts}
 
 -- ---- far out there is nothing
 

@@ -12,7 +12,6 @@ use Rattle.rules.specs.Cell.{one32}
 use Rattle.rules.specs.Faces.{layer_points}
 use Rattle.rules.specs.Call.{bad_dimensions, bad_box}
 use Rattle.grid.specs.declared.Extent.{Extent}
-use Rattle.skin.specs.declared.Enclosed.{Enclosed}
 use Rattle.skin.specs.Enclosed.{inner}
 use Rattle.skin.specs.Scan.{layer_enclosed, judged_layer, examined_layer}
 

@@ -1,8 +1,7 @@
 -- The answers from what the tests found, one after the other, and what the answer 0 says of each of them. Assumes nothing.
-use Rattle.std.proofs.Common.{◌≡◌, ℕ, ◌+◌, ◌*◌, ◌<◌, ◌≤◌, Bool, true, false, cond, not, ◌||◌, T, eqb, ltb, List, length, sym, refl, ap, ◌∙◌, zero-le, le_trans, le_of_eq, le_refl, add-zero, mul-le-mul_left, mul-one, arith, ltb-false, le-ltb, lt-ltb, eq-eqb, ne_eqb, eqb-true}
+use Rattle.std.proofs.Common.{◌≡◌, ℕ, ◌+◌, ◌*◌, ◌<◌, ◌≤◌, Bool, true, false, cond, not, ◌||◌, T, eqb, ltb, List, length, sym, refl, ap, ◌∙◌, zero-le, le_trans, le_of_eq, add-zero, mul-le-mul_left, mul-one, arith, ltb-false, le-ltb, lt-ltb, eq-eqb, ne_eqb, eqb-true}
 use borrow.Author.Tests.{not-false}
 use lib.Ieee.{Float}
-use Rattle.lists.specs.Lists.{some, run, up_to}
 use Rattle.lists.proofs.Tests.{failed, nor-left, nor-right, nor-both}
 use Rattle.lists.proofs.Either.{or_left, or_right}
 use Rattle.rules.specs.Grid.{GridPoint, Box}
@@ -19,7 +18,7 @@ use Rattle.grid.proofs.Bounds.{few}
 use Rattle.grid.proofs.Faults.{Faultless, first-answers}
 use Rattle.levels.specs.Columns.{columns, in_column, level_of, layer_level, changed}
 use Rattle.levels.specs.Call.{grid_of, bad_room, levels_answer, levels_after, outside, bad_layers, bad_points, bad_distances, layer_answer, layer_after}
-use Rattle.levels.specs.Fits.{Roomy, Laid, column_step, lowest_step, Plane, Taken}
+use Rattle.levels.specs.Fits.{Laid, column_step, lowest_step, Plane, Taken}
 use Rattle.levels.proofs.Changed.{changed-same}
 
 -- the box with no max plane, as the code has it

@@ -2,9 +2,9 @@
 -- zero, one with such a point on top, one with a change of sign, one with two, one with zeros of both signs, and one whose fraction is rounded. All points
 -- outside the box are not-a-number. Whole and after each layer, with each refusal and their order. The wanted numbers were worked out by hand, as
 -- z + a / (a + b) for a distance of -a below one of b. Assumes nothing.
-use Rattle.std.proofs.Common.{◌≡◌, ℕ, ◌^◌, true, false, List, [], ◌∷◌, ◌++◌, length, pos, negsuc, refl}
+use Rattle.std.proofs.Common.{◌≡◌, ℕ, true, false, List, [], ◌∷◌, ◌++◌, length, pos, negsuc, refl}
 use lib.Count.{count_trailing_zeros}
-use lib.Ieee.{Float, nan, inf, fin, add, sub, mul, div, lt, of_int, round, size, units, odd, neg, sum, span, climb}
+use lib.Ieee.{Float, nan, inf, fin, add, sub, div, lt, of_int, round, size, units, odd, neg, sum, span, climb}
 use Rattle.lists.specs.Lists.{run, up_to, some, joined, placed}
 use Rattle.rules.specs.Grid.{GridPoint, Box}
 use Rattle.rules.specs.Cell.{fraction}

@@ -1,6 +1,6 @@
 -- A list whose numbers at some places are changed, each by its place: number by number, place by place, run after run, and twice. All by comparing
 -- number with number. Assumes nothing.
-use Rattle.std.proofs.Common.{◌≡◌, ℕ, ◌+◌, ◌<◌, ◌≤◌, Bool, true, false, cond, T, List, length, get_or, set, sym, refl, ap, ◌∙◌, inl, inr, zero-add, arith, length-set, get_or-set_other, get_or-set_same, ext_get_or}
+use Rattle.std.proofs.Common.{◌≡◌, ℕ, ◌+◌, ◌<◌, ◌≤◌, Bool, cond, List, length, get_or, set, sym, ap, ◌∙◌, inl, inr, zero-add, arith, length-set, get_or-set_other, get_or-set_same, ext_get_or}
 use lib.Ieee.{Float, nan}
 use lib.Ieee.Bits.{is_true}
 use Rattle.lists.specs.Lists.{below}

@@ -1,7 +1,7 @@
 -- A layer more on the columns: the lowest one, and each of a grid's layers on those below it. Assumes nothing.
-use Rattle.std.proofs.Common.{◌≡◌, ℕ, zero, suc, ◌+◌, ◌-◌, ◌*◌, ◌<◌, ◌≤◌, List, length, get_or, sym, refl, ap, ◌∙◌, ap₂, le_trans, le_of_eq, le_refl, mul_comm, mul-le-mul_left, mul-one, mul-add, arith, w32, w64, Fits}
+use Rattle.std.proofs.Common.{◌≡◌, ℕ, zero, suc, ◌+◌, ◌-◌, ◌*◌, ◌≤◌, List, length, get_or, sym, refl, ap, ◌∙◌, ap₂, le_trans, le_of_eq, le_refl, mul-le-mul_left, mul-one, mul-add, arith, w32, w64, Fits}
 use lib.Ieee.{Float, nan}
-use Rattle.rules.specs.Grid.{Box, Field, value}
+use Rattle.rules.specs.Grid.{value}
 use Rattle.rules.proofs.Indexes.{box-fits, small, right-length}
 use Rattle.grid.specs.declared.Block.{Block}
 use Rattle.grid.specs.Block.{point, box_of, field_of}

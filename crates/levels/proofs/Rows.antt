@@ -1,5 +1,5 @@
 -- Where the rows of a box stand in its layers and among its columns, and what a row, and a layer of rows, change. Assumes nothing.
-use Rattle.std.proofs.Common.{◌≡◌, ℕ, zero, suc, ◌+◌, ◌-◌, ◌*◌, ◌/◌, ◌%◌, ◌<◌, ◌≤◌, List, length, get_or, set, sym, refl, ap, ◌∙◌, ap₂, zero-le, le_trans, le_of_eq, add-zero, mul-le-mul_right, mod-eq_of_lt, mul_comm, add-mul, mul-le-mul, mul-le-mul_left, one-mul, zero-mul, mul-one, mul-add, arith, w64, Fits}
+use Rattle.std.proofs.Common.{◌≡◌, ℕ, ◌+◌, ◌-◌, ◌*◌, ◌/◌, ◌%◌, ◌<◌, ◌≤◌, List, length, get_or, set, sym, ap, ◌∙◌, ap₂, zero-le, le_trans, le_of_eq, add-zero, mul-le-mul_right, mod-eq_of_lt, mul_comm, add-mul, mul-le-mul, mul-le-mul_left, one-mul, zero-mul, mul-one, mul-add, arith, w64, Fits}
 use native.Mathlib.Nat.{mul-add-div_right, mul-add-mod_self_right, div-eq_of_lt}
 use lib.Ieee.{Float, nan}
 use Rattle.rules.proofs.Indexes.{box-fits, small}

@@ -1,0 +1,11 @@
+-- At width 32 the layers are the lists themselves. Assumes nothing.
+use Rattle.grid.specs.Values.{grid_of}
+use Rattle.levels.proofs.levels_layer.Goals as goal
+
+pub returns-clause-out_after : goal.returns-clause-out_after
+unfolding grid_of
+returns-clause-out_after c = c.offer.ensures.out_after
+
+pub returns-clause-value : goal.returns-clause-value
+unfolding grid_of
+returns-clause-value c = c.offer.ensures.value

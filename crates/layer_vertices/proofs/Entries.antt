@@ -46,12 +46,15 @@ module _ (d : GridPoint) (has : GridPoint → Bool) where
       entered-length (n + one (has c)) cs (set l (in_layer d c) (cond (has c) n null_vertex)) ∙ length-set l (in_layer d c) (cond (has c) n null_vertex)
 
   -- an entry that is no passed point's
-  pub entered-apart : (n : ℕ) (l : List ℕ) {cs : List GridPoint} (j : ℕ) → All (λ c. j ≡ in_layer d c → ⊥) cs → get_or (entered d has n cs l) j 0 ≡ get_or l j 0
+  apart-from : (j n : ℕ) (l : List ℕ) {cs : List GridPoint} → All (λ c. j ≡ in_layer d c → ⊥) cs → get_or (entered d has n cs l) j 0 ≡ get_or l j 0
   unfolding entered
-  entered-apart n l j none = refl
-  entered-apart n l j (more {x = c} p q) =
-      entered-apart (n + one (has c)) (set l (in_layer d c) (cond (has c) n null_vertex)) j q
+  apart-from j n l none = refl
+  apart-from j n l (more {x = c} p q) =
+      apart-from j (n + one (has c)) (set l (in_layer d c) (cond (has c) n null_vertex)) q
       ∙ get_or-set_other l (in_layer d c) j (cond (has c) n null_vertex) 0 p
+
+  pub entered-apart : (n : ℕ) (l : List ℕ) {cs : List GridPoint} (j : ℕ) → All (λ c. j ≡ in_layer d c → ⊥) cs → get_or (entered d has n cs l) j 0 ≡ get_or l j 0
+  entered-apart n l j a = apart-from j n l a
 
   -- the number of a list's first point, and that of a later one
   first-number : (p : GridPoint) (l : List GridPoint) (n : ℕ) → cond (has p) n null_vertex ≡ cond (has p) (n + place (same_point p) (keep has (p ∷ l))) null_vertex
@@ -88,14 +91,17 @@ module _ (d : GridPoint) (has : GridPoint → Bool) where
       ap (λ (t : Bool). entered d has (n + one t) cs (set l (in_layer d c) (cond t n null_vertex))) p ∙ entered-none (n + 0) (m + 0) (set l (in_layer d c) null_vertex) q
 
   -- points none of which has a vertex, nor an entry: nothing changes
-  pub entered-bare : (n : ℕ) (l : List ℕ) {cs : List GridPoint} → All (λ c. (has c ≡ false) × (get_or l (in_layer d c) 0 ≡ null_vertex)) cs → entered d has n cs l ≡ l
+  bare-of : (l : List ℕ) (n : ℕ) {cs : List GridPoint} → All (λ c. (has c ≡ false) × (get_or l (in_layer d c) 0 ≡ null_vertex)) cs → entered d has n cs l ≡ l
   unfolding entered
-  entered-bare n l none = refl
-  entered-bare n l (more {x = c} {xs = cs} p q) =
+  bare-of l n none = refl
+  bare-of l n (more {x = c} {xs = cs} p q) =
       ap (λ (t : Bool). entered d has (n + one t) cs (set l (in_layer d c) (cond t n null_vertex))) p.0
       ∙ ap (λ (v : ℕ). entered d has (n + 0) cs (set l (in_layer d c) v)) (sym p.1)
       ∙ ap (entered d has (n + 0) cs) (set-get_or l (in_layer d c) 0)
-      ∙ entered-bare (n + 0) l q
+      ∙ bare-of l (n + 0) q
+
+  pub entered-bare : (n : ℕ) (l : List ℕ) {cs : List GridPoint} → All (λ c. (has c ≡ false) × (get_or l (in_layer d c) 0 ≡ null_vertex)) cs → entered d has n cs l ≡ l
+  entered-bare n l a = bare-of l n a
 
 -- two tests that agree on the points
 pub entered-same : (d : GridPoint) {has has' : GridPoint → Bool} (n : ℕ) (l : List ℕ) {cs : List GridPoint} → All (λ c. has c ≡ has' c) cs

@@ -1,30 +1,26 @@
 -- Points in a row: a run of them is cut where one likes, and passing it does not ask what stood at its own places. And stores in a row, as a loop makes
 -- them: a row of cells is classed by one store for each cell, and each stands at its cell's place. Assumes nothing.
 use Prim.Native.Nat.{ℕ, zero, suc, ◌+◌, ◌-◌, ◌≤◌, ◌<◌}
-use native.Mathlib.Numerals.{add-one}
 use native.Mathlib.Omega.{arith}
 use mathlib.Core.Bool.{Bool, ◌&&◌, cond}
 use mathlib.Core.List.{List, [], ◌∷◌, ◌++◌, map, map-append}
-use mathlib.Core.Logic.{◌⊎◌, inl, inr}
 use mathlib.Core.Path.{◌≡◌, refl, sym, ap, ap₂, subst, ◌∙◌}
 use lib.Dec.{leb}
 use lib.Ieee.{Float}
-use lib.ListN.{length, get_or, set, length-map}
-use lib.Seq.{sets, length-sets, get_or-set_same, get_or-set_other, set-set, set_comm}
+use lib.ListN.{length, set}
+use lib.Seq.{sets, set-set, set_comm}
 use Rattle.lists.specs.Lists.{one, up_to}
 use Rattle.rules.specs.Grid.{GridPoint}
 use Rattle.rules.specs.Cell.{negatives}
 use Rattle.rules.specs.Vertices.{null_vertex}
-use Rattle.lists.proofs.Tests.{less-or-not}
 use Rattle.lists.proofs.Lists.{All, all_map, map_same}
-use Rattle.lists.proofs.Runs.{up_to-none, up_to-first, up_to-last, up_to-split, up_to-each}
+use Rattle.lists.proofs.Runs.{up_to-none, up_to-first, up_to-split, up_to-each}
 use Rattle.grid.specs.declared.Block.{Block}
 use Rattle.grid.specs.declared.corners.Side.{Side}
 use Rattle.grid.specs.Block.{box_of}
 use Rattle.grid.specs.Corners.{side_between, eight_of}
 use Rattle.grid.specs.Layers.{in_layer}
 use Rattle.grid.specs.Signs.{side_negatives, surface_at}
-use Rattle.grid.proofs.Order.{length-up_to}
 use Rattle.grid.proofs.Sides.{both-sides}
 use Rattle.row_signs.specs.Signs.{row_length, row_start, row_points}
 use Rattle.row_signs.specs.Codes.{Kept, four_codes, mixed_code}

@@ -22,5 +22,17 @@ pub extern "C" fn bed_answer(
         ≡ answer (asked sdf.now words.now)
         (room_asked positions_len normals_len cells_len strides_len crossings_len stride_to_index_len indices_len) }
 {
-    bed::asking::bed_answer(sdf, words, positions_len, normals_len, cells_len, strides_len, crossings_len, stride_to_index_len, indices_len, vertex_count, index_count)
+    bed::asking::bed_answer(
+        sdf,
+        words,
+        positions_len,
+        normals_len,
+        cells_len,
+        strides_len,
+        crossings_len,
+        stride_to_index_len,
+        indices_len,
+        vertex_count,
+        index_count,
+    )
 }

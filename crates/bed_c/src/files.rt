@@ -57,7 +57,14 @@ pub extern "C" fn bed_read_mesh(
         ).triangles }
     ensures bytes { Bytes file.now }
 {
-    bed::files::bed_read_mesh(file, positions, normals, indices, vertex_count, triangle_count)
+    bed::files::bed_read_mesh(
+        file,
+        positions,
+        normals,
+        indices,
+        vertex_count,
+        triangle_count,
+    )
 }
 
 // The answer and the counts of a whole file, with no list lent: what to lend for `bed_read_mesh`.

@@ -52,5 +52,19 @@ pub extern "C" fn bed_layers_offer(
         ≡ leaves (state_of layers.old) layer.now (memory_before kept_distances kept_map kept_positions)
         (output_before positions normals cells strides crossings indices) }
 {
-    bed::layered::bed_layers_offer(layers, layer, kept_distances, kept_map, kept_positions, positions, normals, cells, strides, crossings, indices, vertex_count, index_count)
+    bed::layered::bed_layers_offer(
+        layers,
+        layer,
+        kept_distances,
+        kept_map,
+        kept_positions,
+        positions,
+        normals,
+        cells,
+        strides,
+        crossings,
+        indices,
+        vertex_count,
+        index_count,
+    )
 }

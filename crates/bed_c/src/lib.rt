@@ -46,5 +46,17 @@ pub extern "C" fn bed_surface_nets(
         (buffers_before positions normals cells strides crossings stride_to_index indices) }
     ensures binary32 { Binary32 sdf.now }
 {
-    bed::bed_surface_nets(sdf, words, positions, normals, cells, strides, crossings, stride_to_index, indices, vertex_count, index_count)
+    bed::bed_surface_nets(
+        sdf,
+        words,
+        positions,
+        normals,
+        cells,
+        strides,
+        crossings,
+        stride_to_index,
+        indices,
+        vertex_count,
+        index_count,
+    )
 }

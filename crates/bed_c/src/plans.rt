@@ -23,7 +23,19 @@ pub extern "C" fn bed_check_plan(
     ensures { Checks (map piece blocks.now) (piece (block min_x min_y min_z max_x max_y max_z max_plane_x max_plane_y max_plane_z)) result
         holds.new }
 {
-    bed::plans::bed_check_plan(blocks, min_x, min_y, min_z, max_x, max_y, max_z, max_plane_x, max_plane_y, max_plane_z, holds)
+    bed::plans::bed_check_plan(
+        blocks,
+        min_x,
+        min_y,
+        min_z,
+        max_x,
+        max_y,
+        max_z,
+        max_plane_x,
+        max_plane_y,
+        max_plane_z,
+        holds,
+    )
 }
 
 // The first edge at which blocks are no plan, and the first two blocks that own it. The answer number: 0 told, 43 they are a plan, or 40, 41 or 42.

@@ -28,7 +28,19 @@ pub extern "C" fn bed_surface_nets_i16(
         (buffers_before positions normals cells strides crossings stride_to_index indices) }
     ensures wholes { Wholes 16 sdf.now }
 {
-    bed::wholes::bed_surface_nets_i16(sdf, words, positions, normals, cells, strides, crossings, stride_to_index, indices, vertex_count, index_count)
+    bed::wholes::bed_surface_nets_i16(
+        sdf,
+        words,
+        positions,
+        normals,
+        cells,
+        strides,
+        crossings,
+        stride_to_index,
+        indices,
+        vertex_count,
+        index_count,
+    )
 }
 
 // Signed 8-bit distances.
@@ -54,7 +66,19 @@ pub extern "C" fn bed_surface_nets_i8(
         (buffers_before positions normals cells strides crossings stride_to_index indices) }
     ensures wholes { Wholes 8 sdf.now }
 {
-    bed::wholes::bed_surface_nets_i8(sdf, words, positions, normals, cells, strides, crossings, stride_to_index, indices, vertex_count, index_count)
+    bed::wholes::bed_surface_nets_i8(
+        sdf,
+        words,
+        positions,
+        normals,
+        cells,
+        strides,
+        crossings,
+        stride_to_index,
+        indices,
+        vertex_count,
+        index_count,
+    )
 }
 
 // The answer alone, of 16-bit numbers.
@@ -76,7 +100,19 @@ pub extern "C" fn bed_answer_i16(
         ≡ answer (asked (as_floats sdf.now) words.now)
         (room_asked positions_len normals_len cells_len strides_len crossings_len stride_to_index_len indices_len) }
 {
-    bed::wholes::bed_answer_i16(sdf, words, positions_len, normals_len, cells_len, strides_len, crossings_len, stride_to_index_len, indices_len, vertex_count, index_count)
+    bed::wholes::bed_answer_i16(
+        sdf,
+        words,
+        positions_len,
+        normals_len,
+        cells_len,
+        strides_len,
+        crossings_len,
+        stride_to_index_len,
+        indices_len,
+        vertex_count,
+        index_count,
+    )
 }
 
 // The answer alone, of 8-bit numbers.
@@ -98,5 +134,17 @@ pub extern "C" fn bed_answer_i8(
         ≡ answer (asked (as_floats sdf.now) words.now)
         (room_asked positions_len normals_len cells_len strides_len crossings_len stride_to_index_len indices_len) }
 {
-    bed::wholes::bed_answer_i8(sdf, words, positions_len, normals_len, cells_len, strides_len, crossings_len, stride_to_index_len, indices_len, vertex_count, index_count)
+    bed::wholes::bed_answer_i8(
+        sdf,
+        words,
+        positions_len,
+        normals_len,
+        cells_len,
+        strides_len,
+        crossings_len,
+        stride_to_index_len,
+        indices_len,
+        vertex_count,
+        index_count,
+    )
 }

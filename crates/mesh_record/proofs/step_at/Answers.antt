@@ -6,9 +6,6 @@ use Rattle.mesh_record.proofs.Told.{no-fault, known-kind}
 use Rattle.std.proofs.Common.{◌+◌, ◌<◌, ◌≤◌, length, sym, ◌∙◌, arith, rules}
 use Rattle.mesh_record.proofs.step_at.Goals as goal
 
--- `mesh_record::step_at` meets its contract. The tests say that the record is whole, and the calls' contracts are the definition's parts
--- (`found-whole`); a record without a fault is of a known kind.
--- Assumes nothing.
 pub returns-then-src-at : goal.returns-then-src-at
 returns-then-src-at c =
     let a = c.args in

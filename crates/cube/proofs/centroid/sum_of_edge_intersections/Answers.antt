@@ -28,7 +28,7 @@ loop-e-preserved c =
       omega arith,
       elim c.match-estimate_surface_edge_intersection.branch [ in-No w ↦ omega arith | in-At w ↦ omega arith ],
       elim c.match-estimate_surface_edge_intersection.branch [
-          in-No w ↦
+        | in-No w ↦
             sum-turn (crosses d) (cube_edge 0 0) (crossing_point d) zero_vector cube_edges e false h inv.2 (not-crossed d (edge_at e) found from to told w.in-No.is)
             (ap vector w.sum-is)
         | in-At w ↦
@@ -37,7 +37,7 @@ loop-e-preserved c =
             (ap vector w.sum-is ∙ (w.add-sum.ensures ∙ ap (plus (vector c.loop-e.sum)) (w.point_between.ensures ∙ at.1)))
       ],
       elim c.match-estimate_surface_edge_intersection.branch [
-          in-No w ↦
+        | in-No w ↦
             many-turn (crosses d) (cube_edge 0 0) cube_edges e false h inv.3 (not-crossed d (edge_at e) found from to told w.in-No.is) (w.count-is ∙ sym (add-zero _))
         | in-At w ↦
             many-turn (crosses d) (cube_edge 0 0) cube_edges e true h inv.3 (crossed d (edge_at e) found from to told w.in-At.f w.in-At.is).0 w.count-is

@@ -9,8 +9,6 @@ use Rattle.cube.proofs.Taking.{many-turn, sum-turn}
 use Rattle.cube.proofs.Answer.{not-crossed, crossed}
 use Rattle.cube.proofs.centroid.sum_of_edge_intersections.Given as goal
 
--- `cube::centroid::sum_of_edge_intersections` meets its contract. The invariant: the sum and the count are those of the edges passed.
--- Assumes nothing.
 -- the sum and the number of the crossings on the first e edges
 abbrev pub sum_to : List Float → ℕ → Vector
 sum_to d e = summed zero_vector (map (crossing_point d) (keep (crosses d) (take e cube_edges)))

@@ -22,7 +22,7 @@ loop-i-preserved c =
       omega arith,
       elim c.if-negative.branch [ then-negative w ↦ omega arith | else-negative w ↦ omega arith ],
       elim c.if-negative.branch [
-          then-negative w ↦ many-turn negative nan d i true h inv.2 (sym sign ∙ w.if-negative.true) w.count-is
+        | then-negative w ↦ many-turn negative nan d i true h inv.2 (sym sign ∙ w.if-negative.true) w.count-is
         | else-negative w ↦ many-turn negative nan d i false h inv.2 (sym sign ∙ w.if-negative.false) (w.count-is ∙ sym (add-zero _))
       ],
     )

@@ -7,8 +7,6 @@ use Rattle.rules.specs.Cell.{negative}
 use Rattle.cube.proofs.Taking.{many-turn}
 use Rattle.cube.proofs.classing.negative_corners.Given as goal
 
--- `cube::classing::negative_corners` meets its contract. The invariant: the count is that of the corners passed, and at most as many.
--- Assumes nothing.
 abbrev pub invariant-loop-i : goal.invariant-loop-i
 invariant-loop-i l = (l.i ≤ 8) × (l.count ≤ l.i) × (l.count ≡ many negative (take l.i l.d))
 

@@ -7,8 +7,6 @@ use Rattle.rules.specs.Cell.{fraction}
 use Rattle.cube.specs.AsRules.{pick_fraction}
 use Rattle.cube.proofs.crossing.estimate_surface_edge_intersection.Goals as goal
 
--- `cube::crossing::estimate_surface_edge_intersection` meets its contract: the test tells whether the signs of the two ends are alike.
--- Assumes nothing.
 -- the answer, by the two signs as the calls answered them
 told : {a b m n t : Bool} (f : Float) → a ≡ m → b ≡ n → beq a b ≡ t → pick_fraction (not t) f ≡ pick_fraction (not (beq m n)) f
 told f p q r = ap (λ (s : Bool). pick_fraction (not s) f) (sym r ∙ ap₂ beq p q)

@@ -5,8 +5,6 @@ use lib.Ieee.{Float, of_bits}
 use Rattle.rules.specs.Cell.{Vector, one_vector, minus, blend, step, normal}
 use Rattle.cube.proofs.gradient.sdf_gradient.Goals as goal
 
--- `cube::gradient::sdf_gradient` meets its contract: each component is the blend that `blended` answers, with n as `sub` gives it.
--- Assumes nothing.
 -- the normal's three components, by n
 abbrev blend_x : List Float → Vector → Vector → Float
 blend_x d s n = blend n.y s.y n.z s.z (step d 1 0) (step d 5 4) (step d 3 2) (step d 7 6)

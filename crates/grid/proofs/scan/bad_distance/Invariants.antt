@@ -11,7 +11,6 @@ use Rattle.grid.proofs.Runs.{box-is}
 use Rattle.grid.proofs.Walks.{Turn, turn, through, end_fits, Scanned, scan-begun, scan-more, scan-ended, point-spans}
 use Rattle.grid.proofs.scan.bad_distance.Given as goal
 
--- The invariant: the flag says whether a layer before z has a distance beyond the cap. Assumes nothing.
 abbrev pub invariant-loop-z : goal.invariant-loop-z
 invariant-loop-z l = Scanned (bad_layer (field_of (grid_of l.width l.sdf l.sdf16 l.sdf8) l.k) (box_of l.k)) l.from l.end l.z l.bad
 

@@ -14,7 +14,6 @@ use Rattle.grid.proofs.Walks.{Turn, turn, through, end_fits, count_fits, Scanned
 use Rattle.grid.proofs.Widths.{NoneBeyond, within-16, within-8, never-bad}
 use Rattle.grid.proofs.scan.bad_layer.Given as goal
 
--- Whole numbers are within the cap. Of floats the invariant: the flag says whether a row before y has a distance beyond the cap. Assumes nothing.
 abbrev pub invariant-loop-y : goal.invariant-loop-y
 invariant-loop-y l = Scanned (bad_row (grid_of l.width l.sdf l.sdf16 l.sdf8) l.k l.z) l.from l.end l.y l.bad
 

@@ -13,7 +13,6 @@ use Rattle.grid.proofs.Places.{grid-counted}
 use Rattle.grid.proofs.Runs.{run_none, run_more}
 use Rattle.grid.proofs.scan.bad_row.Given as goal
 
--- The invariant: the flag says whether one of the first j distances is beyond the cap. Assumes nothing.
 abbrev pub invariant-loop-j : goal.invariant-loop-j
 invariant-loop-j l = (l.j ≤ l.n) × (l.bad ≡ bad_run (grid_of l.width l.sdf l.sdf16 l.sdf8) l.at l.j)
 

@@ -4,7 +4,6 @@ use lib.ListN.{length}
 use Rattle.grid.proofs.Widths.{length-16, length-8, grid-else}
 use Rattle.grid.proofs.values.length_of.Goals as goal
 
--- By the list that the width means. Assumes nothing.
 pub returns-then-width-eq16 : goal.returns-then-width-eq16
 returns-then-width-eq16 c = let a = c.args in sym (length-16 a.f.now a.s.now a.b.now c.if-width-eq16.true)
 

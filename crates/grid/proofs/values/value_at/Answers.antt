@@ -12,7 +12,6 @@ use Rattle.grid.proofs.Widths.{grid-16, grid-8, grid-else, length-16, length-8, 
 use Rattle.grid.proofs.values.value_at.Goals as goal
 use Rattle.grid.proofs.values.value_at.Goals.{Else-width-eq8, Then-width-eq16, Then-width-eq8}
 
--- By the list that the width means: the place is in it, and the cast of a number that was read is its float. Assumes nothing.
 -- the place is one of the list that is read
 in-16 : (c : Then-width-eq16) → c.args.i < length c.args.s.now
 in-16 c = let a = c.args in le_trans c.requires (le_of_eq (length-16 a.f.now a.s.now a.b.now c.if-width-eq16.true))

@@ -7,11 +7,11 @@ use mathlib.Core.Bool.{true, ◌&&◌}
 use mathlib.Core.List.{List, ◌++◌}
 use borrow.Author.Tests.{eqb-true}
 use lib.Dec.{T, eqb}
-use lib.ListN.{length, get_or}
+use lib.ListN.{get_or}
 use lib.Ieee.{Float, nan, binary32, of_bits, to_bits}
 use lib.Ieee.Bits.{to_bits-of_bits}
 use Rattle.mesh_file.specs.Record.{word_at, each}
-use Rattle.mesh_file.specs.Mesh.{mesh, vertex_count, triangle_count, bits_at, vertex_record, triangle_record, closing_record, file_of}
+use Rattle.mesh_file.specs.Mesh.{vertex_count, triangle_count, bits_at, vertex_record, triangle_record, closing_record, file_of}
 use Rattle.mesh_file.specs.Reading.{Bytes, finite_bits, all_zero, seen, whole, read_of, floats_at, numbers_at, floats_of, indices_of, mesh_in, FiniteFloats}
 use Rattle.mesh_record.proofs.OneWord.{finite-is-number}
 use Rattle.mesh_record.proofs.Laying.{each-length}

@@ -6,7 +6,6 @@ use mathlib.Core.Path.{◌≡◌, refl, sym, ap, ◌∙◌}
 use mathlib.Core.Bool.{true, false}
 use mathlib.Core.List.{List, ◌++◌}
 use borrow.Author.Tests.{leb-false, lt-ltb}
-use lib.Dec.{T}
 use lib.ListN.{length, get_or, length-append}
 use lib.Seq.{take_all}
 use lib.Ieee.{Float, nan, binary32, of_bits}

@@ -5,8 +5,6 @@ use Rattle.marks.specs.Marks.{next_float}
 use Rattle.marks.proofs.Filling.{Filled}
 use Rattle.marks.proofs.mark_floats.Given as goal
 
--- `marks::mark_floats` meets its contract: its loop fills the list (Filling), and the literal is the definition's 1.0. The measure is what is left of
--- the list. Assumes nothing.
 abbrev pub invariant-loop-j : goal.invariant-loop-j
 invariant-loop-j l = Filled next_float l.first l.initial.list l.next l.j l.list
 

@@ -4,7 +4,6 @@ use Rattle.marks.specs.Marks.{next_word}
 use Rattle.marks.proofs.Kept.{Passed}
 use Rattle.marks.proofs.words_kept.Given as goal
 
--- `marks::words_kept` meets its contract: its loop passes the places that are kept (Kept). The measure is what is left of the list. Assumes nothing.
 abbrev pub invariant-loop-j : goal.invariant-loop-j
 invariant-loop-j l = Passed (λ j'. eqb) (λ k. ltb k l.from) next_word l.first l.list l.mark l.j
 

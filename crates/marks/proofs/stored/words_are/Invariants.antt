@@ -4,8 +4,6 @@ use Rattle.std.proofs.Common.{◌≡◌, ◌-◌, ◌≤◌, true}
 use Rattle.marks.specs.Stored.{each_below, place_is}
 use Rattle.marks.proofs.stored.words_are.Given as goal
 
--- `marks::stored::words_are` meets its contract: its loop passes the places that hold their stored number (Begins). The measure is what is left of the
--- n places. Assumes nothing.
 abbrev pub invariant-loop-j : goal.invariant-loop-j
 invariant-loop-j l = (l.j ≤ l.n) × (each_below (place_is (λ w. w) 0 l.list l.stored) l.j ≡ true)
 

@@ -1,11 +1,10 @@
 //! Links the proved library. Its folder is given by BED_LIB_DIR; without it, the folder is the one that
-//! `scripts/linked-library` writes to at the top of this repository, for the processor at hand, or on x86-64 the one that
-//! `rt staticlib bed` writes to.
+//! `scripts/linked-library` writes to at the top of this repository.
 //!
 //! Where no library is there that is said as a warning and nothing else is done here: `cargo doc` and `cargo check` link
 //! nothing and work without one, and the linker then says that it is missing.
 
-use std::path::{Path, PathBuf};
+use std::path::PathBuf;
 use std::{env, fs};
 
 fn main() {
@@ -30,17 +29,7 @@ fn folder() -> PathBuf {
     let given = env::var_os("BED_LIB_DIR").map(PathBuf::from);
     let folder = given.unwrap_or_else(|| {
         let here = env::var_os("CARGO_MANIFEST_DIR").expect("cargo sets CARGO_MANIFEST_DIR");
-        written(&PathBuf::from(here).join("../target"))
+        PathBuf::from(here).join("../target/linked")
     });
     fs::canonicalize(&folder).unwrap_or(folder)
-}
-
-/// The folder at the top of the repository that holds the library for the processor that is compiled for.
-fn written(target: &Path) -> PathBuf {
-    let linked = target.join("linked");
-    let x86_64 = env::var("CARGO_CFG_TARGET_ARCH").is_ok_and(|arch| arch == "x86_64");
-    if x86_64 && !linked.join("libbed.a").is_file() {
-        return target.join("staticlib");
-    }
-    linked
 }

@@ -27,26 +27,21 @@ def put(path, text, mode=0o644):
 
 with tempfile.TemporaryDirectory() as folder:
     repository, kit, proofs = f"{folder}/repository", f"{folder}/kit", f"{folder}/proofs"
-    clang = f"on/{platform.machine()}/toolchain/bin/clang"
     for script in ("native-lib", "linked-library"):
         os.makedirs(f"{repository}/scripts", exist_ok=True)
         shutil.copy(f"{TOP}/scripts/{script}", f"{repository}/scripts/{script}")
-    put(f"{repository}/crates.txt", "# crates\nlow:\nhigh: low\nbed: high\nother: low\n")
-    for crate in ("low", "high", "bed", "other"):
+    put(f"{repository}/crates.txt", "# crates\nlow:\nhigh: low\nbed: high\nbed_c staticlib: bed high\nother: low\n")
+    for crate in ("low", "high", "bed", "bed_c", "other"):
         put(f"{repository}/crates/{crate}/src/lib.rt", f"fn {crate}() {{}}\n")
-    put(f"{kit}/docs/START", "")
     put(f"{kit}/version", "one")
-    put(f"{kit}/{clang}", '#!/bin/sh\nfor word in "$@"; do last=$word; done\necho object >"$last"\n', 0o755)
     put(f"{folder}/bin/rt", f"""#!/bin/sh
 case $1 in
 version) cat {kit}/version ;;
-doc) echo {kit}/docs/START ;;
-staticlib) echo proof >>{proofs}
-    mkdir -p target/staticlib; echo archive >target/staticlib/lib$2.a
-    echo bitcode >target/some.bc; "${{RATTLE_HOME:-{kit}}}/{clang}" target/some.bc target/some.o ;;
+lib) echo proof >>{proofs}
+    mkdir -p out/incremental; date +%N >out/incremental/module; echo archive >out/lib$(basename "$PWD").a ;;
 esac
 """, 0o755)
-    usual = {name: value for name, value in os.environ.items() if name not in ("BED_LIB", "BITCODE")}
+    usual = {name: value for name, value in os.environ.items() if name != "BED_LIB"}
 
     def linked(path=f"{folder}/bin:", **more):
         return subprocess.run([f"{repository}/scripts/linked-library"], capture_output=True, text=True,
@@ -60,6 +55,11 @@ esac
         expect(f"{what}: {proved()} proofs, {done.stderr}", (done.returncode, proved()) == (0, wanted))
         expect(f"{what}: the folder", done.stdout == f"{repository}/target/linked\n" and os.path.getsize(f"{repository}/target/linked/libbed.a"))
 
+    if platform.machine() != "x86_64":
+        done = linked()
+        expect(f"on another machine one line: {done.stderr}", done.returncode == 1 and done.stderr.count("\n") == 1 and "x86-64 alone" in done.stderr)
+        print("FAILED" if failures else "library: not made here, and it is said")
+        sys.exit(1 if failures else 0)
     turn("the first time", 1)
     turn("nothing changed", 1)
     put(f"{repository}/crates/other/src/lib.rt", "fn another() {}\n")
@@ -67,8 +67,10 @@ esac
     put(f"{repository}/crates/low/src/lib.rt", "fn another() {}\n")
     turn("a crate that it stands on", 2)
     turn("nothing changed again", 2)
-    put(f"{repository}/crates/high/proofs/new/Proof.antt", "")
+    put(f"{repository}/crates/high/proofs/new/Answers.antt", "")
     turn("a new file", 3)
+    put(f"{repository}/crates/low/out/incremental/module", "another")
+    turn("what rt keeps", 3)
     put(f"{kit}/version", "two")
     turn("another kit", 4)
     put(f"{repository}/target/linked/libbed.a", "spoiled")

@@ -1,6 +1,6 @@
 -- A border on one axis, one before and two behind, around blocks of s numbers; and the border on three axes is the closed grid. Assumes nothing.
-use Prim.Native.Nat.{ℕ, ◌+◌, ◌-◌, ◌*◌, ◌/◌, ◌%◌, ◌≤◌, ◌<◌}
-use native.Mathlib.Nat.{mul-add, mul_comm, mul_assoc, add-div_left, add-mod_left, mul-pos, mod-add-div, mul-add-div, mul-add-mod_self_left, mod-eq_of_lt, div-eq_of_lt, div-lt_iff_lt-mul, mod-lt, div-add-mod, add-zero}
+use Prim.Native.Nat.{ℕ, ◌+◌, ◌-◌, ◌*◌, ◌/◌, ◌%◌, ◌<◌}
+use native.Mathlib.Nat.{mul-add, mul_comm, mul_assoc, add-div_left, add-mod_left, mul-pos, mod-add-div, mul-add-div, mul-add-mod_self_left, mod-eq_of_lt, div-eq_of_lt, div-lt_iff_lt-mul, mod-lt, div-add-mod}
 use native.Mathlib.Omega.{arith}
 use mathlib.Core.Bool.{Bool, true, false, ◌&&◌, cond}
 use mathlib.Core.List.{List}

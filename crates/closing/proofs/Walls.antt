@@ -8,7 +8,7 @@ use mathlib.Core.List.{List, [], ◌∷◌, ◌++◌}
 use mathlib.Core.Logic.{◌⊎◌, inl, inr}
 use mathlib.Core.Path.{◌≡◌, refl, sym, ap, ap₂, ◌∙◌}
 use borrow.Author.Tests.{lt-ltb, eqb-true}
-use lib.Dec.{T, eqb, lit<}
+use lib.Dec.{eqb, lit<}
 use lib.IntN.{ℤ, pos, negsuc}
 use lib.Count.{count_trailing_zeros}
 use lib.Ieee.{Float, nan, inf, fin, add, sum, round, size, span, climb, units, odd, minus, lt, eq, le, up, down}
@@ -19,7 +19,7 @@ use Rattle.lists.specs.Lists.{up_to, place}
 use Rattle.lists.proofs.Tests.{less-or-not}
 use Rattle.lists.proofs.Runs.{up_to-none, up_to-first}
 use Rattle.rules.specs.Cell.{zero32, one32, ◌⊕◌}
-use Rattle.rules.specs.Call.{cap, beyond}
+use Rattle.rules.specs.Call.{beyond}
 use Rattle.grid.proofs.Beyond.{cap32, below-cap32, beyond-cap}
 use Rattle.closing.specs.Wall.{deeper, deepest, depth, wall_at, far_enough, wall_for}
 

@@ -49,9 +49,6 @@ pub value_at-requires : goal.value_at-requires
 value_at-requires c =
     rw c.linearize-at.ensures (below_length (grid-of (goal.at.value_at-requires c).Start) c.args.f c.requires.inside (spot (goal.at.value_at-requires c).In-loop-x) (within (goal.at.value_at-requires c).In-loop-x))
 
-pub loop-x-smaller : goal.loop-x-smaller
-loop-x-smaller c = (here (goal.at.loop-x-smaller c).In-loop-x).less
-
 pub loop-x-preserved : goal.loop-x-preserved
 loop-x-preserved c =
     scan-more c.loop-x.invariant (here (goal.at.loop-x-preserved c).In-loop-x) (rw (← c.linearize-at.ensures, ← c.value_at.ensures) c.is_stray.ensures) c.either-stray.ensures

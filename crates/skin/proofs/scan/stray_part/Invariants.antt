@@ -1,5 +1,5 @@
 -- The invariant: the flag says whether a point of the part before x is stray. Assumes nothing.
-use Prim.Native.Nat.{ℕ, ◌-◌}
+use Prim.Native.Nat.{ℕ}
 use Rattle.grid.specs.Block.{box_of, field_of}
 use Rattle.grid.specs.Values.{grid_of}
 use Rattle.grid.proofs.Walks.{Scanned}
@@ -10,6 +10,3 @@ abbrev pub invariant-loop-x : goal.invariant-loop-x
 invariant-loop-x l = Scanned
     (λ (x' : ℕ). stray_at (field_of (grid_of l.width l.sdf l.sdf16 l.sdf8) l.f) (box_of l.k) (record { x = x'; y = l.y; z = l.place }) (record { x = x'; y = l.y; z = l.z }))
     l.from l.end l.x l.stray
-
-abbrev pub decreases-loop-x : goal.decreases-loop-x
-decreases-loop-x l = l.end - l.x

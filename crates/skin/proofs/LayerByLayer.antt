@@ -133,7 +133,7 @@ twice : (t : Bool) → not (not t) ≡ t
 twice true = refl
 twice false = refl
 
--- the X-as-Y distances of the layer z of a grid
+-- the X·Y distances of the layer z of a grid
 abbrev pub layer_of : List Float → Extent → ℕ → List Float
 layer_of sdf dims z = take (dims.x * dims.y) (drop (dims.x * dims.y * z) sdf)
 

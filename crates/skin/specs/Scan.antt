@@ -50,7 +50,7 @@ box_from low high = record { low = point low; high = point high }
 abbrev pub examined : List Float → Extent → Extent → Extent → Enclosed
 examined sdf dims low high = judged (grid_of sdf dims) (box_from low high) (length sdf)
 
--- ---- one layer of X-as-Y distances, the layer z of the box: 1, 2, then 77 for a z below min z or above max z, then 3 for a layer whose length is not X-as-Y
+-- ---- one layer of X·Y distances, the layer z of the box: 1, 2, then 77 for a z below min z or above max z, then 3 for a layer whose length is not X·Y
 
 -- no point of the layer is stray
 unfoldable pub layer_enclosed : Field → Box → ℕ → Bool

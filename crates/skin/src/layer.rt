@@ -79,7 +79,7 @@ fn examine_layer(
     }
 }
 
-// Answer 0 with the test's outcome for the layer z, or a refusal: 1, 2, 77 for a z outside the box, 3 for a layer whose length is not X.Y.
+// Answer 0 with the test's outcome for the layer z, or a refusal: 1, 2, 77 for a z outside the box, 3 for a layer whose length is not X·Y.
 pub fn is_enclosed_layer(layer: &[f32], dims: Extent, low: Extent, high: Extent, z: u32) -> Enclosed
     ensures { result ≡ examined_layer layer.now dims low high z }
 {

@@ -1,18 +1,16 @@
 -- The box's last layer in the whole map: the part that is lent for it holds the box's points, and with that part put back the map is what the rules
 -- say of those points. Assumes nothing.
-use Prim.Native.Nat.{ℕ, ◌+◌, ◌-◌, ◌*◌, ◌≤◌, ◌<◌}
+use Prim.Native.Nat.{ℕ, ◌+◌, ◌-◌, ◌*◌, ◌≤◌}
 use native.Mathlib.Omega.{arith}
 use mathlib.Core.List.{List, ◌++◌}
 use mathlib.Core.Path.{◌≡◌, ap, ◌∙◌}
 use lib.Ieee.{Float, nan}
 use lib.ListN.{length, take, drop, replicate}
 use Rattle.lists.specs.Lists.{placed}
-use Rattle.rules.specs.Grid.{GridPoint}
 use Rattle.rules.proofs.Indexes.{BoxFits, box-fits, right-length}
 use Rattle.grid.specs.declared.Block.{Block}
 use Rattle.grid.specs.Block.{point, box_of}
 use Rattle.grid.specs.Inside.{Inside}
-use Rattle.grid.specs.Layers.{in_layer}
 use Rattle.grid.proofs.Bounds.{few}
 use Rattle.grid.proofs.Layers.{in-plane, in-some-grid}
 use Rattle.layer_vertices.specs.Marked.{last_entry, InPart}

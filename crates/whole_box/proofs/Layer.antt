@@ -1,32 +1,32 @@
 -- One layer of the whole box, put together from what its two halves say of the lists; what they ask of them; and the numbers that the code works out.
 -- Assumes nothing.
-use Prim.Native.Nat.{ℕ, suc, ◌+◌, ◌-◌, ◌*◌, ◌≤◌, ◌<◌, ◌^◌}
+use Prim.Native.Nat.{ℕ, ◌+◌, ◌-◌, ◌*◌, ◌≤◌, ◌<◌, ◌^◌}
 use native.Mathlib.Nat.{mul-one, mul-le-mul_left}
 use native.Mathlib.Omega.{arith}
 use mathlib.Core.List.{List, []}
 use mathlib.Core.Logic.{◌⊎◌, inl, inr}
-use mathlib.Core.Path.{◌≡◌, refl, sym, ap, ap₂, subst, ◌∙◌}
+use mathlib.Core.Path.{◌≡◌, sym, ap, ap₂, subst, ◌∙◌}
 use mir.Syntax.{w64}
 use mir.Val.{Fits}
 use lib.Ieee.{Float}
 use lib.ListN.{length, length-append}
 use lib.Seq.{sets}
 use Rattle.lists.specs.Lists.{up_to, joined}
-use Rattle.rules.specs.Grid.{GridPoint, Box, Field}
-use Rattle.rules.specs.Vertices.{vertices, layer_vertices, first_vertex}
+use Rattle.rules.specs.Grid.{Box, Field}
+use Rattle.rules.specs.Vertices.{layer_vertices, first_vertex}
 use Rattle.rules.specs.Faces.{Flags, layer_indices}
 use Rattle.rules.specs.Call.{Call, Buffers}
 use Rattle.lists.proofs.Tests.{less-or-not}
 use Rattle.lists.proofs.Runs.{up_to-none}
 use Rattle.grid.specs.declared.Block.{Block}
-use Rattle.grid.specs.Block.{point, box_of, flags_of, field_of, call_of}
+use Rattle.grid.specs.Block.{box_of, flags_of, field_of, call_of}
 use Rattle.grid.specs.Inside.{Inside}
 use Rattle.grid.proofs.Bounds.{fits}
 use Rattle.layer_vertices.specs.Marked.{Lists}
 use Rattle.whole_box.specs.declared.Made.{Made}
 use Rattle.whole_box.specs.LentLists.{lists_of, with_indices}
-use Rattle.whole_box.specs.Layers.{indices_to, layer_marked, made_to, Written, layer_written, layer_made, Stands}
-use Rattle.whole_box.proofs.Steps.{indices-more, indices-within, vertices-within, first-is, first_more, written-more, SameLengths, written-lengths}
+use Rattle.whole_box.specs.Layers.{indices_to, layer_marked, Written, layer_written, layer_made, Stands}
+use Rattle.whole_box.proofs.Steps.{indices-more, indices-within, vertices-within, first-is, first_more, written-more, written-lengths}
 use Rattle.whole_box.proofs.Looks.{stands}
 use Rattle.whole_box.proofs.Lent.{plane-up, vertices-few, marked-long, map-long}
 

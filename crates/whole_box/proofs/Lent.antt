@@ -4,13 +4,12 @@
 use Prim.Native.Nat.{ℕ, ◌+◌, ◌-◌, ◌*◌, ◌≤◌, ◌<◌}
 use native.Mathlib.Nat.{le_trans, le-add_right, mul-one, mul-le-mul_left}
 use native.Mathlib.Omega.{arith}
-use mathlib.Core.List.{List, ◌++◌, map}
-use mathlib.Core.Path.{◌≡◌, refl, sym, ap, ◌∙◌}
+use mathlib.Core.List.{List, ◌++◌}
+use mathlib.Core.Path.{◌≡◌, ap, ◌∙◌}
 use lib.Dec.{T}
 use lib.Ieee.{Float}
 use lib.IntN.{ℤ}
 use lib.ListN.{length, take, drop}
-use lib.Seq.{sets}
 use Rattle.rules.specs.Grid.{GridPoint, Box, Field, in_box, value}
 use Rattle.rules.specs.Vertices.{cells, surface_cell, vertices, layer_vertices, first_vertex}
 use Rattle.rules.specs.Call.{Buffers}

@@ -5,7 +5,7 @@ use native.Mathlib.Nat.{mul-one, mul-add}
 use native.Mathlib.Omega.{arith}
 use mathlib.Core.Bool.{Bool, cond}
 use mathlib.Core.List.{List, ◌++◌, map, append_assoc}
-use mathlib.Core.Path.{◌≡◌, refl, sym, ap, ap₂, subst, ◌∙◌}
+use mathlib.Core.Path.{◌≡◌, refl, sym, ap, subst, ◌∙◌}
 use lib.Dec.{T}
 use lib.Ieee.{Float}
 use lib.Ieee.Bits.{is_true}
@@ -13,10 +13,9 @@ use lib.ListN.{length, get_or, take, drop, length-append, length-drop}
 use lib.Seq.{get_or-take, get_or-drop, length-take-le, take_all, sets}
 use Rattle.lists.specs.Lists.{over}
 use Rattle.rules.specs.Grid.{GridPoint, Box, Field, index, in_box, is_cell, value}
-use Rattle.rules.specs.Cell.{Vector}
 use Rattle.rules.specs.Vertices.{surface_cell, layer_vertices, first_vertex, vertex_number, vertex_position, null_vertex, cell_entry}
 use Rattle.rules.specs.Faces.{Flags, layer_edges, layer_indices}
-use Rattle.rules.specs.Call.{Call, Buffers, flat_vectors, flat_points}
+use Rattle.rules.specs.Call.{Buffers, flat_vectors, flat_points}
 use Rattle.rules.proofs.Edges.{layer-index-count}
 use Rattle.rules.proofs.Numbers.{first_vertex-next}
 use Rattle.rules.proofs.Indexes.{cell-within, cell-in-box}

@@ -1,36 +1,22 @@
 -- The map of the whole box, layer by layer: the layer's part is put back as the layer's entries of the whole, the layers up to z and the layer z
 -- are the layers up to z + 1, and at the end each entry is the one that document 01 says. Assumes nothing.
-use Prim.Native.Nat.{ℕ, suc, ◌+◌, ◌-◌, ◌*◌, ◌/◌, ◌%◌, ◌≤◌, ◌<◌}
-use native.Mathlib.Nat.{
-  zero-add,
-  mul-one,
-  mul-add,
-  mul_assoc,
-  mul_comm,
-  mul-le-mul_left,
-  div-eq_of_lt,
-  mod-eq_of_lt,
-  add-mul-div_left,
-  add-mul-mod_self_left,
-  div-div-eq-div-mul,
-  mod-add-div,
-  mod-lt,
-}
+use Prim.Native.Nat.{ℕ, ◌+◌, ◌-◌, ◌*◌, ◌/◌, ◌%◌, ◌≤◌, ◌<◌}
+use native.Mathlib.Nat.{zero-add, mul_assoc, mul-le-mul_left, div-eq_of_lt, mod-eq_of_lt, add-mul-div_left, add-mul-mod_self_left, mod-add-div, mod-lt}
 use native.Mathlib.Omega.{arith}
-use mathlib.Core.Bool.{Bool, true, false, cond}
+use mathlib.Core.Bool.{Bool, cond}
 use mathlib.Core.List.{List, ◌++◌}
 use mathlib.Core.Logic.{◌⊎◌, inl, inr}
-use mathlib.Core.Path.{◌≡◌, refl, sym, ap, ap₂, ◌∙◌}
+use mathlib.Core.Path.{◌≡◌, sym, ap, ap₂, ◌∙◌}
 use borrow.Author.Tests.{lt-ltb, le-ltb, eq-eqb, ne_eqb}
 use lib.Dec.{T, eqb, ltb}
 use lib.Ieee.Bits.{is_true}
-use lib.ListN.{length, get_or, take, drop, length-take, length-drop, take-append-drop}
+use lib.ListN.{length, get_or, take, drop, length-drop, take-append-drop}
 use lib.Seq.{length-take-le}
 use Rattle.lists.specs.Lists.{placed}
 use Rattle.rules.specs.Grid.{GridPoint, Box, Field, index, point_at, is_cell, in_box}
 use Rattle.rules.specs.Vertices.{surface_cell, vertex_number, first_vertex, null_vertex, cell_entry, edge_entry, map_entry}
 use Rattle.lists.proofs.Tests.{is_false, less-or-not}
-use Rattle.lists.proofs.Lists.{get_d-placed, length-placed}
+use Rattle.lists.proofs.Lists.{get_d-placed}
 use Rattle.rules.proofs.Indexes.{BoxFits, same_point_lem, cell-within, cell-in-box, within, point-back}
 use Rattle.layer_vertices.specs.Marked.{layer_point, layer_entry}
 use Rattle.layer_vertices.proofs.Points.{last-is}

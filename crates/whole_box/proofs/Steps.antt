@@ -1,40 +1,31 @@
 -- Layer after layer: the lists grow by the layer's vertices, entries and indices, begin as they were lent and end as document 01 says; and on the
 -- way there is room, and what the faces of a layer look up stands. Assumes nothing.
-use Prim.Native.Nat.{ℕ, suc, ◌+◌, ◌-◌, ◌*◌, ◌≤◌, ◌<◌}
+use Prim.Native.Nat.{ℕ, ◌+◌, ◌-◌, ◌*◌, ◌≤◌, ◌<◌}
 use native.Mathlib.Nat.{le_refl}
 use native.Mathlib.Numerals.{add-one}
 use native.Mathlib.Omega.{arith}
-use mathlib.Core.List.{List, [], ◌∷◌, ◌++◌, map, map-append, append_assoc}
-use mathlib.Core.Path.{◌≡◌, refl, sym, ap, ap₂, subst, ◌∙◌}
-use lib.Dec.{T}
+use mathlib.Core.List.{List, [], ◌++◌, map, map-append, append_assoc}
+use mathlib.Core.Path.{◌≡◌, refl, sym, ap, ap₂, ◌∙◌}
 use lib.Ieee.{Float}
-use lib.ListN.{length, get_or, take, drop, length-append, length-map}
+use lib.ListN.{length, take, drop, length-append, length-map}
 use lib.Seq.{sets, drop_at, take_at}
 use Rattle.lists.specs.Lists.{up_to, joined, placed, over}
-use Rattle.rules.specs.Grid.{GridPoint, Box, Field, index, is_cell}
+use Rattle.rules.specs.Grid.{GridPoint, Box, Field, index}
 use Rattle.rules.specs.Cell.{Vector}
-use Rattle.rules.specs.Vertices.{cells, surface_cell, layer_vertices, vertices, first_vertex, vertex_position, vertex_normal, vertex_crossings, cell_entry}
+use Rattle.rules.specs.Vertices.{layer_vertices, vertices, first_vertex, vertex_position, vertex_normal, vertex_crossings}
 use Rattle.rules.specs.Faces.{Flags, layer_indices, indices}
 use Rattle.rules.specs.Call.{Call, Buffers, flat_vectors, flat_points, written}
-use Rattle.lists.proofs.Lists.{joined-append, many-most, length-placed}
+use Rattle.lists.proofs.Lists.{joined-append, length-placed}
 use Rattle.lists.proofs.Runs.{up_to-none, up_to-split, joined-last}
-use Rattle.rules.proofs.Counting.{cell-count}
-use Rattle.rules.proofs.Numbers.{first_vertex-low, first_vertex-next}
-use Rattle.rules.proofs.Indexes.{BoxFits, cell-in-box}
+use Rattle.rules.proofs.Numbers.{first_vertex-next}
 use Rattle.rules.proofs.Seen.{length-points, length-vectors}
-use Rattle.grid.specs.declared.Block.{Block}
-use Rattle.grid.specs.Block.{point, box_of, flags_of, field_of, call_of}
-use Rattle.grid.specs.Inside.{Inside}
-use Rattle.grid.proofs.Bounds.{fits, below_length}
-use Rattle.grid.proofs.Order.{box-ends}
-use Rattle.grid.proofs.Rows.{box-short}
 use Rattle.stores.proofs.Runs.{length_over, sets_over}
-use Rattle.layer_vertices.specs.Marked.{Lists, with_map, Room}
+use Rattle.layer_vertices.specs.Marked.{with_map}
 use Rattle.layer_vertices.proofs.Passing.{vectors-append, points-append}
 use Rattle.whole_box.specs.declared.Made.{Made}
 use Rattle.whole_box.specs.LentLists.{lists_of, with_indices, Roomy}
-use Rattle.whole_box.specs.Layers.{entry_at, last_at, vertices_to, indices_to, entry_to, layer_marked, laid, written_to, made_to, Written, layer_written, layer_made, Stands}
-use Rattle.whole_box.proofs.Map.{map_more, map-none, map_last, map-number}
+use Rattle.whole_box.specs.Layers.{last_at, vertices_to, indices_to, entry_to, layer_marked, laid, written_to, made_to, Written, layer_written, layer_made}
+use Rattle.whole_box.proofs.Map.{map_more, map-none, map_last}
 
 -- ---- lists up to a layer
 

@@ -1,6 +1,6 @@
 -- What one layer, and the layers up to one, leave of the lent lists of a whole call. These stand in no contract that another crate sees.
 -- Definitions only. Assumes nothing.
-use Rattle.std.specs.Prelude.{ℕ, ◌+◌, ◌-◌, ◌*◌, ◌≤◌, ◌<◌, Bool, not, cond, List, map, ◌≡◌, T, ltb, eqb, length, get_or, take, drop, Float}
+use Rattle.std.specs.Prelude.{ℕ, ◌+◌, ◌-◌, ◌*◌, ◌≤◌, ◌<◌, not, cond, List, map, ◌≡◌, T, ltb, eqb, length, get_or, take, drop, Float}
 use Rattle.std.proofs.lemmas.List.Edits.{sets}
 use Rattle.lists.specs.Lists.{up_to, joined, placed, over}
 use Rattle.rules.specs.Grid.{GridPoint, Box, Field, index, point_at, is_cell}

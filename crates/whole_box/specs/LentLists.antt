@@ -1,6 +1,6 @@
 -- The seven lent lists as the rules have them, and as contracts have them, and the room that a whole mesh needs. Definitions only. Assumes nothing.
 use Rattle.std.specs.Prelude.{ℕ, ◌*◌, ◌≤◌, List, length, Float}
-use Rattle.std.specs.Borrow.{Bor}
+use Rattle.std.specs.Borrow.{MutBor}
 use Rattle.rules.specs.Grid.{Box, Field}
 use Rattle.rules.specs.Vertices.{vertices}
 use Rattle.rules.specs.Faces.{Flags}
@@ -21,7 +21,7 @@ with_indices indices s = buffers s.positions s.normals s.cells s.strides s.cross
 
 -- ---- a parameter in a `requires`, and its pair of entry and exit in an `ensures`
 
-abbrev pub buffers_given : Bor (List Float) → Bor (List Float) → Bor (List ℕ) → Bor (List ℕ) → Bor (List ℕ) → Bor (List ℕ) → Bor (List ℕ) → Buffers
+abbrev pub buffers_given : MutBor (List Float) → MutBor (List Float) → MutBor (List ℕ) → MutBor (List ℕ) → MutBor (List ℕ) → MutBor (List ℕ) → MutBor (List ℕ) → Buffers
 buffers_given positions normals cells strides crossings map indices =
     buffers positions.now normals.now cells.now strides.now crossings.now map.now indices.now
 

@@ -60,4 +60,4 @@ pub returns-clause-result_value : goal.returns-clause-result_value
 returns-clause-result_value c =
     let k = c.args.k in
     let w = c.loop-z in
-    let bad = ahead-ended w.invariant.0 c.loop-z-test.false ∙ box-is (grid-of-2 (goal.at.returns-clause-result_value c).Start) k in counts_all w.invariant.1 (box-done k w.invariant.0.count c.loop-z-test.false)
+    counts_all w.invariant.1 (box-done k w.invariant.0.count c.loop-z-test.false)

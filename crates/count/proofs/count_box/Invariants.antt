@@ -1,6 +1,5 @@
 -- The invariant: the flag says whether a layer of points up to z has a distance beyond the cap, and the counts are those of the cells before the layer z.
 -- Assumes nothing.
-use Prim.Native.Nat.{◌-◌}
 use Rattle.rules.specs.Call.{bad_layer}
 use Rattle.grid.specs.Block.{box_of, field_of}
 use Rattle.grid.specs.Values.{grid_of}
@@ -12,6 +11,3 @@ use Rattle.count.proofs.count_box.Given as goal
 abbrev pub invariant-loop-z : goal.invariant-loop-z
 invariant-loop-z l = let field = field_of (grid_of l.width l.sdf l.sdf16 l.sdf8) l.k in
     Ahead (bad_layer field (box_of l.k)) l.from l.end l.z l.bad × Counts field l.k (box_to (box_of l.k) l.z) l.vertices l.indices
-
-abbrev pub decreases-loop-z : goal.decreases-loop-z
-decreases-loop-z l = l.end - l.z

@@ -1,5 +1,5 @@
 -- The invariant: the counts are those of the first j cells, and each at most j, so that it fits 32 bits. Assumes nothing.
-use Prim.Native.Nat.{◌-◌, ◌≤◌}
+use Prim.Native.Nat.{◌≤◌}
 use mathlib.Core.Path.{◌≡◌}
 use Rattle.lists.specs.Lists.{many, run}
 use Rattle.count.specs.Kept.{surface_code, x_code, y_code, z_code}
@@ -12,6 +12,3 @@ invariant-loop-j l = (l.j ≤ l.n)
     × (l.x ≡ many (x_code l.codes l.here) (run l.j))
     × (l.y ≡ many (y_code l.codes l.here l.there) (run l.j))
     × (l.z ≡ many (z_code l.codes l.here) (run l.j))
-
-abbrev pub decreases-loop-j : goal.decreases-loop-j
-decreases-loop-j l = l.n - l.j

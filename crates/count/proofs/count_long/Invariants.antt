@@ -1,5 +1,4 @@
 -- The invariant: the counts are those of the cells before the row y, and what is carried is the negatives of the row y of points. Assumes nothing.
-use Prim.Native.Nat.{◌-◌}
 use mathlib.Core.Path.{◌≡◌}
 use lib.ListN.{length}
 use Rattle.grid.specs.Block.{box_of}
@@ -16,6 +15,3 @@ invariant-loop-y l =
     let lo = grid_of l.width l.lower l.lower16 l.lower8 in
     let u = grid_of l.width l.upper l.upper16 l.upper8 in
     Counting l.from l.end l.y × Counts (two_layers lo u l.k l.z) l.k (layer_to (box_of l.k) l.z l.y) l.vertices l.indices × (l.near_row ≡ row_negatives lo u l.k l.y) × (length l.codes ≡ 1024)
-
-abbrev pub decreases-loop-y : goal.decreases-loop-y
-decreases-loop-y l = l.end - l.y

@@ -104,8 +104,7 @@ overflow_add-near c = cells-few c.requires.in_layers c.loop-y.y c.loop-y.invaria
 
 pub kept_where_mixed-one-requires-clause-x_le_x : goal.kept_where_mixed-one-requires-clause-x_le_x
 kept_where_mixed-one-requires-clause-x_le_x c =
-    let b = both (goal.at.kept_where_mixed-one-requires-clause-x_le_x c).After-read_row-far in
-    let short = c.requires.k_bound in ((cell-spans (somewhere c.requires.in_layers)).x.ordered, ((here (goal.at.kept_where_mixed-one-requires-clause-x_le_x c).In-loop-y).turn.here.1, c.requires.in_layers.here.1))
+    ((cell-spans (somewhere c.requires.in_layers)).x.ordered, ((here (goal.at.kept_where_mixed-one-requires-clause-x_le_x c).In-loop-y).turn.here.1, c.requires.in_layers.here.1))
 
 pub kept_where_mixed-one-requires-clause-small_from : goal.kept_where_mixed-one-requires-clause-small_from
 kept_where_mixed-one-requires-clause-small_from c =

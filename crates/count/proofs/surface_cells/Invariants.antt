@@ -1,5 +1,5 @@
 -- The invariant: the count is that of the first j cells, and what is carried is the negatives of the lower side of the j-th. Assumes nothing.
-use Prim.Native.Nat.{◌≤◌, ◌-◌, ◌+◌}
+use Prim.Native.Nat.{◌≤◌, ◌+◌}
 use mathlib.Core.Path.{◌≡◌}
 use Rattle.grid.specs.Corners.{side_between}
 use Rattle.grid.specs.Signs.{side_negatives}
@@ -12,6 +12,3 @@ invariant-loop-j l =
     let lo = grid_of l.width l.lower l.lower16 l.lower8 in
     let u = grid_of l.width l.upper l.upper16 l.upper8 in
     (l.j ≤ l.n) × (l.count ≤ l.j) × (l.low ≤ 4) × (l.low ≡ side_negatives (side_between lo u (l.at + l.j) l.row)) × (l.count ≡ surface_run lo u l.at l.row l.j)
-
-abbrev pub decreases-loop-j : goal.decreases-loop-j
-decreases-loop-j l = l.n - l.j

@@ -1,5 +1,5 @@
 -- The invariant: the first j places are counted, and their codes stand in the list; the count is at most twice j, so that it fits 32 bits. Assumes nothing.
-use Prim.Native.Nat.{◌≤◌, ◌+◌, ◌-◌, ◌*◌}
+use Prim.Native.Nat.{◌≤◌, ◌+◌, ◌*◌}
 use mathlib.Core.Path.{◌≡◌}
 use lib.Seq.{sets}
 use Rattle.grid.specs.Values.{grid_of}
@@ -13,6 +13,3 @@ invariant-loop-j l =
     let up = grid_of l.width l.upper l.upper16 l.upper8 in
     (l.j ≤ l.n) × (l.count ≤ 2 * l.j) × (l.count ≡ negatives_run low l.at l.j + negatives_run up l.at l.j)
     × (l.codes ≡ sets l.initial.codes l.from (codes_run low up l.at l.j))
-
-abbrev pub decreases-loop-j : goal.decreases-loop-j
-decreases-loop-j l = l.n - l.j

@@ -57,7 +57,7 @@ overflow_sub-z c = one_below (good (goal.at.overflow_sub-z c).Else-found-ne78) c
 
 pub with_layer-counts-requires-clause-in_layers : goal.with_layer-counts-requires-clause-in_layers
 with_layer-counts-requires-clause-in_layers c =
-    let o = c.args.so_far in cells-below (good (goal.at.with_layer-counts-requires-clause-in_layers c).Else-found-ne78) c.if-z-k.false
+    cells-below (good (goal.at.with_layer-counts-requires-clause-in_layers c).Else-found-ne78) c.if-z-k.false
 
 pub returns : goal.returns
 returns c =

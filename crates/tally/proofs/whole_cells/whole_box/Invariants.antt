@@ -1,5 +1,4 @@
 -- The invariant: the count is that of the cells before the layer z. Assumes nothing.
-use Prim.Native.Nat.{◌-◌}
 use mathlib.Core.Path.{◌≡◌}
 use Rattle.lists.specs.Lists.{many}
 use Rattle.grid.specs.Block.{box_of, field_of}
@@ -11,6 +10,3 @@ use Rattle.tally.proofs.whole_cells.whole_box.Given as goal
 
 abbrev pub invariant-loop-z : goal.invariant-loop-z
 invariant-loop-z l = Counting l.from l.end l.z × (l.count ≡ many (all_negative (field_of (grid_of l.width l.sdf l.sdf16 l.sdf8) l.k)) (box_to (box_of l.k) l.z))
-
-abbrev pub decreases-loop-z : goal.decreases-loop-z
-decreases-loop-z l = l.end - l.z

@@ -7,11 +7,9 @@ use mathlib.Core.Bool.{Bool, true, false, ◌&&◌}
 use mathlib.Core.List.{List, [], ◌∷◌, ◌++◌, map}
 use lib.Dec.{T, eqb}
 use lib.IntN.{pos, negsuc}
-use lib.ListN.{replicate}
 use lib.Ieee.{Float, nan, fin, binary32, to_bits}
 use Rattle.lists.specs.Lists.{up_to}
 use Rattle.rules.specs.Cell.{one32}
-use Rattle.rules.specs.Call.{Answer}
 use Rattle.rules.proofs.Cases.{minus_one, opened, same}
 use Rattle.grid.specs.declared.Extent.{Extent}
 use Rattle.grid.specs.declared.Block.{Block}

@@ -2,9 +2,9 @@
 use Prim.Native.Nat.{ℕ, ◌+◌, ◌-◌, ◌*◌, ◌%◌, ◌≤◌, ◌<◌}
 use native.Mathlib.Nat.{zero-add}
 use native.Mathlib.Omega.{arith}
-use mathlib.Core.Bool.{Bool, true, false, cond}
+use mathlib.Core.Bool.{Bool, cond}
 use mathlib.Core.List.{List, ◌++◌, map}
-use mathlib.Core.Path.{◌≡◌, refl, sym, ap, ap₂, subst, ◌∙◌}
+use mathlib.Core.Path.{◌≡◌, sym, ap, ap₂, subst, ◌∙◌}
 use borrow.Author.Tests.{eq-eqb, ne_eqb}
 use lib.Dec.{T}
 use lib.Ieee.{Float}
@@ -24,16 +24,16 @@ use Rattle.grid.specs.Block.{point, box_of, flags_of}
 use Rattle.grid.specs.Layers.{in_layer, two_layers, InLayers}
 use Rattle.grid.proofs.Layers.{in-plane}
 use Rattle.layer_vertices.specs.declared.Next.{Next}
-use Rattle.layer_vertices.specs.Marked.{Lists, lists, marked, cell_number, layer_point, layer_entry, last_entry, Room, InPart}
+use Rattle.layer_vertices.specs.Marked.{Lists, lists, marked, cell_number, layer_entry, last_entry, Room, InPart}
 use Rattle.layer_vertices.proofs.Entries.{place-back}
-use Rattle.layer_faces.specs.Below.{Kept, indices_over, Standing}
+use Rattle.layer_faces.specs.Below.{indices_over, Standing}
 use Rattle.layers.specs.declared.State.{State}
 use Rattle.layers.specs.Memory.{Memory, memory, plane, half_of, put_half}
-use Rattle.layers.specs.Offer.{Output, output, with_indices, Left, left, before, cells_at, between, new_vertices, new_first, kept_below, new_indices, new_lists, with_half}
+use Rattle.layers.specs.Offer.{Output, output, with_indices, Left, left, before, cells_at, between, new_vertices, new_first, new_indices, new_lists, with_half}
 use Rattle.layers.specs.Offer.{put_back, marked_out, brought_out, cleared}
 use Rattle.layers.specs.Ready.{Ready}
 use Rattle.layers.proofs.Halves.{sets-front, part-stored, half_length, half-here, half-apart}
-use Rattle.layers.proofs.Cells.{vertices-later, indices-later, indices-count, corner-low, in-layers, half_is, half-read, half-end}
+use Rattle.layers.proofs.Cells.{vertices-later, indices-later, corner-low, in-layers, half_is, half-read, half-end}
 
 -- ---- an entry of a cell
 

@@ -3,17 +3,17 @@
 use Prim.Native.Nat.{ℕ, ◌+◌, ◌-◌, ◌*◌, ◌%◌, ◌≤◌, ◌<◌}
 use native.Mathlib.Nat.{mul-le-mul, mul-le-mul_left, mul-one, mod-lt, le_refl, le_trans, le_of_eq}
 use native.Mathlib.Omega.{arith}
-use mathlib.Core.Bool.{Bool, true, false, cond, not}
+use mathlib.Core.Bool.{cond}
 use mathlib.Core.List.{List, []}
 use mathlib.Core.Logic.{◌⊎◌, inl, inr}
-use mathlib.Core.Path.{◌≡◌, refl, sym, ap, ap₂, subst, ◌∙◌}
+use mathlib.Core.Path.{◌≡◌, sym, ap, ap₂, ◌∙◌}
 use borrow.Author.Tests.{eq-eqb, ne_eqb, lt-ltb, le-ltb}
 use mir.Syntax.{w32, w64}
 use mir.Val.{Fits}
-use lib.Dec.{T, eqb, lit<}
+use lib.Dec.{eqb, lit<}
 use lib.ListN.{length, take, drop}
 use lib.Ieee.{Float}
-use Rattle.lists.specs.Lists.{keep, joined}
+use Rattle.lists.specs.Lists.{keep}
 use Rattle.rules.specs.Grid.{GridPoint, Box, Field}
 use Rattle.rules.specs.Vertices.{layer_cells, surface_cell, layer_vertices, null_vertex}
 use Rattle.rules.specs.Faces.{Flags, layer_edges}
@@ -22,7 +22,7 @@ use Rattle.lists.proofs.Lists.{length-keep, many-most, joined_length}
 use Rattle.rules.proofs.Indexes.{BoxFits, box-fits, small}
 use Rattle.grid.specs.declared.Block.{Block}
 use Rattle.grid.specs.Block.{point, box_of, flags_of}
-use Rattle.grid.specs.Layers.{in_layer, two_layers, InLayers}
+use Rattle.grid.specs.Layers.{in_layer, InLayers}
 use Rattle.grid.proofs.Order.{layer-length, layer-ends}
 use Rattle.grid.proofs.Layers.{in-plane}
 use Rattle.count.specs.declared.Tally.{Tally}
@@ -34,7 +34,7 @@ use Rattle.layers.specs.declared.State.{State}
 use Rattle.layers.specs.Memory.{Memory, plane, half, half_of}
 use Rattle.layer_vertices.specs.Marked.{lists, Room}
 use Rattle.layers.specs.Offer.{Output, before, cells_at, between, new_vertices, new_first, runs_on, kept_below, new_indices}
-use Rattle.layers.specs.Ready.{Layer, Ready, Roomy, new_cells}
+use Rattle.layers.specs.Ready.{Ready, Roomy, new_cells}
 use Rattle.layers.proofs.Halves.{half-ends, half_length}
 use Rattle.layers.proofs.Judging.{plane-few}
 

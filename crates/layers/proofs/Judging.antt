@@ -4,13 +4,12 @@ use native.Mathlib.Nat.{mul-one, mul-le-mul_left, le_trans, le_of_eq}
 use native.Mathlib.Omega.{arith}
 use mathlib.Core.Bool.{Bool, true, false, not, ◌||◌}
 use mathlib.Core.List.{List, []}
-use mathlib.Core.Path.{◌≡◌, refl, sym, ap, ◌∙◌}
+use mathlib.Core.Path.{◌≡◌, refl, sym, ◌∙◌}
 use borrow.Author.Tests.{le-ltb, le-leb, lt-leb, eq-eqb, ne_eqb}
-use lib.Dec.{T, eqb, ltb, leb, nltb→le}
+use lib.Dec.{T, ltb, nltb→le}
 use lib.ListN.{length}
 use lib.Ieee.{Float}
 use Rattle.lists.specs.Lists.{run, some, up_to}
-use Rattle.rules.specs.Grid.{GridPoint}
 use Rattle.rules.specs.Faces.{layer_points}
 use Rattle.rules.specs.Call.{Room, answers, room_answer, bad_dimension, bad_dimensions, bad_side, bad_box, bad_length, bad_layer, bad_distance}
 use Rattle.lists.proofs.Tests.{failed, nor-left, nor-right, nor-both}

@@ -1,7 +1,7 @@
 -- The lent lists as contracts have them, said once: a parameter in a `requires`, and its pair of entry and exit in an `ensures`. Definitions only.
 -- Assumes nothing.
 use Rattle.std.specs.Prelude.{ℕ, List, Float}
-use Rattle.std.specs.Borrow.{Bor}
+use Rattle.std.specs.Borrow.{MutBor}
 use Rattle.layer_vertices.specs.Lent.{Lent}
 use Rattle.layers.specs.Memory.{Memory, memory}
 use Rattle.layers.specs.Offer.{Output, output}
@@ -12,7 +12,7 @@ memory_before distances map positions = memory distances.entry.now map.entry.now
 abbrev pub memory_after : Lent Float → Lent ℕ → Lent Float → Memory
 memory_after distances map positions = memory distances.exit.now map.exit.now positions.exit.now
 
-abbrev pub output_given : Bor (List Float) → Bor (List Float) → Bor (List ℕ) → Bor (List ℕ) → Bor (List ℕ) → Bor (List ℕ) → Output
+abbrev pub output_given : MutBor (List Float) → MutBor (List Float) → MutBor (List ℕ) → MutBor (List ℕ) → MutBor (List ℕ) → MutBor (List ℕ) → Output
 output_given positions normals cells strides crossings indices = output positions.now normals.now cells.now strides.now crossings.now indices.now
 
 abbrev pub output_before : Lent Float → Lent Float → Lent ℕ → Lent ℕ → Lent ℕ → Lent ℕ → Output

@@ -1,7 +1,7 @@
 -- Document 02, request 1, the memory that is lent between layers: "two layers (2·X·Y), two layers of map (2·X·Y) and the last cell layer's vertex
 -- positions (3·X·Y)". The layer number t of the box stands in the half t mod 2, so that nothing is moved when a layer comes. Definitions only.
 -- Assumes nothing.
-use Rattle.std.specs.Prelude.{ℕ, ◌+◌, ◌*◌, ◌%◌, Bool, ◌||◌, cond, List, ltb, length, take, drop, Float}
+use Rattle.std.specs.Prelude.{ℕ, ◌*◌, ◌%◌, Bool, ◌||◌, cond, List, ltb, length, take, drop, Float}
 use Rattle.std.proofs.lemmas.List.Edits.{sets}
 use Rattle.rules.specs.Call.{bad_dimensions, bad_box}
 use Rattle.grid.specs.declared.Block.{Block}

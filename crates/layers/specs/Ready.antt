@@ -1,6 +1,6 @@
 -- What the inner functions ask of a layer that is about to be read or kept: none of the conditions 1, 2, 8, 3 and 4 applies. And the cells that are
 -- counted for it. These stand in no contract that another crate sees. Definitions only. Assumes nothing.
-use Rattle.std.specs.Prelude.{ℕ, ◌-◌, ◌*◌, ◌≤◌, not, cond, List, [], ◌≡◌, T, eqb, length, Float}
+use Rattle.std.specs.Prelude.{◌-◌, ◌*◌, ◌≤◌, not, cond, List, [], ◌≡◌, T, eqb, length, Float}
 use Rattle.rules.specs.Grid.{GridPoint}
 use Rattle.rules.specs.Vertices.{layer_cells}
 use Rattle.rules.specs.Call.{bad_dimensions, bad_box}

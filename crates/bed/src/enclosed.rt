@@ -40,7 +40,7 @@ pub extern "C" fn bed_is_enclosed_i8(sdf: &[i8], words: &[u32; 12], enclosed: &m
     a.answer
 }
 
-// ---- one layer of X.Y distances, the layer z of the box: the answer number, 0 to 3 or 77, with the test's outcome behind `enclosed`. Dimensions and box come as
+// ---- one layer of X·Y distances, the layer z of the box: the answer number, 0 to 3 or 77, with the test's outcome behind `enclosed`. Dimensions and box come as
 // the twelve words of a `bed_box`, of which the last three are not read.
 
 #[unsafe(no_mangle)]

@@ -1,5 +1,5 @@
 -- Two outcomes that fit a public function's contract are equal: for each, over the contract itself (OneResult). Assumes nothing.
-use Rattle.std.proofs.Common.{◌≡◌, ℕ, sym, refl, ap, ◌∙◌}
+use Rattle.std.proofs.Common.{◌≡◌, sym, refl, ap, ◌∙◌}
 use mathlib.Core.Option.{Option, none, some}
 use lib.Ieee.{Float}
 use Rattle.rules.specs.Cell.{Vector}

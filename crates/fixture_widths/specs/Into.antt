@@ -8,6 +8,6 @@ use Rattle.fixtures.specs.Layer.{layer_answer, cut_layer}
 unfoldable pub into_answer : List ℕ → GridPoint → ℕ → ℕ → ℕ → ℕ
 into_answer f d z size room = cond (eqb (layer_answer f d z size) 0) (cond (ltb room size) 82 0) (layer_answer f d z size)
 
--- the list afterwards: its first X-as-Y numbers are the layer that `cut_layer` makes, and the rest is kept
+-- the list afterwards: its first X·Y numbers are the layer that `cut_layer` makes, and the rest is kept
 unfoldable pub cut_into : List ℕ → GridPoint → ℕ → List Float → List Float → List Float
 cut_into f d z layer out = cond (eqb (into_answer f d z (length layer) (length out)) 0) (over (cut_layer f d z layer) out) out

@@ -8,12 +8,12 @@ use mathlib.Core.List.{List}
 use mathlib.Core.Path.{◌≡◌, sym}
 use mir.Syntax.{w64}
 use mir.Val.{Fits}
-use lib.Dec.{T, ltb, eqb, nltb→le}
+use lib.Dec.{T, ltb, nltb→le}
 use lib.ListN.{length}
 use lib.Ieee.{Float}
 use Rattle.rules.specs.Grid.{GridPoint, Box, index, in_box}
 use Rattle.rules.specs.Call.{bad_dimension, bad_dimensions, bad_box}
-use Rattle.lists.proofs.Tests.{nor-left, nor-right}
+use Rattle.lists.proofs.Tests.{nor-right}
 use Rattle.rules.proofs.Indexes.{BoxFits, box-fits, box-within, index_below, volume}
 pub use Rattle.rules.proofs.Indexes.{small}
 use Rattle.grid.specs.declared.Block.{Block}

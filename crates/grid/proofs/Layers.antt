@@ -7,10 +7,8 @@ use mathlib.Core.Bool.{Bool, cond, not}
 use mathlib.Core.List.{List, [], ◌∷◌}
 use mathlib.Core.Path.{◌≡◌, refl, sym, ap, ◌∙◌}
 use borrow.Author.Tests.{lt-ltb, le-ltb, eq-eqb}
-use mir.Syntax.{w64}
-use mir.Val.{Fits}
 use lib.Dec.{T}
-use lib.ListN.{length, get_or, replicate, length-replicate}
+use lib.ListN.{get_or, replicate, length-replicate}
 use lib.Ieee.{Float, nan}
 use Rattle.rules.specs.Grid.{GridPoint, index, value, is_cell}
 use Rattle.rules.specs.Cell.{values, corner_of}
@@ -18,7 +16,7 @@ use Rattle.rules.specs.Call.{bad_dimensions, bad_box, bad_length}
 use Rattle.rules.proofs.Indexes.{BoxFits, box-fits, cell-within}
 use Rattle.grid.specs.declared.Block.{Block}
 use Rattle.grid.specs.declared.corners.Side.{Side}
-use Rattle.grid.specs.Block.{point, box_of, field_of}
+use Rattle.grid.specs.Block.{point, box_of}
 use Rattle.grid.specs.Inside.{Inside}
 use Rattle.grid.specs.Corners.{side_between, eight_of}
 use Rattle.grid.specs.Layers.{in_layer, layer_dist, two_layers, InLayers}

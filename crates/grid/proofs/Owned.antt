@@ -1,5 +1,4 @@
 -- Ownership of an edge from a cell's lowest corner: the test that it is a cell passes. Assumes nothing.
-use Prim.Native.Nat.{◌-◌}
 use mathlib.Core.Bool.{Bool, true, false, ◌&&◌}
 use mathlib.Core.Path.{◌≡◌, refl}
 use lib.Dec.{T}

@@ -1,5 +1,5 @@
 -- Tests one after the other, as code makes them, and joined by `||`, as the rules have them. Over any tests. Assumes nothing.
-use mathlib.Core.Path.{◌≡◌, refl, sym}
+use mathlib.Core.Path.{◌≡◌}
 use mathlib.Core.Bool.{Bool, true, false, ◌||◌, true≢false}
 use Prim.Native.Nat.{ℕ, zero, suc, ◌*◌, ◌^◌, ◌<◌, ◌≤◌}
 use native.Mathlib.Nat.{le_trans, le_of_eq, le_of_lt, mul-one, mul-le-mul_left, mul-lt-mul_of_pos_right, lt_of_lt_of_le, lt_of_le_of_lt}

@@ -10,7 +10,7 @@ use borrow.Author.Tests.{ne_eqb}
 use mir.Syntax.{Width}
 use mir.Val.{SFits, to_z, of_z}
 use mir.Facts.{to_z-of_z}
-use lib.Dec.{T, lit≤, eqb}
+use lib.Dec.{T, lit≤}
 use lib.Arith.{le→nltb}
 use lib.IntN.{ℤ, pos, negsuc, nat_abs}
 use lib.ListN.{length, get_or, length-map}

@@ -1,4 +1,4 @@
--- Two neighbour layers of points that are lent apart, each a list of X-as-Y distances: the field that they are, and when a box's cells between them
+-- Two neighbour layers of points that are lent apart, each a list of X·Y distances: the field that they are, and when a box's cells between them
 -- can be read. Nothing is said of any other layer. Definitions only. Assumes nothing.
 use Rattle.std.specs.Prelude.{ℕ, ◌+◌, ◌-◌, ◌*◌, ◌<◌, ◌≤◌, not, cond, List, T, ltb, length, get_or, Float}
 use Rattle.std.specs.Float.{nan}
@@ -7,7 +7,7 @@ use Rattle.rules.specs.Call.{bad_dimensions, bad_box}
 use Rattle.grid.specs.declared.Block.{Block}
 use Rattle.grid.specs.Block.{point, box_of}
 
--- where a point stands among the X-as-Y points of its layer
+-- where a point stands among the X·Y points of its layer
 abbrev pub in_layer : GridPoint → GridPoint → ℕ
 in_layer d p = p.x + d.x * p.y
 

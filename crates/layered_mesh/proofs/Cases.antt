@@ -79,7 +79,7 @@ cases =
     ∷ case (at (block (extent 3 3 3) (extent 2 3 2)) 3) [] (keeps 0 0 0) (room 0 0) 2 0 0
     ∷ case (at ball 3) [] (keeps 0 0 0) (room 0 0) 8 0 0
     ∷ case (at ball 4294967295) flat enough (room 0 0) 8 0 0
-    -- X-as-Y - 1 and X-as-Y + 1, before short memory; then each list of kept memory one short, before a bad distance
+    -- X·Y - 1 and X·Y + 1, before short memory; then each list of kept memory one short, before a bad distance
     ∷ case (at ball 2) (replicate 8 one32) (keeps 0 0 0) (room 0 0) 3 0 0
     ∷ case (at ball 2) (replicate 10 one32) enough (room 0 0) 3 0 0
     ∷ case (at ball 0) (set flat 0 nan) (keeps 17 18 27) (room 0 0) 4 0 0

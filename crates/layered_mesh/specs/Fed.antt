@@ -52,7 +52,7 @@ map_apart s = output s.positions s.normals s.cells s.strides s.crossings s.indic
 
 -- ---- the layers of a grid
 
--- the X-as-Y distances of the layer z
+-- the X·Y distances of the layer z
 abbrev pub layer_of : List Float → Block → ℕ → List Float
 layer_of sdf k z = take (plane k) (drop (plane k * z) sdf)
 

@@ -25,7 +25,7 @@ pub record Lengths : Type 0 where
 abbrev pub lengths : Memory → Lengths
 lengths m = record { distances = length m.distances; map = length m.map; positions = length m.positions }
 
--- X-as-Y
+-- X·Y
 abbrev pub plane : Block → ℕ
 plane k = k.dims.x * k.dims.y
 

@@ -86,7 +86,7 @@ new_indices s layer m =
 abbrev pub finished : State → Bool
 finished s = leb (s.block.high.z - s.block.low.z + 1) s.taken
 
--- 3, by request 9: exactly if the layer's length is not X-as-Y
+-- 3, by request 9: exactly if the layer's length is not X·Y
 abbrev pub bad_layer_length : Block → List Float → Bool
 bad_layer_length k layer = not (eqb (length layer) (plane k))
 
@@ -94,7 +94,7 @@ bad_layer_length k layer = not (eqb (length layer) (plane k))
 abbrev pub bad_points : Block → List Float → Bool
 bad_points k layer = bad_layer (field_of layer k) (box_of k) 0
 
--- "The start, and each layer call again, gives 1, 2 and, if that memory is shorter, 4; a layer under X-as-Y gives 3. [..] a further layer gets 8 with
+-- "The start, and each layer call again, gives 1, 2 and, if that memory is shorter, 4; a layer under X·Y gives 3. [..] a further layer gets 8 with
 -- 0, 0, tried right after 2. [..] V and I are that layer's. [..] Document 01's order of checks holds inside one layer."
 unfoldable pub layer_answer : State → List Float → Memory → Room → Answer
 layer_answer s layer m r =

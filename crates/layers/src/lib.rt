@@ -1,4 +1,4 @@
-// The bed layer by layer (document 02, request 1): dimensions, box and max plane first, then one layer of X.Y distances a call, from min z to max z.
+// The bed layer by layer (document 02, request 1): dimensions, box and max plane first, then one layer of X·Y distances a call, from min z to max z.
 // What stands between two calls is a state of plain numbers and three lent lists. Any state and any lists may come: no look-up leaves its list.
 #![tactic(auto)]
 

@@ -3,7 +3,7 @@ use Rattle.std.specs.Prelude.{ℕ, zero, suc, ◌+◌, ◌*◌, List, [], take, 
 use Rattle.rules.specs.Grid.{GridPoint, Box}
 use Rattle.levels.specs.Call.{layer_after}
 
--- the X-as-Y distances of the layer z
+-- the X·Y distances of the layer z
 abbrev pub layer_at : List Float → GridPoint → ℕ → List Float
 layer_at grid d z = take (d.x * d.y) (drop (d.x * d.y * z) grid)
 

@@ -92,7 +92,7 @@ flat k =
       max_plane = k.max_plane;
     }
 
--- X-as-Y
+-- X·Y
 pub product-few : (k : Block) → T (not (bad_dimensions (point k.dims))) → T (not (bad_box (point k.dims) (box_of k))) → k.dims.x * k.dims.y ≤ 1073741824
 product-few k dims box =
     let f = box-fits (point k.dims) (box_of k) box in

@@ -29,7 +29,7 @@ lowest-layer k upper b z old {n} e d el =
 
 -- ---- the layers of a grid
 
--- X-as-Y
+-- X·Y
 abbrev pub plane : Block → ℕ
 plane k = k.dims.x * k.dims.y
 
@@ -61,7 +61,7 @@ module _ (grid : List Float) (k : Block) (z : ℕ) (above : k.low.z + 1 ≤ z) w
   top : suc (k.low.z + n) ≡ z
   top = omega arith
 
-  -- the layer below begins X-as-Y places before
+  -- the layer below begins X·Y places before
   before : (P : ℕ) → P * (k.low.z + n) ≡ P * z - P
   before P =
       let one : P * (k.low.z + n) + P ≡ P * z =

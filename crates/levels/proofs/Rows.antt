@@ -75,7 +75,7 @@ pub record RowPlace (k : Block) (y : ℕ) : Type 0 where
   pub some : 0 < across (box_of k)
   pub short : across (box_of k) ≤ 1073741824
 
--- X-as-Y
+-- X·Y
 pub plane-few : (k : Block) {room : ℕ} → Roomy k room → k.dims.x * k.dims.y ≤ 1073741824
 plane-few k r =
     let f = box-fits (point k.dims) (box_of k) r.box in

@@ -41,7 +41,7 @@ levels_after sdf d b old =
 abbrev pub outside : Box → ℕ → Bool
 outside b z = nat_lt z b.low.z || nat_lt b.high.z z
 
--- 3: a layer whose length is not X-as-Y, or a layer below of another length, which at min z is 0
+-- 3: a layer whose length is not X·Y, or a layer below of another length, which at min z is 0
 abbrev pub bad_layers : GridPoint → Box → List Float → List Float → ℕ → Bool
 bad_layers d b lower upper z = not (length upper == d.x * d.y) || not (length lower == cond (z == b.low.z) 0 (d.x * d.y))
 

@@ -1,4 +1,4 @@
--- The columns of a box, x innermost, and the level of each: of the whole grid, and after one more layer of X-as-Y distances. Definitions only.
+-- The columns of a box, x innermost, and the level of each: of the whole grid, and after one more layer of X·Y distances. Definitions only.
 -- Assumes nothing.
 use Rattle.std.specs.Prelude.{ℕ, ◌+◌, ◌-◌, ◌*◌, ◌/◌, ◌%◌, cond, List, ◌==◌, slice_index_or, Float}
 use Rattle.std.specs.Float.{nan}

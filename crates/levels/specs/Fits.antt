@@ -15,7 +15,7 @@ pub record Roomy (k : Block) (room : ℕ) : Type 0 where
   pub box : T (not (bad_box (point k.dims) (box_of k)))
   pub holds : columns (box_of k) ≤ room
 
--- two layers of X-as-Y distances, each from a place on in its list
+-- two layers of X·Y distances, each from a place on in its list
 pub record Laid (k : Block) (lower upper : List Float) (a b : ℕ) : Type 0 where
   pub below : a + k.dims.x * k.dims.y ≤ length lower
   pub here : b + k.dims.x * k.dims.y ≤ length upper
@@ -35,7 +35,7 @@ column_step k lower upper a b z j old =
 abbrev pub lowest_step : Block → List Float → ℕ → ℕ → ℕ → Float → Float
 lowest_step k upper b z j _ = first_level z (slice_index_or upper (in_layer (point k.dims) (in_column (box_of k) j z) + b) nan)
 
--- a layer of X-as-Y distances, the conditions 1 and 2 not applying
+-- a layer of X·Y distances, the conditions 1 and 2 not applying
 pub record Plane (k : Block) (layer : List Float) : Type 0 where
   pub dims : T (not (bad_dimensions (point k.dims)))
   pub box : T (not (bad_box (point k.dims) (box_of k)))

@@ -1,26 +1,8 @@
 -- What a record that is not refused tells, kind by kind: its sum, its zeros, its counts, its indices, its floats. Assumes nothing.
-use Rattle.std.proofs.Common.{◌≡◌, ℕ, zero, suc, ◌+◌, ◌≤◌, Bool, true, false, cond, not, ◌&&◌, ◌||◌, eqb, ltb, List, [], ◌∷◌, length, sym, refl, subst, inl, inr, arith, ltb-false, le-ltb, eq-eqb, eqb-true}
+use Rattle.std.proofs.Common.{◌≡◌, ℕ, suc, ◌+◌, ◌≤◌, Bool, true, false, cond, not, ◌&&◌, ◌||◌, eqb, ltb, List, [], ◌∷◌, length, sym, refl, subst, inl, inr, arith, ltb-false, le-ltb, eq-eqb, eqb-true}
 use borrow.Author.Tests.{not-false}
 use Rattle.mesh_record.specs.Record.{word_at, sum_of}
-use Rattle.mesh_record.specs.Faults.{
-  words_at,
-  bad_sum,
-  bad_kind,
-  all_zero,
-  bad_zero,
-  bad_counts,
-  bad_index,
-  three_finite,
-  bad_float,
-  bad_end,
-  fault_of,
-  Found,
-  good,
-  faulty,
-  Known,
-  found_of,
-  found_at,
-}
+use Rattle.mesh_record.specs.Faults.{words_at, bad_sum, bad_kind, all_zero, bad_zero, bad_counts, bad_index, three_finite, bad_float, bad_end, fault_of, good, faulty, Known, found_of, found_at}
 use Rattle.mesh_record.specs.declared.Words.{Words}
 use Rattle.mesh_record.specs.declared.Seen.{Seen}
 use Rattle.mesh_record.proofs.OneStep.{kind-whole}

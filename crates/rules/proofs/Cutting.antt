@@ -6,7 +6,7 @@ use mathlib.Core.Bool.{false}
 use mathlib.Core.List.{List, [], ◌∷◌, ◌++◌, map, append-nil}
 use mathlib.Core.Path.{◌≡◌, refl, sym, ap, ap₂, ◌∙◌}
 use lib.ListN.{length, length-append}
-use Rattle.lists.specs.Lists.{one, many, joined}
+use Rattle.lists.specs.Lists.{many, joined}
 use Rattle.rules.specs.Grid.{Axis, axis_x, axis_y, axis_z, Field, along}
 use Rattle.rules.specs.Faces.{Edge, flag, owned, changes, gives, edges, changing_edges}
 use Rattle.rules.specs.Cutting.{Piece, Cuts, uncut, cut, pieces, Fits, Plan, lower_piece, upper_piece, face_of}

@@ -12,7 +12,7 @@ use Rattle.lists.specs.Lists.{joined}
 use Rattle.rules.specs.Grid.{GridPoint, Axis, axis_x, axis_y, axis_z, Box, Field, along, is_cell}
 use Rattle.rules.specs.Vertices.{vertices}
 use Rattle.rules.specs.Faces.{Flags, edges, indices}
-use Rattle.rules.specs.Call.{Call, Room, answers, vertex_count, index_count, room_answer, answer}
+use Rattle.rules.specs.Call.{Call, Room, answers, room_answer, answer}
 use Rattle.lists.proofs.Lists.{All, none, more}
 use Rattle.rules.proofs.Indexes.{cell-within}
 use Rattle.rules.proofs.FourCells.{gives-cell}

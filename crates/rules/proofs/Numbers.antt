@@ -10,7 +10,7 @@ use borrow.Author.Tests.{eq-eqb, ne_eqb}
 use lib.Dec.{T}
 use lib.Ieee.Fits.{and_i, and_l}
 use lib.ListN.{length, get_or, length-append}
-use Rattle.lists.specs.Lists.{one, up_to, many, joined, place, below}
+use Rattle.lists.specs.Lists.{up_to, many, joined, place, below}
 use Rattle.rules.specs.Grid.{GridPoint, Box, Field, same_point, is_cell, Axis, axis_x, axis_y, axis_z, along, value}
 use Rattle.rules.specs.Cell.{negative}
 use Rattle.rules.specs.Vertices.{layers, surface_cell, layer_vertices, vertices, first_vertex, number_in, vertex_number}

@@ -10,12 +10,12 @@ use lib.Ieee.{Float, nan}
 use lib.ListN.{length, get_or, length-map, take, get_or-map, get_or-append}
 use lib.Seq.{take-length, take-suc}
 use Rattle.lists.specs.Lists.{up_to, joined, place}
-use Rattle.rules.specs.Grid.{GridPoint, Box, Field, along, same_point, is_cell}
+use Rattle.rules.specs.Grid.{GridPoint, Box, Field, same_point, is_cell}
 use Rattle.rules.specs.Cell.{Vector}
 use Rattle.rules.specs.Vertices.{surface_cell, vertices, vertex_position, vertex_normal, vertex_crossings}
-use Rattle.rules.specs.Faces.{Edge, Flags, axis_b, axis_c, gives, edges, face_cells, indices, changing_edges}
+use Rattle.rules.specs.Faces.{Edge, Flags, gives, edges, face_cells, indices, changing_edges}
 use Rattle.rules.specs.Call.{flat_points, flat_vectors}
-use Rattle.rules.specs.Cutting.{Piece, Corner, Face, corner_at, face_of, edge_shown, sixes, point_in, vector_in, looked, face_seen, faces_seen, Vertex, vertex_of, vertices_seen}
+use Rattle.rules.specs.Cutting.{Piece, Corner, Face, corner_at, face_of, edge_shown, sixes, point_in, vector_in, looked, face_seen, faces_seen, vertex_of, vertices_seen}
 use Rattle.lists.proofs.Lists.{All, all_then, map_same, joined_length, none, more}
 use Rattle.lists.proofs.Runs.{up_to-none, up_to-last, up_to-each}
 use Rattle.rules.proofs.FourCells.{Owned, owned-says, gives-owned}

@@ -21,7 +21,7 @@ use Rattle.lists.proofs.Some.{some-has, some-member}
 use Rattle.rules.proofs.Indexes.{same_point_lem}
 use Rattle.rules.proofs.Counting.{same_point-sound, same_point-itself}
 use Rattle.rules.proofs.FourCells.{Four}
-use Rattle.rules.proofs.Edges.{same_axis, same_axis-sound, face_cells-length}
+use Rattle.rules.proofs.Edges.{same_axis, same_axis-sound}
 use Rattle.rules.proofs.Numbers.{face-all}
 
 -- ---- a cell among cells

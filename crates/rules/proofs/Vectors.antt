@@ -11,32 +11,7 @@ use lib.ListN.{length, get_or, replicate}
 use lib.Ieee.{Float}
 use Rattle.rules.specs.Cell.{float}
 use Rattle.rules.specs.Call.{Call}
-use Rattle.rules.proofs.Cases.{
-  Case,
-  Holds,
-  the_indices,
-  the_strides,
-  the_diagonals,
-  position_of,
-  normal_of,
-  lowest,
-  point,
-  calls,
-  ball,
-  bit_grid,
-  whole,
-  whole_plane,
-  below,
-  corners,
-  one_cell,
-  roomy,
-  case,
-  opened,
-  same,
-  passes,
-  every,
-  entry_of,
-}
+use Rattle.rules.proofs.Cases.{Case, Holds, the_indices, the_strides, the_diagonals, position_of, normal_of, point, calls, ball, bit_grid, whole, whole_plane, below, corners, one_cell, roomy, case, opened, same, passes, every, entry_of}
 
 -- ---- the cells
 

@@ -1,6 +1,6 @@
 -- Document 01, "The call": the conditions 1 to 7, the answer with V and I, and what each lent buffer holds afterwards.
 -- Definitions only. Assumes nothing.
-use Rattle.std.specs.Prelude.{ℕ, ◌+◌, ◌*◌, ◌^◌, Bool, true, false, not, ◌||◌, cond, List, [], ◌∷◌, map, leb, ltb, eqb, length, Float}
+use Rattle.std.specs.Prelude.{ℕ, ◌*◌, ◌^◌, Bool, true, not, ◌||◌, cond, List, [], ◌∷◌, map, leb, ltb, eqb, length, Float}
 use Rattle.std.specs.Float.{nan, inf, fin}
 use Rattle.std.specs.Float.Ieee.{up, down}
 use Rattle.lists.specs.Lists.{some, joined, placed, over}

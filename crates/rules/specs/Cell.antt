@@ -1,6 +1,6 @@
 -- Document 01, "Cells and vertices": what a cell's eight corner values say of it, by binary32 with one rounding for each operation,
 -- in the document's order of operations. The eight values stand in a list, corner 0 first. Definitions only. Assumes nothing.
-use Rattle.std.specs.Prelude.{ℕ, zero, suc, ◌+◌, ◌*◌, ◌/◌, ◌%◌, ◌^◌, Bool, true, false, ◌&&◌, List, [], ◌∷◌, map, leb, pos, length, get_or, Float}
+use Rattle.std.specs.Prelude.{ℕ, zero, suc, ◌+◌, ◌/◌, ◌%◌, Bool, false, ◌&&◌, List, [], ◌∷◌, map, leb, pos, get_or, Float}
 use Rattle.std.specs.Float.{nan, fin, binary32}
 use Rattle.std.specs.Float.Ieee.{unlike, add, sub, mul, div, lt, of_int}
 use Rattle.lists.specs.Lists.{keep, many}

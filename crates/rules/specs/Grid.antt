@@ -1,6 +1,6 @@
 -- Document 01, "What is ported, what is added" and "The call": points of the grid, their index, the box, and the distance at a point.
 -- Definitions only. Assumes nothing.
-use Rattle.std.specs.Prelude.{ℕ, ◌+◌, ◌-◌, ◌*◌, ◌/◌, ◌%◌, Bool, ◌&&◌, leb, ltb, eqb, Float}
+use Rattle.std.specs.Prelude.{ℕ, ◌+◌, ◌-◌, ◌*◌, ◌/◌, ◌%◌, Bool, ◌&&◌, leb, eqb, Float}
 use Rattle.lists.specs.Lists.{below}
 
 -- a point of the grid; dimensions and the corners of a box are written so too

@@ -1,17 +1,14 @@
 -- Words computed by the kernel from the definitions: those of a test that is not alike from its two ends, the places of set bits, a word moved on into one
 -- unlike it, the masks about a word's end, and the mixed cells of four lines of points. The numbers wanted were added up from powers of two, and the mixed
 -- cells are those with one to seven negative corners of eight, counted by hand; none comes from these definitions or from the code. Assumes nothing.
-use Prim.Native.Nat.{ℕ, ◌+◌, ◌-◌}
+use Prim.Native.Nat.{ℕ}
 use mathlib.Core.Bool.{Bool}
 use mathlib.Core.List.{List, [], ◌∷◌, map}
 use mathlib.Core.Path.{◌≡◌, refl}
-use lib.Bits.{bit_and, bit_or}
-use lib.Dec.{eqb, ltb}
-use lib.ListN.{get_or}
+use lib.Dec.{eqb}
 use Rattle.lists.specs.Lists.{run, up_to, some}
 use Rattle.sign_words.specs.declared.Lines.{Lines}
-use Rattle.sign_words.specs.declared.Ends.{Ends}
-use Rattle.sign_words.specs.Words.{word, words_of, places, onward_of, below_mask, ends_of, ends_at, mixed_of}
+use Rattle.sign_words.specs.Words.{word, words_of, places, onward_of, below_mask, ends_at, mixed_of}
 
 -- a test that passes at these numbers alone
 abbrev passing : ℕ → Bool

@@ -1,6 +1,6 @@
 -- Words of 64 bits as answers of a test: bit i of a word is the test's answer at a place and i further on. A cell is told from the words of the four
 -- lines of points along it, and these moved on by one. Definitions only. Assumes nothing.
-use Rattle.std.specs.Prelude.{ℕ, zero, suc, ◌+◌, ◌-◌, ◌*◌, ◌/◌, ◌%◌, ◌^◌, ◌≤◌, ◌<◌, Bool, not, ◌&&◌, ◌||◌, cond, List, [], ◌∷◌, map, ◌≡◌, ltb, length, get_or}
+use Rattle.std.specs.Prelude.{ℕ, zero, suc, ◌+◌, ◌-◌, ◌*◌, ◌/◌, ◌%◌, ◌≤◌, ◌<◌, Bool, cond, List, [], ◌∷◌, map, ◌≡◌, ltb, length, get_or}
 use Rattle.std.specs.Int.Bits.{bit_and, bit_or}
 use Rattle.lists.specs.Lists.{one, up_to}
 use Rattle.sign_words.specs.declared.Lines.{Lines}

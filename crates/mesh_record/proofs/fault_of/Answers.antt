@@ -1,6 +1,6 @@
 -- `mesh_record::fault_of` meets its contract. At each return the tests that led there say which case of `fault_of` holds. Each fact is named by its place: `cc`
 -- finds them too, but takes half a minute. Assumes nothing.
-use Rattle.std.proofs.Common.{◌≡◌, true, false, sym, ◌∙◌, rules}
+use Rattle.std.proofs.Common.{◌≡◌, true, false, sym, ◌∙◌}
 use Rattle.mesh_record.specs.Faults.{bad_sum, bad_kind, bad_zero, bad_counts, bad_index, bad_float, bad_end, fault_of}
 use Rattle.mesh_record.proofs.fault_of.Goals as goal
 use Rattle.mesh_record.proofs.fault_of.Goals.{Else-bad_counts, Else-bad_end, Else-bad_float, Else-bad_index, Else-bad_kind, Else-bad_sum, Else-bad_zero}

@@ -3,7 +3,7 @@
 -- Assumes nothing.
 use Rattle.mesh_record.proofs.OneStep.{found-cut, found-whole}
 use Rattle.mesh_record.proofs.Told.{no-fault, known-kind}
-use Rattle.std.proofs.Common.{◌+◌, ◌<◌, ◌≤◌, length, sym, ◌∙◌, arith, rules}
+use Rattle.std.proofs.Common.{◌+◌, ◌<◌, ◌≤◌, length, sym, ◌∙◌, arith}
 use Rattle.mesh_record.proofs.step_at.Goals as goal
 
 pub returns-then-src-at : goal.returns-then-src-at

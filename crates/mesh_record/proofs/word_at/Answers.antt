@@ -1,6 +1,5 @@
 -- `mesh_record::word_at` meets its contract. Each byte is below 256, so the sum fits; it is the definition's.
 -- Assumes nothing.
-use Rattle.std.proofs.Common.{arith, rules}
 use Rattle.mesh_record.specs.Record.{word_at}
 use Rattle.mesh_record.proofs.word_at.Goals as goal
 

@@ -1,6 +1,6 @@
 -- `mesh_record::write_four` meets its contract. Four words written in a row are their bytes joined (`four-words`).
 -- Assumes nothing.
-use Rattle.std.proofs.Common.{◌≤◌, length, arith, rules}
+use Rattle.std.proofs.Common.{◌≤◌, length, arith}
 use Rattle.mesh_record.proofs.Recording.{four-words}
 use Rattle.mesh_record.proofs.write_four.Goals as goal
 

@@ -1,6 +1,6 @@
 -- `mesh_record::write_record` meets its contract. Two fours of words, the last of them the sum (`eight-words`).
 -- Assumes nothing.
-use Rattle.std.proofs.Common.{◌≤◌, length, arith, rules}
+use Rattle.std.proofs.Common.{◌≤◌, length, arith}
 use Rattle.mesh_record.proofs.Recording.{eight-words}
 use Rattle.mesh_record.proofs.write_record.Goals as goal
 

@@ -2,7 +2,6 @@
 -- Assumes nothing.
 use Rattle.mesh_record.specs.Record.{bytes_of}
 use Rattle.mesh_record.proofs.Laying.{four-stored}
-use Rattle.std.proofs.Common.{arith, length-set, rules}
 use Rattle.mesh_record.proofs.write_word.Goals as goal
 
 pub returns : goal.returns

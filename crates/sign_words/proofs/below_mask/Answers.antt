@@ -3,8 +3,7 @@
 use Prim.Native.Nat.{◌*◌}
 use native.Mathlib.Omega.{arith}
 use mathlib.Core.Path.{sym}
-use borrow.Author.Rules.{rules}
-use Rattle.sign_words.proofs.Word.{word-past, word-within, bit-some, bit_below}
+use Rattle.sign_words.proofs.Word.{word-past, word-within, bit_below}
 use Rattle.sign_words.proofs.below_mask.Goals as goal
 
 pub returns-then-n-from : goal.returns-then-n-from

@@ -1,7 +1,7 @@
 -- `cube::centroid::point_between` meets its contract, by those of `scale` and `add`. Assumes nothing.
-use Rattle.std.proofs.Common.{◌≡◌, ap, ◌∙◌, ap₂, rules}
+use Rattle.std.proofs.Common.{◌≡◌, ap, ◌∙◌, ap₂}
 use lib.Ieee.{Float, of_bits}
-use Rattle.rules.specs.Cell.{Vector, plus, scaled, corner_vector, point_between}
+use Rattle.rules.specs.Cell.{Vector, plus, scaled, point_between}
 use Rattle.cube.proofs.centroid.point_between.Goals as goal
 
 -- the sum of two scaled vectors, each known by what it equals

@@ -1,12 +1,10 @@
 -- `cube::centroid::sum_of_edge_intersections` meets its contract. The invariant: the sum and the count are those of the edges passed.
 -- Assumes nothing.
-use Rattle.std.proofs.Common.{◌≡◌, ℕ, ◌+◌, ◌-◌, ◌<◌, ◌≤◌, true, false, List, map, length, take, sym, refl, ap, ◌∙◌, ⊎_elim, add-zero, arith, rules}
-use lib.Ieee.{Float, of_bits}
+use Rattle.std.proofs.Common.{◌≡◌, ℕ, ◌-◌, ◌≤◌, List, map, take}
+use lib.Ieee.{Float}
 use Rattle.lists.specs.Lists.{many, keep}
-use Rattle.rules.specs.Cell.{Vector, plus, CubeEdge, cube_edge, cube_edges, crosses, crossing_point, zero_vector, summed, crossing_points, crossings}
-use Rattle.cube.specs.AsRules.{vector, edge_at}
-use Rattle.cube.proofs.Taking.{many-turn, sum-turn}
-use Rattle.cube.proofs.Answer.{not-crossed, crossed}
+use Rattle.rules.specs.Cell.{Vector, cube_edges, crosses, crossing_point, zero_vector, summed}
+use Rattle.cube.specs.AsRules.{vector}
 use Rattle.cube.proofs.centroid.sum_of_edge_intersections.Given as goal
 
 -- the sum and the number of the crossings on the first e edges

@@ -1,6 +1,6 @@
 -- `cube::classing::negative_corners` meets its contract. The invariant: the count is that of the corners passed, and at most as many.
 -- Assumes nothing.
-use Rattle.std.proofs.Common.{◌≡◌, ℕ, ◌+◌, ◌-◌, ◌<◌, ◌≤◌, true, false, length, take, sym, ap, ◌∙◌, ⊎_elim, add-zero, arith, take_all, rules}
+use Rattle.std.proofs.Common.{◌<◌, true, false, length, sym, ◌∙◌, add-zero, arith, rules}
 use lib.Ieee.{nan}
 use Rattle.lists.specs.Lists.{many}
 use Rattle.rules.specs.Cell.{negative}

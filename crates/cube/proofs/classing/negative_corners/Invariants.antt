@@ -1,10 +1,8 @@
 -- `cube::classing::negative_corners` meets its contract. The invariant: the count is that of the corners passed, and at most as many.
 -- Assumes nothing.
-use Rattle.std.proofs.Common.{◌≡◌, ℕ, ◌+◌, ◌-◌, ◌<◌, ◌≤◌, true, false, length, take, sym, ap, ◌∙◌, ⊎_elim, add-zero, arith, take_all, rules}
-use lib.Ieee.{nan}
+use Rattle.std.proofs.Common.{◌≡◌, ◌-◌, ◌≤◌, take}
 use Rattle.lists.specs.Lists.{many}
 use Rattle.rules.specs.Cell.{negative}
-use Rattle.cube.proofs.Taking.{many-turn}
 use Rattle.cube.proofs.classing.negative_corners.Given as goal
 
 abbrev pub invariant-loop-i : goal.invariant-loop-i

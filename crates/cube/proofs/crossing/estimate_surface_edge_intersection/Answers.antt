@@ -1,6 +1,6 @@
 -- `cube::crossing::estimate_surface_edge_intersection` meets its contract: the test tells whether the signs of the two ends are alike.
 -- Assumes nothing.
-use Rattle.std.proofs.Common.{◌≡◌, Bool, not, sym, ap, ◌∙◌, ap₂, rules}
+use Rattle.std.proofs.Common.{◌≡◌, Bool, not, sym, ap, ◌∙◌, ap₂}
 use mathlib.Core.Bool.{beq}
 use lib.Ieee.{Float}
 use Rattle.rules.specs.Cell.{fraction}

@@ -1,6 +1,6 @@
 -- `cube::gradient::sdf_gradient` meets its contract: each component is the blend that `blended` answers, with n as `sub` gives it.
 -- Assumes nothing.
-use Rattle.std.proofs.Common.{◌≡◌, List, ap, ◌∙◌, rules}
+use Rattle.std.proofs.Common.{◌≡◌, List, ap, ◌∙◌}
 use lib.Ieee.{Float, of_bits}
 use Rattle.rules.specs.Cell.{Vector, one_vector, minus, blend, step, normal}
 use Rattle.cube.proofs.gradient.sdf_gradient.Goals as goal

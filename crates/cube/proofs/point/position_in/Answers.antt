@@ -1,5 +1,5 @@
 -- `cube::point::position_in` meets its contract: the casts give the cell's floats, and `add` adds by component. Assumes nothing.
-use Rattle.std.proofs.Common.{refl, ◌∙◌, rules}
+use Rattle.std.proofs.Common.{◌∙◌}
 use Rattle.rules.specs.Cell.{position}
 use Rattle.cube.proofs.point.position_in.Goals as goal
 

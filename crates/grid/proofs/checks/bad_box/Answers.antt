@@ -1,8 +1,7 @@
 -- Each axis in turn. Assumes nothing.
-use mathlib.Core.Path.{◌≡◌, sym, ◌∙◌}
+use mathlib.Core.Path.{sym, ◌∙◌}
 use Rattle.rules.specs.Call.{bad_side, bad_box}
 use Rattle.grid.proofs.Tests.{first_of, second-of, third_of}
-use borrow.Author.Rules.{rules}
 use Rattle.grid.proofs.checks.bad_box.Goals as goal
 
 pub returns-then-bad_side : goal.returns-then-bad_side

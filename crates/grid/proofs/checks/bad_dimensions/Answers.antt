@@ -6,8 +6,7 @@ use lib.Dec.{ltb}
 use borrow.Author.Tests.{lt-ltb}
 use Rattle.rules.specs.Call.{bad_dimension, bad_dimensions}
 use Rattle.grid.specs.Block.{point}
-use Rattle.grid.proofs.Tests.{first, second, third, last, grows, fits-two, fits-three, positive-dimension}
-use borrow.Author.Rules.{rules}
+use Rattle.grid.proofs.Tests.{first, second, third, last, grows, positive-dimension}
 use Rattle.grid.proofs.checks.bad_dimensions.Goals as goal
 use Rattle.grid.proofs.checks.bad_dimensions.Goals.{Else-bad_dimension, Else-bad_dimension-2, Else-bad_dimension-3}
 

@@ -1,9 +1,7 @@
 -- The length is divided by the product of two dimensions: none, with a rest, or without one. Assumes nothing.
 use Prim.Native.Nat.{◌*◌}
 use Rattle.rules.specs.Call.{bad_length}
-use Rattle.grid.proofs.Tests.{fits-two}
 use Rattle.grid.proofs.Lengths.{no-layer, part-layer, whole-layers}
-use borrow.Author.Rules.{rules}
 use Rattle.grid.proofs.checks.bad_length.Goals as goal
 
 pub returns-then-plane-eq0 : goal.returns-then-plane-eq0

@@ -4,7 +4,6 @@ use mathlib.Core.Path.{◌≡◌, sym, ◌∙◌}
 use Rattle.rules.specs.Call.{bad_dimensions, bad_box, bad_length}
 use Rattle.grid.specs.Block.{point, box_of}
 use Rattle.grid.specs.Faults.{first_fault}
-use borrow.Author.Rules.{rules}
 use Rattle.grid.proofs.checks.first_fault.Goals as goal
 use Rattle.grid.proofs.checks.first_fault.Goals.{After-bad_box, After-bad_length-arg-1, Else-bad_dimensions, Else-bad_length}
 

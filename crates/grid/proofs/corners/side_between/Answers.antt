@@ -4,7 +4,6 @@ use native.Mathlib.Omega.{arith}
 use mathlib.Core.List.{List}
 use lib.Ieee.{Float}
 use lib.ListN.{length}
-use borrow.Author.Rules.{rules}
 use Rattle.grid.specs.Values.{grid_of}
 use Rattle.grid.proofs.Places.{grid-counted}
 use Rattle.grid.proofs.corners.side_between.Goals as goal

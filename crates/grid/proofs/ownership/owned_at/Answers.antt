@@ -1,13 +1,10 @@
 -- Ownership less the test that the point is a cell, which the caller owes. Assumes nothing.
 use mathlib.Core.Bool.{◌&&◌}
 use mathlib.Core.Path.{◌≡◌, sym, ◌∙◌}
-use native.Mathlib.Omega.{arith}
 use Rattle.rules.specs.Grid.{Axis, axis_x, axis_y, axis_z}
 use Rattle.rules.specs.Faces.{edge, owned, axis_b, axis_c, above_low, inside_max}
-use Rattle.rules.proofs.Indexes.{CellWithin, cell-within}
 use Rattle.grid.specs.Block.{point, box_of, flags_of}
 use Rattle.grid.proofs.Owned.{owned-cell}
-use borrow.Author.Rules.{rules}
 use Rattle.grid.proofs.ownership.owned_at.Goals as goal
 use Rattle.grid.proofs.ownership.owned_at.Goals.{Start}
 

@@ -1,14 +1,11 @@
 -- The invariant: the flag says whether a layer before z has a distance beyond the cap. Assumes nothing.
-use Prim.Native.Nat.{◌+◌, ◌-◌}
+use Prim.Native.Nat.{◌+◌}
 use mathlib.Core.List.{List}
 use mathlib.Core.Path.{◌∙◌}
 use lib.Ieee.{Float}
-use borrow.Author.Rules.{rules}
-use Rattle.rules.specs.Call.{bad_layer}
-use Rattle.grid.specs.Block.{box_of, field_of}
 use Rattle.grid.specs.Values.{grid_of}
 use Rattle.grid.proofs.Runs.{box-is}
-use Rattle.grid.proofs.Walks.{Turn, turn, through, end_fits, Scanned, scan-begun, scan-more, scan-ended, point-spans}
+use Rattle.grid.proofs.Walks.{Turn, turn, end_fits, scan-begun, scan-more, scan-ended, point-spans}
 use Rattle.grid.proofs.scan.bad_distance.Goals as goal
 use Rattle.grid.proofs.scan.bad_distance.Goals.{In-loop-z, Start}
 

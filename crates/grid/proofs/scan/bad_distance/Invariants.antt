@@ -1,14 +1,9 @@
 -- The invariant: the flag says whether a layer before z has a distance beyond the cap. Assumes nothing.
-use Prim.Native.Nat.{◌+◌, ◌-◌}
-use mathlib.Core.List.{List}
-use mathlib.Core.Path.{◌∙◌}
-use lib.Ieee.{Float}
-use borrow.Author.Rules.{rules}
+use Prim.Native.Nat.{◌-◌}
 use Rattle.rules.specs.Call.{bad_layer}
 use Rattle.grid.specs.Block.{box_of, field_of}
 use Rattle.grid.specs.Values.{grid_of}
-use Rattle.grid.proofs.Runs.{box-is}
-use Rattle.grid.proofs.Walks.{Turn, turn, through, end_fits, Scanned, scan-begun, scan-more, scan-ended, point-spans}
+use Rattle.grid.proofs.Walks.{Scanned}
 use Rattle.grid.proofs.scan.bad_distance.Given as goal
 
 abbrev pub invariant-loop-z : goal.invariant-loop-z

@@ -1,13 +1,11 @@
 -- The invariant: the flag says whether one of the first j distances is beyond the cap. Assumes nothing.
-use Prim.Native.Nat.{◌≤◌, ◌<◌, ◌-◌, ◌^◌}
+use Prim.Native.Nat.{◌<◌, ◌^◌}
 use native.Mathlib.Omega.{arith}
 use mathlib.Core.List.{List}
-use mathlib.Core.Path.{◌≡◌, ap, ◌∙◌}
+use mathlib.Core.Path.{ap, ◌∙◌}
 use lib.Ieee.{Float}
 use lib.ListN.{length}
-use borrow.Author.Rules.{rules}
 use Rattle.rules.specs.Call.{beyond}
-use Rattle.grid.specs.Inside.{bad_run}
 use Rattle.grid.specs.Values.{grid_of}
 use Rattle.grid.proofs.Places.{grid-counted}
 use Rattle.grid.proofs.Runs.{run_none, run_more}

@@ -1,8 +1,7 @@
 -- One room in numbers, written down by hand, each length another one: what is lent of each list, and how a list goes on behind what was lent.
 -- 0x51000000 to 0x54000000 are oracle/stored/README.md's marks. Assumes nothing.
-use Prim.Native.Nat.{ℕ}
 use mathlib.Core.Bool.{false}
-use mathlib.Core.List.{List, [], ◌∷◌}
+use mathlib.Core.List.{[], ◌∷◌}
 use mathlib.Core.Path.{◌≡◌, refl}
 use lib.IntN.{pos}
 use lib.Ieee.{fin, of_int, add}

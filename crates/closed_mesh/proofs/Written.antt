@@ -1,6 +1,6 @@
 -- What an accepted call has written: its first I indices are the index list of the rules, and the cell that stands for the vertex v is the one
 -- that has the number v. From document 01's `answer` and `afterwards`. Assumes nothing.
-use Prim.Native.Nat.{ℕ, zero, suc, ◌+◌, ◌*◌, ◌<◌}
+use Prim.Native.Nat.{ℕ, zero, suc, ◌+◌, ◌<◌}
 use native.Mathlib.Omega.{arith}
 use mathlib.Core.Bool.{Bool, true, false, ◌&&◌, cond}
 use mathlib.Core.List.{List, [], ◌∷◌}

@@ -1,6 +1,6 @@
 -- The other way round: where each layer of a grid of the right length is answered 0, so is the whole call. With `Layered`, a whole call on such a grid is refused
 -- exactly where one of its layers is. Assumes nothing.
-use Prim.Native.Nat.{ℕ, ◌+◌, ◌-◌, ◌*◌, ◌≤◌, ◌<◌, zero-le}
+use Prim.Native.Nat.{ℕ, ◌+◌, ◌-◌, ◌*◌, ◌≤◌, zero-le}
 use native.Mathlib.Nat.{add-zero, mul-zero, le_refl}
 use native.Mathlib.Omega.{arith}
 use mathlib.Core.Bool.{Bool, true, false, not, ◌||◌, cond}
@@ -19,7 +19,7 @@ use Rattle.rules.specs.Call.{bad_length, bad_layer, bad_distance, beyond}
 use Rattle.rules.proofs.Indexes.{within, in-box, box-within}
 use Rattle.rules.proofs.Accepted.{distances-ok, ok-distances}
 use Rattle.levels.specs.Columns.{columns, layer_level, changed}
-use Rattle.levels.specs.Call.{grid_of, bad_points, bad_distances, levels_answer, layer_answer, layer_after}
+use Rattle.levels.specs.Call.{grid_of, bad_points, levels_answer, layer_answer, layer_after}
 use Rattle.levels.proofs.Changed.{changed-length}
 use Rattle.levels.proofs.Answering.{Offered, layer-offered, levels-0}
 use Rattle.levelled_bed.specs.Layers.{layer_at, below_nth}

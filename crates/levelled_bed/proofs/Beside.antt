@@ -2,7 +2,6 @@
 -- is. Assumes nothing.
 use Prim.Native.Nat.{ℕ, ◌+◌, ◌*◌, ◌≤◌, ◌<◌}
 use native.Mathlib.Omega.{arith}
-use mathlib.Core.List.{List}
 use mathlib.Core.Path.{◌≡◌, sym, subst, ◌∙◌}
 use lib.Dec.{T}
 use lib.ListN.{length, get_or}
@@ -14,7 +13,7 @@ use Rattle.rules.specs.Call.{Call, Answer, Buffers}
 use Rattle.rules.proofs.FourCells.{Four}
 use Rattle.levels.specs.Call.{grid_of, levels_answer}
 use Rattle.levels.proofs.Answering.{Accepted, levels-accepted}
-use Rattle.levelled_bed.specs.Highest.{Highest, ToldFrom}
+use Rattle.levelled_bed.specs.Highest.{ToldFrom}
 use Rattle.levelled_bed.proofs.Told.{held_in}
 use Rattle.levelled_bed.proofs.Mesh.{Meshed, Beside, four-beside, one-step}
 use Rattle.levelled_bed.proofs.Calls.{Whole}

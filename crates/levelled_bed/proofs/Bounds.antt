@@ -1,14 +1,13 @@
 -- A level that is told from z is from z to z + 1: the fraction is from 0 to 1, and rounding is monotone. Assumes nothing.
-use Prim.Native.Nat.{ℕ, ◌+◌, ◌*◌, ◌^◌, ◌≤◌, ◌<◌, zero-le}
+use Prim.Native.Nat.{ℕ, ◌+◌, ◌*◌, ◌^◌, ◌≤◌, ◌<◌}
 use native.Mathlib.Nat.{le_trans, le_of_eq, mul_assoc, mul_comm, mul-one, add-mul, one-mul, mul-pos, le-add_right, mul-le-mul_right}
 use native.Mathlib.Omega.{arith}
-use mathlib.Core.Bool.{Bool, true, false, cond}
+use mathlib.Core.Bool.{Bool, true, false}
 use mathlib.Core.Path.{◌≡◌, sym, ap, subst, ◌∙◌}
 use lib.Dec.{T}
-use lib.IntN.{pos}
-use lib.Ieee.{Float, binary32, prec, of_int, add, round, unlike}
+use lib.Ieee.{Float, binary32, round, unlike}
 use lib.Ieee.Positive.{num, den, den_pos}
-use Rattle.rounding.specs.Values.{plain, weak, Share, Held, Between}
+use Rattle.rounding.specs.Values.{Share, Held, Between}
 use Rattle.rounding.proofs.Bounds.{up_to, at_least, holds-whole}
 use Rattle.rounding.proofs.Operations.{add_is}
 use Rattle.rounding.proofs.Whole.{whole_plain, whole-size}

@@ -1,6 +1,6 @@
 -- The theorems for calls as the contracts have them: a call on a whole grid, a call with one layer, layers one after the other, and one outcome for the same
 -- input. Functions, beside this, says which functions make such calls. Assumes nothing.
-use Prim.Native.Nat.{ℕ, zero, suc, ◌+◌, ◌-◌, ◌≤◌, ◌<◌}
+use Prim.Native.Nat.{ℕ, zero, suc, ◌+◌, ◌-◌, ◌≤◌}
 use native.Mathlib.Nat.{le_refl}
 use native.Mathlib.Omega.{arith}
 use mathlib.Core.Bool.{false}

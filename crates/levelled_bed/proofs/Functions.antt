@@ -1,10 +1,7 @@
 -- The calls of crate levels, those of the mesher, and the functions for C, as the calls that the theorems speak of. An outcome of a function that fits its contract
 -- is one of `Called`; `Learnt` of a function's Reads is what a caller learns from the function's own `ensures`. Assumes nothing.
 use Prim.Native.Nat.{ℕ, ◌≤◌}
-use mathlib.Core.List.{List}
 use mathlib.Core.Path.{◌≡◌}
-use lib.Ieee.{Float}
-use Rattle.rules.specs.Call.{Call, Answer, Buffers}
 use Rattle.grid.specs.Block.{point}
 use Rattle.grid.specs.Values.{as_floats}
 use Rattle.grid.proofs.Widths.{wholes-fit}
@@ -15,9 +12,8 @@ use Rattle.levels.specs.Call.{box_from}
 use Rattle.bed.specs.Boundary.{asked, said}
 use Rattle.bed.specs.Words12.{dims_asked, low_asked, high_asked}
 use Rattle.bed.proofs.Places.{Called, LevelsCall, LevelsCall16, LevelsCall8, LevelsLayerCall, LevelsLayerCall16, LevelsLayerCall8, NetsCall, NetsCall16, NetsCall8}
-use Rattle.levelled_bed.proofs.Told.{Levelled}
 use Rattle.levelled_bed.proofs.Mesh.{Meshed}
-use Rattle.levelled_bed.proofs.Calls.{Whole, Offer, whole-levelled, last_of, InTurn, each-answered, last-leaves}
+use Rattle.levelled_bed.proofs.Calls.{Whole, Offer, last_of, InTurn, each-answered, last-leaves}
 use Rattle.levels.proofs.levels.Kinds as levels-kinds
 use Rattle.levels.proofs.levels.Reads as levels
 use Rattle.levels.proofs.levels_i16.Kinds as levels-i16-kinds

@@ -1,20 +1,20 @@
 -- The layers of a grid that are offered one after the other, from min z to max z, leave the levels of the whole call: where that is accepted each of them is, and
 -- each leaves the levels of the columns so far. Assumes nothing.
-use Prim.Native.Nat.{ℕ, zero, suc, ◌+◌, ◌-◌, ◌*◌, ◌≤◌, ◌<◌, zero-le}
+use Prim.Native.Nat.{ℕ, zero, suc, ◌+◌, ◌-◌, ◌*◌, ◌≤◌, ◌<◌}
 use native.Mathlib.Nat.{le_trans, le_of_eq, add_comm, add-zero, mul-zero, mul-add, mul-one, mul-le-mul_left}
 use native.Mathlib.Omega.{arith}
 use mathlib.Core.Bool.{Bool, true, false, not, ◌||◌, cond}
 use mathlib.Core.List.{List, []}
-use mathlib.Core.Path.{◌≡◌, refl, sym, ap, ap₂, subst, ◌∙◌}
+use mathlib.Core.Path.{◌≡◌, refl, sym, ap, subst, ◌∙◌}
 use borrow.Author.Tests.{eq-eqb, ne_eqb, le-ltb}
 use lib.Dec.{T, eqb, ltb}
-use lib.ListN.{length, get_or, take, drop, length-drop}
+use lib.ListN.{length, get_or, drop, length-drop}
 use lib.Seq.{get_or-take, get_or-drop, length-take-le}
 use lib.Ieee.{Float, nan}
 use Rattle.lists.specs.Lists.{some, run, up_to}
 use Rattle.lists.proofs.Either.{or-none}
-use Rattle.lists.proofs.Tests.{is_false, failed}
-use Rattle.rules.specs.Grid.{GridPoint, Box, Field, index, value, in_box}
+use Rattle.lists.proofs.Tests.{failed}
+use Rattle.rules.specs.Grid.{GridPoint, Box, index, value, in_box}
 use Rattle.rules.specs.Faces.{layer_points}
 use Rattle.rules.specs.Call.{bad_layer, bad_distance, beyond}
 use Rattle.rules.proofs.Indexes.{BoxFits, within, in-box, box-fits, box-within, right-length}

@@ -3,22 +3,22 @@
 use Prim.Native.Nat.{ℕ, ◌+◌, ◌*◌, ◌≤◌, ◌<◌}
 use native.Mathlib.Nat.{le_trans, le_of_eq, mul-le-mul_right, mul_assoc, mul_comm, add-mul, one-mul}
 use native.Mathlib.Omega.{arith}
-use mathlib.Core.Bool.{Bool, true, false, not, ◌&&◌}
+use mathlib.Core.Bool.{Bool, true, false, ◌&&◌}
 use mathlib.Core.List.{List, map}
 use mathlib.Core.Path.{◌≡◌, refl, sym, ap, subst, ◌∙◌}
-use lib.Dec.{T, ltb, lt→ltb}
+use lib.Dec.{T, lt→ltb}
 use lib.ListN.{length, get_or, drop, length-map, get_or-map}
 use lib.Ieee.{Float, nan, binary32, fits, unlike}
 use lib.Ieee.Fits.{and_i}
 use lib.Ieee.Positive.{num, den}
-use Rattle.lists.specs.Lists.{one, many, place, over}
+use Rattle.lists.specs.Lists.{many, place, over}
 use Rattle.lists.proofs.Lists.{place-below, place-passes}
 use Rattle.lists.proofs.Tests.{one_of, failed}
 use Rattle.rounding.specs.Values.{Between}
-use Rattle.rules.specs.Grid.{GridPoint, Axis, axis_x, axis_y, axis_z, Box, Field, value, in_box, is_cell, same_point, step_up}
+use Rattle.rules.specs.Grid.{GridPoint, axis_x, axis_y, axis_z, Box, Field, value, in_box, is_cell, same_point, step_up}
 use Rattle.rules.specs.Cell.{Vector, negative}
 use Rattle.rules.specs.Vertices.{surface_cell, vertices, vertex_position}
-use Rattle.rules.specs.Faces.{Edge, Flags, all_three, edge, owned, changes, gives, above_low, inside_max}
+use Rattle.rules.specs.Faces.{Flags, all_three, edge, owned, changes, gives, above_low, inside_max}
 use Rattle.rules.specs.Call.{Call, Buffers, Answer, room, answer, flat_points, flat_vectors, written, afterwards}
 use Rattle.rules.specs.Cutting.{point_in}
 use Rattle.rules.proofs.Indexes.{is-cell}
@@ -26,12 +26,10 @@ use Rattle.rules.proofs.Counting.{same_point-sound, vertices-once}
 use Rattle.rules.proofs.Accepted.{done-counted}
 use Rattle.rules.proofs.Locality.{when-done}
 use Rattle.rules.proofs.Seen.{ThreeAt, three-at, three-over, length-points, length-vectors}
-use Rattle.rules.proofs.FourCells.{Four, four-in, four-on, gives-owned}
+use Rattle.rules.proofs.FourCells.{Four, four-in, four-on}
 use Rattle.cube.proofs.UnderCaps.{under-caps}
 use Rattle.levels.specs.Call.{grid_of}
 use Rattle.levels.proofs.Answering.{Accepted}
-use Rattle.levelled_bed.specs.Highest.{Highest}
-use Rattle.levelled_bed.proofs.Told.{held_in}
 
 abbrev origin : GridPoint
 origin = record { x = 0; y = 0; z = 0 }

@@ -26,8 +26,8 @@ use lib.Ieee.{Float, nan, binary32}
 use Rattle.lists.specs.Floats.{Binary32}
 use Rattle.lists.proofs.Tests.{failed}
 use Rattle.rounding.specs.Values.{plain, Held, Between}
-use Rattle.rules.specs.Grid.{GridPoint, Box, Field, index, value, in_box}
-use Rattle.rules.specs.Cell.{◌⊕◌, float, negative, fraction}
+use Rattle.rules.specs.Grid.{GridPoint, Box, index, value, in_box}
+use Rattle.rules.specs.Cell.{◌⊕◌, float, fraction}
 use Rattle.rules.proofs.Indexes.{in-box, box-fits, small, index_below}
 use Rattle.rules.proofs.Accepted.{distances-ok}
 use Rattle.cube.proofs.Finite.{not_beyond}
@@ -36,7 +36,7 @@ use Rattle.levels.specs.Columns.{across, columns, in_column, level_of, changed}
 use Rattle.levels.specs.Call.{grid_of, levels_answer, levels_after}
 use Rattle.levels.proofs.Changed.{changed-in}
 use Rattle.levels.proofs.Answering.{Accepted, levels-accepted}
-use Rattle.levelled_bed.specs.Highest.{Highest, NoneBelow, told_from, ToldFrom, NoneTold, Told}
+use Rattle.levelled_bed.specs.Highest.{Highest, NoneBelow, told_from, Told}
 use Rattle.levelled_bed.proofs.Columns.{Silent, Tells, column-told}
 use Rattle.levelled_bed.proofs.Bounds.{crossing-between, top-between}
 

@@ -3,16 +3,14 @@
 use Prim.Native.Nat.{ℕ, ◌*◌, ◌<◌, ◌≤◌}
 use native.Mathlib.Nat.{zero-add, mul-one, mul-le-mul_left, le_refl}
 use native.Mathlib.Omega.{arith}
-use mathlib.Core.Bool.{Bool, true, cond}
-use mathlib.Core.List.{List}
+use mathlib.Core.Bool.{Bool, cond}
 use mathlib.Core.Logic.{◌⊎◌, inl, inr}
 use mathlib.Core.Path.{◌≡◌, refl, sym, ap, ◌∙◌}
 use lib.Dec.{T, nltb→le}
 use lib.Ieee.Bits.{is_true}
 use lib.ListN.{length, get_or}
-use Rattle.lists.specs.Lists.{placed}
-use Rattle.rules.specs.Grid.{GridPoint, point_at, is_cell, in_box}
-use Rattle.rules.specs.Vertices.{null_vertex, cell_entry, edge_entry, map_entry}
+use Rattle.rules.specs.Grid.{point_at, is_cell, in_box}
+use Rattle.rules.specs.Vertices.{cell_entry, edge_entry, map_entry}
 use Rattle.rules.specs.Call.{Call, Buffers, room, answer, written}
 use Rattle.lists.proofs.Tests.{is_false, less-or-not}
 use Rattle.lists.proofs.Lists.{length-placed, get_d-placed}

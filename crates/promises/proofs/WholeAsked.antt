@@ -1,26 +1,23 @@
 -- The answer alone over 16-bit and over 8-bit whole numbers (document 02, request 5): it says what the answer alone over floats says on the grid of the floats
 -- of those numbers; and a question for C is answered as the call over the same numbers is, and tells enough to lend. By the laws of Asked. Assumes nothing.
-use Prim.Native.Nat.{ℕ, ◌≤◌}
+use Prim.Native.Nat.{◌≤◌}
 use mathlib.Core.List.{List}
 use mathlib.Core.Path.{◌≡◌}
-use lib.IntN.{ℤ}
 use lib.Ieee.{Float}
 use lib.ListN.{length, drop}
 use contract.Lifetimes.{Lfts}
 use borrow.Fn.Kinds.{Dens}
-use Rattle.rules.specs.Call.{Call, Room, Answer, answers, room}
-use Rattle.grid.specs.declared.Block.{Block}
+use Rattle.rules.specs.Call.{Call, Room, answers, room}
 use Rattle.grid.specs.Block.{call_of}
 use Rattle.grid.specs.Values.{as_floats}
-use Rattle.judge.specs.declared.Lengths.{Lengths}
 use Rattle.judge.specs.AsRules.{answer_of, room_of}
 use Rattle.judge.proofs.Judging.{Enough}
 use Rattle.bed.specs.Boundary.{asked, room_asked, said}
-use Rattle.bed.proofs.Places.{AskCall, AskCall16, AskCall8, grid_asked, answer-i16-by-place, answer-i8-by-place}
-use Rattle.promises.specs.Told.{Question, Tells, with_room}
+use Rattle.bed.proofs.Places.{AskCall, AskCall16, AskCall8, answer-i16-by-place, answer-i8-by-place}
+use Rattle.promises.specs.Told.{Question, Tells}
 use Rattle.promises.proofs.OneOutcome.{Outcome, FitsContract}
-use Rattle.promises.proofs.Asked.{same-said, question-answered, question-then-lent, question-then-done, bed_question}
-use Rattle.promises.proofs.WholeRuns.{BedSixteenRun, bed_sixteen_numbers, bed_sixteen_served, BedEightRun, bed_eight_numbers, bed_eight_served}
+use Rattle.promises.proofs.Asked.{same-said, question-answered, question-then-done, bed_question}
+use Rattle.promises.proofs.WholeRuns.{BedSixteenRun, bed_sixteen_served, BedEightRun, bed_eight_served}
 use Rattle.judge.proofs.answer_for.Kinds as float-kinds
 use Rattle.judge.proofs.answer_for.Reads as float
 use Rattle.judge.proofs.answer_for_i16.Kinds as sixteen-kinds

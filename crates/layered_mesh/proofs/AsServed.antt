@@ -1,11 +1,11 @@
 -- A bed taken layer by layer beside a whole call that was made: the same lists, and so the same faces and the same vertices read back from them. What is
 -- shown of those of a call, the closed cell, finite numbers, the law of cutting, the skin without a hole, is so shown of what the layers brought out.
 -- Assumes nothing.
-use Prim.Native.Nat.{ℕ, ◌*◌}
+use Prim.Native.Nat.{ℕ}
 use mathlib.Core.List.{List}
 use mathlib.Core.Path.{◌≡◌, sym, ap, subst, ◌∙◌}
 use lib.Ieee.{Float}
-use Rattle.rules.specs.Call.{Call, Buffers, Answer, answer, afterwards, room}
+use Rattle.rules.specs.Call.{Call, Answer, answer, afterwards, room}
 use Rattle.rules.specs.Cutting.{faces_seen, vertices_seen}
 use Rattle.grid.specs.declared.Block.{Block}
 use Rattle.grid.specs.Block.{call_of}

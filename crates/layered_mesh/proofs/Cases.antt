@@ -1,12 +1,12 @@
 -- Layers with numbers, computed by the kernel from the definitions: each answer, the order in which they are tried, the cap, and Ball in three layers.
 -- Assumes nothing.
-use Prim.Native.Nat.{ℕ, ◌+◌, ◌*◌, ◌^◌}
-use mathlib.Core.Bool.{Bool, true, false, cond, ◌&&◌}
+use Prim.Native.Nat.{ℕ, ◌*◌}
+use mathlib.Core.Bool.{Bool, true, false, ◌&&◌}
 use mathlib.Core.List.{List, [], ◌∷◌, ◌++◌, map}
-use mathlib.Core.Path.{◌≡◌, refl}
-use lib.Dec.{T, eqb}
+use mathlib.Core.Path.{refl}
+use lib.Dec.{T}
 use lib.IntN.{pos}
-use lib.ListN.{take, replicate, set}
+use lib.ListN.{replicate, set}
 use lib.Ieee.{Float, nan, fin, binary32, to_bits}
 use Rattle.rules.specs.Cell.{one32}
 use Rattle.rules.specs.Call.{Answer}
@@ -18,7 +18,7 @@ use Rattle.layer_vertices.specs.Marked.{layer_entry, last_entry, marked}
 use Rattle.layer_faces.specs.Below.{position_at, shorter_over, face_over, indices_over}
 use Rattle.layers.specs.declared.State.{State}
 use Rattle.layers.specs.Memory.{Memory, memory, bad_memory, start_answer}
-use Rattle.layers.specs.Offer.{begun, Output, output, room_in, Left, new_vertices, runs_on, new_indices, layer_answer, state_after, marked_out, brought_out, layer_kept, leaves}
+use Rattle.layers.specs.Offer.{begun, Output, output, room_in, new_vertices, runs_on, new_indices, layer_answer, state_after, marked_out, brought_out, layer_kept, leaves}
 use Rattle.layered_mesh.specs.Fed.{Offered, wrote, joined_with, nothing, Fed, started, taken}
 
 -- ---- the layers of Ball, and what is lent

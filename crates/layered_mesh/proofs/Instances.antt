@@ -1,11 +1,11 @@
 -- The theorems over a bed taken layer by layer at Ball's three layers, and at a box smaller than its grid: each theorem's premises are met by numbers, and what it then says is a
 -- number that document 01 gives. Assumes nothing.
-use Prim.Native.Nat.{ℕ, zero, suc, ◌+◌, ◌*◌, ◌<◌, ◌≤◌}
+use Prim.Native.Nat.{ℕ, zero, suc, ◌+◌, ◌≤◌}
 use native.Mathlib.Nat.{zero-add}
 use native.Mathlib.Omega.{arith}
 use mathlib.Core.Bool.{true, false}
 use mathlib.Core.List.{List, [], ◌∷◌, ◌++◌}
-use mathlib.Core.Logic.{inl, inr}
+use mathlib.Core.Logic.{inl}
 use mathlib.Core.Path.{◌≡◌, refl, sym, ap}
 use lib.Dec.{lit≤, lit<}
 use lib.Ieee.{Float}
@@ -24,7 +24,7 @@ use Rattle.skin.specs.Scan.{layer_enclosed, judged_layer, examined_layer, answer
 use Rattle.layers.specs.Memory.{memory, half_of, start_answer}
 use Rattle.layers.specs.Offer.{begun, Output, room_in}
 use Rattle.layered_mesh.specs.Fed.{Offered, wrote, joined_with, nothing, layer_of, Fed, started, taken}
-use Rattle.layered_mesh.proofs.Cases.{extent, block, ball, flat, middle, enough, room, layers_opened, grid, made, first, second, third, ball-fed}
+use Rattle.layered_mesh.proofs.Cases.{extent, block, ball, middle, enough, room, layers_opened, grid, made, first, second, ball-fed}
 use Rattle.layered_mesh.proofs.Again.{offered-again}
 use Rattle.layered_mesh.proofs.Taken.{AsLong, InTurn, out_at, all-taken, all-out}
 use Rattle.layered_mesh.proofs.SoFar.{so-far-begins}

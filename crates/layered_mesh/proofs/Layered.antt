@@ -4,7 +4,7 @@ use Prim.Native.Nat.{ℕ, zero, suc, ◌+◌, ◌-◌, ◌*◌, ◌≤◌, ◌<�
 use native.Mathlib.Nat.{zero-add}
 use native.Mathlib.Omega.{arith}
 use mathlib.Core.Bool.{Bool, true, false, not, cond}
-use mathlib.Core.List.{List, ◌++◌, map}
+use mathlib.Core.List.{List, map}
 use mathlib.Core.Logic.{◌⊎◌, inl, inr}
 use mathlib.Core.Path.{◌≡◌, refl, sym, ap, ap₂, subst, ◌∙◌}
 use borrow.Author.Tests.{le-ltb, le-leb}
@@ -14,10 +14,10 @@ use lib.Ieee.Bits.{is_true}
 use lib.ListN.{length, get_or, take, drop, length-map}
 use lib.Seq.{take_at}
 use Rattle.lists.specs.Lists.{over}
-use Rattle.rules.specs.Grid.{GridPoint, Field, index, is_cell, in_box}
+use Rattle.rules.specs.Grid.{GridPoint, index, is_cell, in_box}
 use Rattle.rules.specs.Vertices.{vertices, vertex_position, vertex_normal, vertex_crossings, null_vertex, cell_entry, map_entry}
 use Rattle.rules.specs.Faces.{indices}
-use Rattle.rules.specs.Call.{Call, Buffers, Answer, Room, room, answers, answer, room_answer, bad_distance, vertex_count, index_count, written, afterwards, flat_vectors}
+use Rattle.rules.specs.Call.{Buffers, Answer, Room, room, answers, answer, room_answer, bad_distance, vertex_count, index_count, written, afterwards, flat_vectors}
 use Rattle.rules.specs.Call.{flat_points, bad_dimensions, bad_box}
 use Rattle.lists.proofs.Tests.{failed, is_false, less-or-not}
 use Rattle.lists.proofs.Lists.{get_d-placed}
@@ -36,7 +36,7 @@ use Rattle.layers.specs.Offer.{begun, Output, output, room_in, Left, finished, l
 use Rattle.layers.proofs.Halves.{half-again}
 use Rattle.layers.proofs.Judging.{layer-8}
 use Rattle.layers.proofs.Left.{refused-state, refused-left}
-use Rattle.layered_mesh.specs.Fed.{Offered, first_of, wrote, joined_with, nothing, map_apart, layer_of, Fed, started, taken, refused, points_in_z}
+use Rattle.layered_mesh.specs.Fed.{Offered, first_of, joined_with, nothing, map_apart, layer_of, Fed, started, taken, refused, points_in_z}
 use Rattle.layered_mesh.proofs.Step.{mesh_of, mesh_to, Shows, Blank, Good, Holds, state-next, left-next, mesh-next, holds-next, state-first, left-first, mesh-first}
 use Rattle.layered_mesh.proofs.Step.{holds-first}
 

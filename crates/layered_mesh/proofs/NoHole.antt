@@ -2,13 +2,12 @@
 -- each directed triangle side occurs as often as its reverse. Over the contracts of the test, that for C too; and two outcomes that fit one of these are equal. Assumes
 -- nothing.
 use Prim.Native.Nat.{ℕ, ◌≤◌}
-use mathlib.Core.Bool.{Bool, true}
+use mathlib.Core.Bool.{true}
 use mathlib.Core.List.{List}
 use mathlib.Core.Path.{◌≡◌, sym, ap, subst, ◌∙◌}
 use lib.Ieee.{Float}
 use lib.ListN.{length}
 use Rattle.lists.specs.Lists.{many}
-use Rattle.grid.specs.declared.Extent.{Extent}
 use Rattle.grid.specs.declared.Block.{Block}
 use Rattle.grid.specs.Block.{box_of, flags_of, field_of}
 use Rattle.grid.specs.Inside.{Inside}

@@ -14,7 +14,7 @@ use lib.Seq.{sets, length-sets}
 use Rattle.lists.specs.Lists.{up_to, joined, placed}
 use Rattle.rules.specs.Grid.{GridPoint, Box, Field, index, is_cell, in_box, value}
 use Rattle.rules.specs.Vertices.{surface_cell, layer_vertices, first_vertex, vertex_number, vertex_position, vertex_normal, vertex_crossings, null_vertex, cell_entry, map_entry}
-use Rattle.rules.specs.Faces.{Flags, layer_indices}
+use Rattle.rules.specs.Faces.{layer_indices}
 use Rattle.rules.specs.Call.{Answer, beyond, flat_vectors, flat_points}
 use Rattle.lists.proofs.Tests.{failed, less-or-not}
 use Rattle.rules.proofs.Accepted.{distances-ok}
@@ -29,7 +29,7 @@ use Rattle.grid.specs.Layers.{in_layer, layer_dist, two_layers}
 use Rattle.grid.proofs.Bounds.{fits}
 use Rattle.grid.proofs.Layers.{in-plane}
 use Rattle.grid.proofs.Slab.{slab, layer-alike, positions-alike}
-use Rattle.layer_vertices.specs.Marked.{Lists, lists, marked, cell_number, layer_entry, last_entry}
+use Rattle.layer_vertices.specs.Marked.{lists, marked, cell_number, layer_entry, last_entry}
 use Rattle.layer_vertices.proofs.Alike.{marked-alike}
 use Rattle.layer_vertices.proofs.Entries.{place-back}
 use Rattle.layer_vertices.proofs.Passing.{vectors-append, points-append}
@@ -42,8 +42,8 @@ use Rattle.layers.specs.declared.State.{State}
 use Rattle.layers.specs.Memory.{Memory, memory, plane, half, half_of, put_half}
 use Rattle.layers.specs.Offer.{begun, Output, bad_points, output, with_indices, room_in, Left, left, before, cells_at, between, new_vertices, new_first, kept_below, new_indices, new_lists}
 use Rattle.layers.specs.Offer.{with_half}
-use Rattle.layers.specs.Offer.{put_back, marked_out, brought_out, cleared, layer_kept, layer_answer, state_after, leaves}
-use Rattle.layers.specs.Ready.{Ready, Roomy}
+use Rattle.layers.specs.Offer.{marked_out, cleared, layer_kept, layer_answer, state_after, leaves}
+use Rattle.layers.specs.Ready.{Roomy}
 use Rattle.layers.proofs.Halves.{sets-front, half_length, half-here, half-apart, half-again}
 use Rattle.layers.proofs.Judging.{flat, flat-points}
 use Rattle.layers.proofs.Cells.{runs_on_lem, vertices-first, vertices-later, indices-first, indices-later, vertices-few}

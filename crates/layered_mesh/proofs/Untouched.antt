@@ -4,7 +4,7 @@
 use Prim.Native.Nat.{ℕ, ◌+◌, ◌-◌, ◌*◌, ◌/◌, ◌%◌, ◌≤◌, ◌<◌}
 use native.Mathlib.Nat.{zero-add}
 use native.Mathlib.Omega.{arith}
-use mathlib.Core.Bool.{Bool, not, ◌&&◌}
+use mathlib.Core.Bool.{Bool, ◌&&◌}
 use mathlib.Core.List.{List, map}
 use mathlib.Core.Logic.{◌⊎◌, inl, inr}
 use mathlib.Core.Path.{◌≡◌, refl, sym, ap, subst, ◌∙◌}
@@ -17,8 +17,7 @@ use Rattle.lists.specs.Lists.{placed}
 use Rattle.lists.proofs.Tests.{less-or-not, is_false}
 use Rattle.lists.proofs.Lists.{length-placed, get_d-placed}
 use Rattle.rules.specs.Grid.{GridPoint, Field, index, in_box, is_cell, between}
-use Rattle.rules.specs.Vertices.{vertices, layer_vertices, vertex_position, vertex_normal, vertex_crossings}
-use Rattle.rules.specs.Faces.{indices}
+use Rattle.rules.specs.Vertices.{layer_vertices, vertex_position, vertex_normal, vertex_crossings}
 use Rattle.rules.specs.Call.{Answer, flat_vectors, flat_points}
 use Rattle.rules.proofs.Seen.{length-points, length-vectors}
 use Rattle.rules.proofs.Indexes.{cell-in-box}

@@ -1,12 +1,12 @@
 -- The fifteen numbers that C keeps of a state are that state: after a start, after an offer, and after a refusal, which changes none of them. So the calls
 -- for C make the runs that the theorem is about. Assumes nothing.
-use Prim.Native.Nat.{ℕ, ◌<◌, ◌≤◌}
+use Prim.Native.Nat.{ℕ, ◌<◌}
 use native.Mathlib.Omega.{arith}
 use mathlib.Core.Bool.{Bool, true, false, not, cond}
-use mathlib.Core.List.{List, [], ◌∷◌}
+use mathlib.Core.List.{List}
 use mathlib.Core.Path.{◌≡◌, refl, sym, ap, ◌∙◌}
 use lib.Dec.{eqb}
-use lib.ListN.{length, get_or, set, length-set}
+use lib.ListN.{length, set, length-set}
 use lib.Seq.{set-get_or, get_or-set_same, get_or-set_other}
 use lib.Ieee.{Float}
 use Rattle.lists.specs.Lists.{one}

@@ -8,7 +8,6 @@ use Rattle.lists.specs.Lists.{joined, over}
 use Rattle.lists.proofs.Lists.{All}
 use Rattle.mesh_file.specs.Mesh.{Mesh, mesh, vertex_count, triangle_count, file_of, file_length, mesh_words}
 use Rattle.mesh_file.specs.Writing.{wrote}
-use Rattle.mesh_file.specs.declared.Read.{Read}
 use Rattle.mesh_record.proofs.put_record.Kinds as put-record-kinds
 use Rattle.mesh_record.proofs.put_record.Reads as put_record
 use Rattle.mesh_file.proofs.check_file.Kinds as check-file-kinds

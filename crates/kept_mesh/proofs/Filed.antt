@@ -1,19 +1,17 @@
 -- Request 2 over what the contracts say, of any write and any read (specs/Filed): a write that answers 0 and then a read; a shorter beginning; a read that
 -- answers 0 and then a write; a check and then a read. No premise but that the calls answered so and that one's bytes are the other's. Assumes nothing.
-use Prim.Native.Nat.{ℕ, ◌+◌, ◌*◌, ◌/◌, ◌≤◌, ◌<◌}
+use Prim.Native.Nat.{ℕ, ◌+◌, ◌*◌, ◌≤◌, ◌<◌}
 use native.Mathlib.Omega.{arith}
 use mathlib.Core.Path.{◌≡◌, refl, sym, ap, ap₂, ◌∙◌, subst}
 use mathlib.Core.Bool.{false}
 use mathlib.Core.List.{List}
 use lib.ListN.{length, take, drop}
-use lib.Ieee.{Float}
 use lib.Seq.{take_at, take-take}
 use Rattle.lists.specs.Lists.{over}
-use Rattle.mesh_file.specs.Record.{each}
 use Rattle.mesh_file.specs.Mesh.{Mesh, mesh, vertex_count, triangle_count, file_of, file_length}
 use Rattle.mesh_file.specs.Reading.{Progress, reading, whole, refused, read_of, read_answer, checked, short_room, reading_in}
 use Rattle.mesh_file.specs.Reading.{floats_at, numbers_at, floats_of, indices_of, mesh_in, over_mesh, filled_in}
-use Rattle.mesh_file.specs.Writing.{wrote, writing, write_answer, written}
+use Rattle.mesh_file.specs.Writing.{wrote, write_answer, written}
 use Rattle.mesh_file.specs.declared.Read.{Read}
 use Rattle.mesh_file.specs.declared.Wrote.{Wrote}
 use Rattle.mesh_record.proofs.Laying.{each-length}

@@ -1,7 +1,6 @@
 -- "It goes record by record and the first fault answers", of the reader's own functions: the steps of `next` and `moved` from the start of a file, each
 -- where the one before ended, come to what `check` answers, and they do come to an end. Assumes nothing.
 use Prim.Native.Nat.{ℕ, zero, suc, ◌+◌, ◌*◌, ◌≤◌, zero-le}
-use native.Mathlib.Numerals.{add-one}
 use native.Mathlib.Omega.{arith}
 use mathlib.Core.Path.{◌≡◌, refl, sym, ap, ap₂, ◌∙◌, subst}
 use mathlib.Core.Bool.{Bool, true, false, cond}
@@ -20,7 +19,7 @@ use contract.Monad.{Fun, fact}
 use denote.Ref.{Bor}
 use denote.Triple.Entry.{Args}
 use Rattle.mesh_file.specs.Record.{word_at}
-use Rattle.mesh_file.specs.Reading.{words_at, cut, fault_of, Found, good, faulty, numbers_of, found_of, found_at, seen, read_of, read_answer, checked}
+use Rattle.mesh_file.specs.Reading.{words_at, cut, fault_of, good, faulty, numbers_of, found_of, found_at, seen, read_of, read_answer, checked}
 use Rattle.mesh_file.specs.declared.Read.{Read}
 use Rattle.mesh_file.specs.declared.Reader.{Reader}
 use Rattle.mesh_record.specs.declared.Words.{Words}

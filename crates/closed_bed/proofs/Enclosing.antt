@@ -1,6 +1,6 @@
 -- Every closed grid is enclosed in its whole box: what is negative there is a point of the open grid, and these lie "from min + 1 to max - 2 on each axis"
 -- (document 02, request 8). So the test says yes. Assumes nothing.
-use Prim.Native.Nat.{ℕ, ◌+◌, ◌-◌, ◌*◌, ◌≤◌}
+use Prim.Native.Nat.{ℕ, ◌*◌, ◌≤◌}
 use native.Mathlib.Nat.{zero-mul}
 use native.Mathlib.Omega.{arith}
 use mathlib.Core.Bool.{Bool, true, false, not, ◌&&◌, cond, true≢false}

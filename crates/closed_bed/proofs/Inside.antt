@@ -1,6 +1,6 @@
 -- A cell none of whose corners is in the border has the eight distances that the open grid's cell has, one step down on each axis: so it is a surface cell where that one is, with the same
 -- crossings, centroid and normal. Closing changes nothing inside. Assumes nothing.
-use Prim.Native.Nat.{ℕ, ◌+◌, ◌-◌, ◌*◌, ◌/◌, ◌%◌, ◌≤◌, ◌<◌}
+use Prim.Native.Nat.{ℕ, ◌+◌, ◌-◌, ◌/◌, ◌%◌, ◌≤◌, ◌<◌}
 use native.Mathlib.Omega.{arith}
 use mathlib.Core.Bool.{◌&&◌}
 use mathlib.Core.List.{List}
@@ -16,7 +16,6 @@ use Rattle.rules.proofs.Indexes.{in-box, same_point_lem}
 use Rattle.closing.specs.Closed.{closed_dims, in_open, open_point, open_field, closed_list}
 use Rattle.closed_bed.specs.Standing.{whole_box, Inside}
 use Rattle.closed_bed.proofs.Values.{closed-point, value-open}
-use Rattle.closed_bed.proofs.Sides.{side_of}
 use Rattle.closed_bed.proofs.Standing.{corner-along}
 use Rattle.closed_bed.proofs.Tank.{all-eight, side-few}
 

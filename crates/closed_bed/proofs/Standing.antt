@@ -15,7 +15,7 @@ use Rattle.lists.specs.Floats.{Binary32}
 use Rattle.lists.proofs.Tests.{is_false, failed, nor-left, nor-right}
 use Rattle.lists.proofs.Lists.{All, all_then}
 use Rattle.rules.specs.Grid.{GridPoint, Axis, axis_x, axis_y, axis_z, Field, along, index, in_box, is_cell, value}
-use Rattle.rules.specs.Cell.{float, negative, corner, corner_of, values, position}
+use Rattle.rules.specs.Cell.{float, negative, corner, corner_of, values}
 use Rattle.rules.specs.Vertices.{surface_cell, vertices}
 use Rattle.rules.specs.Call.{bad_dimension, bad_dimensions, bad_distance}
 use Rattle.grid.proofs.Tests.{positive-dimension}

@@ -1,9 +1,9 @@
 -- A full tank: every distance is below zero. Then every vertex of the closed grid is one of a cell of the border, on some axis at 0 or at the open grid's last
 -- point, so that by Standing it lies on the surface of the tank's box. And in no grid is there a vertex beyond the outermost points. Assumes nothing.
-use Prim.Native.Nat.{ℕ, zero, ◌+◌, ◌≤◌, ◌<◌}
+use Prim.Native.Nat.{ℕ, ◌+◌, ◌≤◌, ◌<◌}
 use native.Mathlib.Nat.{le_trans, le_of_eq}
 use native.Mathlib.Omega.{arith}
-use mathlib.Core.Bool.{true, false, not, ◌&&◌, true≢false}
+use mathlib.Core.Bool.{true, ◌&&◌, true≢false}
 use mathlib.Core.List.{List}
 use mathlib.Core.Logic.{◌⊎◌, inl, inr}
 use mathlib.Core.Path.{◌≡◌, refl, sym, ap, subst, ◌∙◌}

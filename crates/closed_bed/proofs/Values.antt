@@ -13,7 +13,6 @@ use Rattle.rules.specs.Grid.{GridPoint, Field, index, in_box, value}
 use Rattle.rules.specs.Cell.{zero32}
 use Rattle.rules.specs.Call.{beyond}
 use Rattle.rules.proofs.Indexes.{within, volume, point-back}
-use Rattle.grid.specs.Block.{point}
 use Rattle.closing.specs.Closed.{closed_dims, point_count, in_open, open_point, open_field, closed_value, closed_field, closed_list}
 use Rattle.closing.specs.Answers.{bad_wall, close_answer, closed_room}
 use Rattle.closing.specs.Runs.{spread}

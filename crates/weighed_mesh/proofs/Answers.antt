@@ -6,7 +6,7 @@ use mathlib.Core.List.{List, [], ◌∷◌, ◌++◌}
 use mathlib.Core.Path.{◌≡◌, refl, sym, ap, ap₂, subst, ◌∙◌}
 use borrow.Author.Tests.{leb-false}
 use lib.Dec.{T}
-use lib.IntN.{ℤ, neg_ℤ, nat_abs, ◌+ℤ◌}
+use lib.IntN.{neg_ℤ, nat_abs, ◌+ℤ◌}
 use lib.ListN.{length, get_or}
 use lib.Ieee.{Float, nan}
 use Rattle.lists.specs.Lists.{some}

@@ -1,12 +1,11 @@
 -- The sum over the index list of a mesh is the sum over the faces that its edges define: each edge's two triangles, their corners by the rules alone.
 -- Assumes nothing.
-use Prim.Native.Nat.{ℕ, ◌+◌, ◌*◌, ◌%◌, ◌<◌}
-use native.Mathlib.Omega.{arith}
+use Prim.Native.Nat.{ℕ, ◌%◌}
 use mathlib.Core.List.{List, [], ◌∷◌, ◌++◌, map, map-map}
-use mathlib.Core.Path.{◌≡◌, refl, sym, ap, ap₂, subst, ◌∙◌}
+use mathlib.Core.Path.{◌≡◌, refl, sym, ap, ap₂, ◌∙◌}
 use lib.Dec.{T}
 use lib.IntN.{ℤ, pos, ◌+ℤ◌, +ℤ_assoc, +ℤ_comm, +ℤ_idl}
-use lib.ListN.{length, get_or, length-map, get_or-map}
+use lib.ListN.{length, length-map, get_or-map}
 use lib.Ieee.{Float, nan}
 use Rattle.lists.specs.Lists.{joined, place}
 use Rattle.rules.specs.Grid.{GridPoint, Box, Field, same_point, is_cell}

@@ -8,14 +8,14 @@ use lib.Count.{count_trailing_zeros}
 use lib.Dec.{eqb}
 use lib.IntN.{ℤ, pos, negsuc}
 use lib.ListN.{get_or, take, drop}
-use lib.Ieee.{Float, nan, fin, binary32, add, sub, mul, div, lt, of_int, round, size, units, odd, neg, sum, span, climb}
+use lib.Ieee.{Float, fin, binary32, add, sub, mul, div, lt, of_int, round, size, units, odd, neg, sum, span, climb}
 use Rattle.lists.specs.Lists.{run, up_to, keep, many, some, joined, place}
 use Rattle.rules.specs.Grid.{GridPoint, axis_x, Box, Field, index}
-use Rattle.rules.specs.Cell.{one32, float, fraction, point_between, crossing_point, crossing_points, summed, crossings, centroid, position}
+use Rattle.rules.specs.Cell.{one32, fraction, point_between, crossing_point, crossing_points, summed, crossings, centroid, position}
 use Rattle.rules.specs.Vertices.{row_cells, layer_cells, layer_vertices, vertices, first_vertex, vertex_position}
-use Rattle.rules.specs.Faces.{Edge, edge, Flags, all_three, owned, changes, cell_edges, layer_edges, edges, shorter, face_cells, layer_indices, indices}
+use Rattle.rules.specs.Faces.{edge, all_three, owned, changes, cell_edges, layer_edges, edges, shorter, face_cells, layer_indices, indices}
 use Rattle.rules.specs.Call.{flat_vectors}
-use Rattle.rules.specs.Cutting.{Face, face_of, Corner as Seen}
+use Rattle.rules.specs.Cutting.{face_of, Corner as Seen}
 use Rattle.volume.specs.Steps.{steps}
 use Rattle.volume.specs.Volume.{determinant, sum_over, sixfold}
 use Rattle.weighed_mesh.specs.Facing.{steps_of, areas, face_area}

@@ -10,7 +10,7 @@ use mathlib.Core.Path.{◌≡◌, refl, sym, ap, ap₂, ◌∙◌}
 use lib.Dec.{T, ltb, nltb→le}
 use lib.IntN.{ℤ, pos, negsuc, nat_abs, ◌+ℤ◌, ◌-ℤ◌, pos-ne-negsuc}
 use Rattle.lists.proofs.Lists.{All, none, more, all_then, total}
-use Rattle.skin.specs.Links.{Link, link, links}
+use Rattle.skin.specs.Links.{Link, links}
 use Rattle.volume.specs.declared.Corner.{Corner}
 use Rattle.volume.specs.Volume.{corner, falling, rising, determinant, sum_over}
 use Rattle.volume.proofs.Whole.{minus_plus, minus-same}

@@ -1,15 +1,15 @@
 -- Sums over the directed sides of a list of triangles: where each side occurs as often as its reverse, a sum over the sides is the sum over their
 -- reverses. Assumes nothing.
-use Prim.Native.Nat.{ℕ, ◌+◌}
+use Prim.Native.Nat.{ℕ}
 use native.Mathlib.Omega.{arith}
 use mathlib.Core.Bool.{Bool, true, false, ◌&&◌}
 use mathlib.Core.List.{List, [], ◌∷◌, map}
-use mathlib.Core.Path.{◌≡◌, refl, sym, ap, ◌∙◌}
+use mathlib.Core.Path.{◌≡◌, refl, sym, ◌∙◌}
 use lib.Dec.{eqb}
 use Rattle.lists.specs.Lists.{many}
 use Rattle.lists.proofs.Lists.{total, many-map, many-same, all-each}
 use Rattle.lists.proofs.Permutation.{Perm, nil, skip, swap, trans, perm-counts}
-use Rattle.skin.specs.Links.{Link, link, reverse, same_link, links}
+use Rattle.skin.specs.Links.{Link, link, reverse, same_link}
 use Rattle.skin.proofs.Closed.{same_link-sound, same_link-itself}
 
 -- each directed side occurs exactly as often as its reverse

@@ -1,10 +1,10 @@
 -- README: "A triangle that faces the wrong way subtracts sludge". Which way a face faces: its corners in steps, seen along its edge, in the plane of the two
 -- other axes B and C. Definitions only. Assumes nothing.
-use Rattle.std.specs.Prelude.{ℕ, ◌+◌, ◌*◌, Bool, not, List, [], ◌∷◌, map, T, ℤ, pos, ◌+ℤ◌, ◌-ℤ◌, ◌*ℤ◌, ◌≤ℤ◌}
+use Rattle.std.specs.Prelude.{ℕ, ◌+◌, ◌*◌, not, List, [], ◌∷◌, map, T, ℤ, pos, ◌+ℤ◌, ◌-ℤ◌, ◌*ℤ◌, ◌≤ℤ◌}
 use Rattle.rules.specs.Grid.{GridPoint, Axis, axis_x, axis_y, axis_z, Field, along, value}
 use Rattle.rules.specs.Cell.{Vector, negative}
 use Rattle.rules.specs.Vertices.{vertex_position}
-use Rattle.rules.specs.Faces.{Edge, axis_b, axis_c, cell1, cell2, cell3, cell4}
+use Rattle.rules.specs.Faces.{axis_b, axis_c, cell1, cell2, cell3, cell4}
 use Rattle.rules.specs.Cutting.{Face, Corner as Seen}
 use Rattle.volume.specs.declared.Corner.{Corner}
 use Rattle.volume.specs.Steps.{steps}

@@ -1,16 +1,15 @@
 -- "The mesher then reads that grid": what the conditions 1 to 5 of document 01 let pass before the cut they let pass after it, whatever the cut answers.
 -- Assumes nothing.
 use Prim.Native.Nat.{ℕ, ◌<◌}
-use native.Mathlib.Omega.{arith}
 use mathlib.Core.Bool.{not}
 use mathlib.Core.List.{List}
-use mathlib.Core.Path.{◌≡◌, sym, subst}
+use mathlib.Core.Path.{sym, subst}
 use mathlib.Core.Logic.{⊎_elim}
 use lib.Dec.{T}
 use lib.ListN.{length, get_or}
 use lib.Ieee.{Float, nan}
-use Rattle.rules.specs.Grid.{GridPoint, Box, Field, index, in_box, value}
-use Rattle.rules.specs.Call.{beyond, bad_box, bad_length, bad_map, bad_distance}
+use Rattle.rules.specs.Grid.{GridPoint, Box, Field, index}
+use Rattle.rules.specs.Call.{bad_box, bad_length, bad_map, bad_distance}
 use Rattle.rules.proofs.Indexes.{box-within, volume, right-length}
 use Rattle.rules.proofs.Accepted.{Accepted, distances-ok, ok-distances}
 use Rattle.fixtures.specs.Cut.{cut_answer, cut_grid}

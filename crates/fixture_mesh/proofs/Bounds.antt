@@ -1,19 +1,18 @@
 -- A fixture's value is finite and at most 2^25 in magnitude at every point whose coordinates are at most 2^24, as those of every accepted grid are: the floats of
 -- a box and the coordinates are at most 2^24, a difference rounds to at most their sum, and joining only picks or negates. So what is cut is finite where the grid
 -- was, and within the mesher's cap. Assumes nothing.
-use Prim.Native.Nat.{ℕ, ◌+◌, ◌*◌, ◌/◌, ◌%◌, ◌^◌, ◌≤◌, ◌<◌}
+use Prim.Native.Nat.{ℕ, ◌+◌, ◌*◌, ◌/◌, ◌^◌, ◌≤◌, ◌<◌}
 use native.Mathlib.Nat.{mod-lt, div-lt_iff_lt-mul, mul_comm, mul-le-mul_left}
 use native.Mathlib.Omega.{arith}
 use mathlib.Core.Bool.{Bool, true, false, not, ◌||◌, cond}
 use mathlib.Core.List.{List}
-use mathlib.Core.Path.{◌≡◌, refl, sym, ap, subst, ◌∙◌}
-use mathlib.Core.Logic.{◌⊎◌, inl, inr, ⊎_elim}
-use lib.Dec.{T, eqb, ltb, lit≤, lit<, nltb→le}
+use mathlib.Core.Path.{◌≡◌, sym, subst}
+use mathlib.Core.Logic.{⊎_elim}
+use lib.Dec.{T, eqb, lit≤, lit<, nltb→le}
 use lib.IntN.{pos}
 use lib.ListN.{length, get_or}
 use lib.Ieee.{Float, nan, inf, fin, up, down, binary32, sub, of_int, lt, neg}
 use lib.Ieee.Scale.{finite}
-use lib.Ieee.Positive.{num, den}
 use Rattle.rules.specs.Grid.{GridPoint, point_at}
 use Rattle.rules.specs.Cell.{Vector, minus}
 use Rattle.rules.specs.Call.{cap, beyond, bad_dimensions}

@@ -1,11 +1,10 @@
 -- One layer, by numbers: the layers of Cases' row of dimensions 1, 2, 3, whose grid after the cut was worked out by another reading of the request, and the answers
 -- 81, 82 and 3 in their order. Computed by the kernel from the definitions. Assumes nothing.
 use Prim.Native.Nat.{ℕ}
-use mathlib.Core.List.{List, [], ◌∷◌, ◌++◌, map}
+use mathlib.Core.List.{List, [], ◌∷◌, map}
 use mathlib.Core.Path.{◌≡◌, refl}
-use lib.IntN.{ℤ, pos, negsuc}
+use lib.IntN.{pos, negsuc}
 use lib.Count.{count_trailing_zeros}
-use lib.ListN.{length, get_or}
 use lib.Ieee.{Float, binary32, add, sub, mul, div, lt, neg, of_int, round, size, units, odd, sum, span, climb, of_bits, of_fields}
 use Rattle.lists.specs.Lists.{run, joined, placed}
 use Rattle.rules.specs.Grid.{GridPoint}

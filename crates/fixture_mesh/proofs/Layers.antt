@@ -1,25 +1,23 @@
 -- All layers of a grid, each cut at its own z, one behind the other are the grid cut at once, and each is answered as the grid is. And a layer of whole numbers, cut
 -- into floats, is the layer of those floats, cut in its place. Assumes nothing.
-use Prim.Native.Nat.{ℕ, zero, suc, ◌+◌, ◌-◌, ◌*◌, ◌≤◌, ◌<◌}
+use Prim.Native.Nat.{ℕ, zero, suc, ◌+◌, ◌*◌, ◌≤◌, ◌<◌}
 use native.Mathlib.Nat.{mul-le-mul_left, mul-add, mul-one, mul-zero, zero-add}
 use native.Mathlib.Numerals.{add-one}
 use native.Mathlib.Omega.{arith}
-use mathlib.Core.Bool.{Bool, true, false, not, cond}
+use mathlib.Core.Bool.{Bool, true, false, cond}
 use mathlib.Core.List.{List, [], ◌∷◌, ◌++◌}
-use mathlib.Core.Logic.{◌⊎◌, inl, inr, ⊎_elim}
+use mathlib.Core.Logic.{⊎_elim}
 use mathlib.Core.Path.{◌≡◌, refl, sym, ap, ap₂, subst, ◌∙◌}
-use borrow.Author.Tests.{ltb-false}
-use lib.Dec.{T, ltb, eqb}
 use lib.ListN.{length, take, drop, length-drop}
 use lib.Seq.{length-take-le, take-length, take-add}
 use lib.Ieee.{Float}
-use Rattle.lists.specs.Lists.{run, joined, placed, over}
+use Rattle.lists.specs.Lists.{run, joined, placed}
 use Rattle.lists.proofs.Lists.{joined_snoc}
 use Rattle.rules.specs.Grid.{GridPoint, point_at}
 use Rattle.rules.specs.Call.{bad_dimensions, bad_length}
 use Rattle.rules.proofs.Indexes.{right-length}
 use Rattle.fixtures.specs.Solid.{file_at}
-use Rattle.fixtures.specs.Cut.{floats, file_answer, cut, cut_from, cut_all, cut_answer, cut_grid}
+use Rattle.fixtures.specs.Cut.{floats, file_answer, cut, cut_all, cut_answer, cut_grid}
 use Rattle.fixtures.specs.Layer.{plane, layer_answer, cut_layer}
 use Rattle.fixtures.proofs.Heads.{is-not}
 use Rattle.fixtures.proofs.Placing.{placed-append}

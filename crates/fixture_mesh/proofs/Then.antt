@@ -6,7 +6,7 @@ use mathlib.Core.Bool.{false}
 use mathlib.Core.List.{List, []}
 use mathlib.Core.Path.{◌≡◌, sym, ap, ap₂, subst, ◌∙◌}
 use contract.Lifetimes.{Lfts}
-use denote.Ref.{Bor}
+use denote.Ref.{Bor, MutBor}
 use borrow.Fn.Kinds.{Dens}
 use lib.ListN.{length}
 use lib.Ieee.{Float}
@@ -68,12 +68,16 @@ extent x y z = record { x = x; y = y; z = z }
 abbrev to : {X : Type 0} → X → Bor X
 to x = record { ref_ptr = (0, 0); now = x }
 
+-- for writing
+abbrev lent : {X : Type 0} → X → MutBor X
+lent x = record { ref_ptr = (0, 0); ghost_name = 0; now = x }
+
 -- answered 0, and the grid that Cases has
 abbrev pub raked : CutRun
 raked =
     record {
       lifetimes = ([], ([], tt));
-      args = (to (file rake), (extent 5 5 5, (to (floats_of rake.grid), tt)));
+      args = (to (file rake), (extent 5 5 5, (lent (floats_of rake.grid), tt)));
       outcome = record { result = 0; last = (tt, (tt, (floats_of rake.after, tt))) };
       fits = (sym rake-holds.0, sym rake-holds.1);
     }

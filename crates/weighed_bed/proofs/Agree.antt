@@ -7,7 +7,7 @@ use mathlib.Core.Path.{◌≡◌, refl, sym, ap, ap₂, subst, ◌∙◌}
 use lib.IntN.{ℤ, pos, ◌+ℤ◌, ◌-ℤ◌, +ℤ_idr, +ℤ_invr}
 use lib.Ieee.{Float}
 use Rattle.lists.proofs.Lists.{total}
-use Rattle.skin.specs.Links.{Link, link, links}
+use Rattle.skin.specs.Links.{Link, links}
 use Rattle.skin.specs.Enclosed.{Enclosed}
 use Rattle.skin.proofs.Skin.{skin-law}
 use Rattle.volume.specs.declared.Corner.{Corner}

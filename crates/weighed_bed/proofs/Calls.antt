@@ -3,25 +3,23 @@
 use Prim.Native.Nat.{ℕ, ◌/◌, ◌%◌, ◌^◌, ◌≤◌}
 use mathlib.Core.List.{List, ◌++◌}
 use mathlib.Core.Path.{◌≡◌, refl, sym, ap, ap₂, subst, ◌∙◌}
-use lib.IntN.{ℤ, neg_ℤ, ◌+ℤ◌}
+use lib.IntN.{neg_ℤ, ◌+ℤ◌}
 use lib.ListN.{length}
 use Rattle.lists.proofs.Permutation.{Perm}
 use Rattle.skin.specs.Links.{links}
-use Rattle.skin.specs.Enclosed.{Enclosed}
 use Rattle.volume.specs.Triangles.{turned_round, Rolled, triangles}
 use Rattle.weigh.specs.declared.Weight.{Weight}
 use Rattle.weigh.specs.Answers.{says, weight, sum_in}
 use Rattle.weigh.proofs.Answering.{few-enough}
 use Rattle.weigh.proofs.Weighing.{accepted, round-weighs, order-weighs, rolled-weighs, joined-weighs, part-weighs}
-use Rattle.promises.specs.Served.{Served, Done}
+use Rattle.promises.specs.Served.{Done}
 use Rattle.promises.proofs.Runs.{Run, served, BedRun, bed_served}
 use Rattle.promises.proofs.WholeRuns.{SixteenRun, sixteen_served, EightRun, eight_served, BedSixteenRun, bed_sixteen_served, BedEightRun, bed_eight_served}
-use Rattle.weighed_mesh.specs.Told.{positions_of, indices_of}
 use Rattle.weighed_mesh.proofs.Sides.{Even}
 use Rattle.weighed_mesh.proofs.Outcomes as volumes
 use Rattle.weighed_bed.specs.Told.{Told, pillars_of, shadows_of}
 use Rattle.weighed_bed.proofs.Outcomes.{Weigh, told, BedWeigh, bed_told}
-use Rattle.weighed_bed.proofs.Agree.{BothWeigh, both-agree, own-mesh-agree}
+use Rattle.weighed_bed.proofs.Agree.{BothWeigh, both-agree}
 use Rattle.weighed_bed.proofs.Fits.{OwnMesh, own-mesh-weighs}
 
 -- ---- where both calls answer 0 they agree

@@ -1,10 +1,9 @@
 -- A sum over the index list of a mesh is the sum over the faces that its edges define, for any term of a triangle's corners. Assumes nothing.
 use Prim.Native.Nat.{ℕ, ◌%◌}
 use mathlib.Core.List.{List, [], ◌∷◌, map, map-map}
-use mathlib.Core.Path.{◌≡◌, refl, sym, ap, ap₂, ◌∙◌}
+use mathlib.Core.Path.{◌≡◌, refl, ap, ap₂, ◌∙◌}
 use lib.Dec.{T}
 use lib.IntN.{ℤ, pos, ◌+ℤ◌}
-use lib.Ieee.{Float}
 use lib.ListN.{length, length-map}
 use Rattle.lists.specs.Lists.{joined, place}
 use Rattle.lists.proofs.Lists.{All, none, more, all_then, map_same}
@@ -13,7 +12,7 @@ use Rattle.rules.specs.Vertices.{vertices, vertex_position}
 use Rattle.rules.specs.Faces.{Edge, Flags, gives, edges, face_cells, indices}
 use Rattle.rules.specs.Call.{flat_vectors}
 use Rattle.rules.proofs.Edges.{edges-all, face_cells-length}
-use Rattle.rules.proofs.Numbers.{four-each, face-all, face_numbers, indices-are}
+use Rattle.rules.proofs.Numbers.{four-each, face-all, indices-are}
 use Rattle.volume.specs.declared.Corner.{Corner}
 use Rattle.volume.specs.Volume.{corner_at}
 use Rattle.weigh.specs.Sums.{sum_of}

@@ -1,20 +1,19 @@
 -- Every mesh that a call answered 0 leaves can be weighed: the lists are in threes, each coordinate lies in its closed cell and so from 0 to 16,777,216, every
 -- index has its vertex, there are at most 6·2^30 triangles, and none is wide. No premise beside the answer 0. Assumes nothing.
-use Prim.Native.Nat.{ℕ, ◌+◌, ◌-◌, ◌*◌, ◌/◌, ◌%◌, ◌^◌, ◌≤◌, ◌<◌}
+use Prim.Native.Nat.{ℕ, ◌+◌, ◌*◌, ◌/◌, ◌^◌, ◌≤◌, ◌<◌}
 use native.Mathlib.Nat.{le_trans, mul-le-mul_right}
 use native.Mathlib.Omega.{arith}
-use mathlib.Core.Bool.{Bool, true, false, not, ◌||◌}
-use mathlib.Core.List.{List, [], ◌∷◌, ◌++◌, map}
-use mathlib.Core.Path.{◌≡◌, refl, sym, ap, ap₂, subst, ◌∙◌}
+use mathlib.Core.Bool.{Bool, true, false, not}
+use mathlib.Core.List.{List, [], ◌∷◌, map}
+use mathlib.Core.Path.{◌≡◌, refl, sym, ap, subst, ◌∙◌}
 use borrow.Author.Tests.{le-ltb, lt-leb}
 use lib.Dec.{T, leb, ltb}
 use lib.Ieee.{Float, nan, inf, fin, up, down, binary32, fits}
 use lib.ListN.{length, length-append, length-map}
-use Rattle.lists.specs.Lists.{some, joined, place, keep}
+use Rattle.lists.specs.Lists.{some, joined, place}
 use Rattle.lists.proofs.Either.{or-none}
 use Rattle.lists.proofs.Lists.{All, none, more, all_then, all_map, all-joined, joined-joined, joined_length, length-keep, many-most}
 use Rattle.rules.specs.Grid.{GridPoint, Box, Field, index, in_box, is_cell, value, same_point}
-use Rattle.rules.specs.Cell.{Vector}
 use Rattle.rules.specs.Vertices.{surface_cell, vertices, layers, layer_vertices, vertex_position}
 use Rattle.rules.specs.Faces.{Edge, Flags, gives, edges_at, cell_edges, layer_edges, edges, indices, face_cells}
 use Rattle.rules.specs.Call.{Call, room, bad_dimensions, bad_box, bad_distance, flat_vectors}
@@ -30,7 +29,7 @@ use Rattle.volume.specs.declared.Corner.{Corner}
 use Rattle.volume.specs.Answers.{not_threes}
 use Rattle.volume.proofs.Weighing.{three-is}
 use Rattle.weigh.specs.declared.Weight.{Weight}
-use Rattle.weigh.specs.Answers.{beyond, some_beyond, no_vertex, some_without, too_many, some_wide, says, weight, sum_in}
+use Rattle.weigh.specs.Answers.{beyond, no_vertex, some_wide, says, weight, sum_in}
 use Rattle.weigh.proofs.Words.{words-make}
 use Rattle.weigh.proofs.Weighing.{Accepted, weighs}
 use Rattle.promises.specs.Served.{Served, Done}

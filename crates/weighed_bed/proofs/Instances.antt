@@ -2,12 +2,12 @@
 -- of which two are below zero, the whole's, and the volume's own sum, which it is since the skin has no hole. Assumes nothing.
 use Prim.Native.Nat.{ℕ}
 use mathlib.Core.Bool.{true, false, cond, ◌||◌}
-use mathlib.Core.List.{List, [], ◌∷◌, map}
+use mathlib.Core.List.{map}
 use mathlib.Core.Path.{◌≡◌, refl}
 use lib.Count.{count_trailing_zeros}
 use lib.Dec.{eqb}
-use lib.IntN.{ℤ, pos, negsuc}
-use lib.Ieee.{Float, fin, add, sub, mul, div, lt, of_int, round, size, units, odd, neg, sum, span, climb}
+use lib.IntN.{pos, negsuc}
+use lib.Ieee.{fin, add, sub, mul, div, lt, of_int, round, size, units, odd, neg, sum, span, climb}
 use Rattle.lists.specs.Lists.{run, up_to, keep, many, some, joined, place}
 use Rattle.rules.specs.Grid.{GridPoint, Box, Field, index}
 use Rattle.rules.specs.Cell.{one32, fraction, point_between, crossing_point, crossing_points, summed, crossings, centroid, position}

@@ -1,27 +1,25 @@
 -- No layer's call of the weighing is refused: as for a whole mesh, with the vertices of two layers. And so, over the answers, the layers' sums and shadows add up to
 -- those of the whole. Assumes nothing.
-use Prim.Native.Nat.{ℕ, suc, ◌+◌, ◌-◌, ◌*◌, ◌/◌, ◌%◌, ◌^◌, ◌≤◌, ◌<◌}
+use Prim.Native.Nat.{ℕ, suc, ◌+◌, ◌-◌, ◌*◌, ◌/◌, ◌^◌, ◌≤◌, ◌<◌}
 use native.Mathlib.Omega.{arith}
-use mathlib.Core.Bool.{Bool, true, false, not, ◌||◌}
-use mathlib.Core.List.{List, [], ◌∷◌, ◌++◌, map}
+use mathlib.Core.Bool.{false, not}
+use mathlib.Core.List.{List, [], ◌∷◌, ◌++◌}
 use mathlib.Core.Logic.{◌⊎◌, inl, inr}
-use mathlib.Core.Path.{◌≡◌, refl, sym, ap, ap₂, subst, ◌∙◌}
+use mathlib.Core.Path.{◌≡◌, sym, ap, ap₂, subst, ◌∙◌}
 use borrow.Author.Tests.{le-ltb, lt-leb}
 use lib.Dec.{T, ltb, leb}
-use lib.IntN.{ℤ, pos, ◌+ℤ◌}
 use lib.Ieee.{Float, binary32, fits}
 use lib.ListN.{length, length-append}
-use Rattle.lists.specs.Lists.{some, joined, place, up_to, below}
+use Rattle.lists.specs.Lists.{some, joined, place, up_to}
 use Rattle.lists.proofs.Either.{or-none}
-use Rattle.lists.proofs.Tests.{less-or-not, below-low, below-high}
+use Rattle.lists.proofs.Tests.{less-or-not}
 use Rattle.lists.proofs.Lists.{All, none, more, all_then, all_map, all_append, all-joined, place-below}
-use Rattle.lists.proofs.Runs.{up_to-all, joined-cut}
+use Rattle.lists.proofs.Runs.{joined-cut}
 use Rattle.rules.specs.Grid.{GridPoint, Box, Field, in_box, is_cell, same_point, value}
-use Rattle.rules.specs.Vertices.{surface_cell, vertices, layers, layer_vertices, first_vertex, vertex_position}
-use Rattle.rules.specs.Faces.{Edge, Flags, gives, cell_edges, layer_edges, indices}
-use Rattle.rules.specs.Call.{bad_dimensions, bad_box, bad_distance, flat_vectors}
+use Rattle.rules.specs.Vertices.{surface_cell, vertices, layer_vertices, first_vertex, vertex_position}
+use Rattle.rules.specs.Faces.{Edge, Flags, gives, cell_edges, layer_edges}
+use Rattle.rules.specs.Call.{bad_dimensions, bad_box, bad_distance}
 use Rattle.rules.proofs.Edges.{layer_edges-all, layer-index-count}
-use Rattle.rules.proofs.FourCells.{Four}
 use Rattle.rules.proofs.Inside.{vertices-all}
 use Rattle.rules.proofs.Numbers.{four-each, face-all, face_numbers, layer-indices-are}
 use Rattle.rules.proofs.Seen.{length-vectors}
@@ -30,15 +28,13 @@ use Rattle.volume.specs.declared.Corner.{Corner}
 use Rattle.volume.specs.Answers.{not_threes}
 use Rattle.volume.proofs.Weighing.{three-is}
 use Rattle.weigh.specs.declared.Weight.{Weight}
-use Rattle.weigh.specs.Sums.{shadow_of, pillar_of, corner_from, sum_of, pillars, shadows}
-use Rattle.weigh.specs.Answers.{beyond, no_vertex, some_without, some_wide, weight, sum_in}
-use Rattle.weigh.proofs.Weighing.{Accepted, accepted, weighs}
+use Rattle.weigh.specs.Sums.{shadow_of, pillar_of, corner_from}
+use Rattle.weigh.specs.Answers.{beyond, no_vertex, some_wide, weight, sum_in}
+use Rattle.weigh.proofs.Weighing.{Accepted, weighs}
 use Rattle.weigh.proofs.Words.{words-make}
-use Rattle.weighed_mesh.specs.Facing.{steps_of}
-use Rattle.weighed_mesh.proofs.Faces.{sum_z}
 use Rattle.weighed_bed.specs.Layered.{vertices_below, two_layers, layer_positions, layer_first, layer_triangles}
 use Rattle.weighed_bed.proofs.Fits.{none_passes, in-cell-permitted, joined-most, cell-edges-most}
-use Rattle.weighed_bed.proofs.Narrow.{Gives, faces-narrow}
+use Rattle.weighed_bed.proofs.Narrow.{faces-narrow}
 use Rattle.weighed_bed.proofs.Layered.{below-when, below_none, either, layer-corner, layer_sum}
 
 all-parts : {A : Type 0} {P : A → Type 0} (s t : List A) → All P (s ++ t) → All P s × All P t

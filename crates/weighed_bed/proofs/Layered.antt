@@ -1,34 +1,32 @@
 -- A bed weighed layer by layer: the triangles of each layer, weighed from the positions of its own vertices and of those of the layer below, whose numbers run on,
 -- are never refused, and their sums and shadows add up to those of the whole. Over the rules' layers, which the calls bring out. Assumes nothing.
-use Prim.Native.Nat.{ℕ, zero, suc, ◌+◌, ◌-◌, ◌*◌, ◌/◌, ◌%◌, ◌^◌, ◌≤◌, ◌<◌}
+use Prim.Native.Nat.{ℕ, suc, ◌+◌, ◌-◌, ◌≤◌, ◌<◌}
 use native.Mathlib.Omega.{arith}
-use mathlib.Core.Bool.{Bool, true, false, not, ◌&&◌, ◌||◌, cond}
-use mathlib.Core.List.{List, [], ◌∷◌, ◌++◌, map}
+use mathlib.Core.Bool.{Bool, ◌&&◌, cond}
+use mathlib.Core.List.{List, [], map}
 use mathlib.Core.Logic.{◌⊎◌, inl, inr}
 use mathlib.Core.Path.{◌≡◌, refl, sym, ap, ap₂, subst, ◌∙◌}
-use borrow.Author.Tests.{le-ltb, lt-leb}
-use lib.Dec.{T, ltb, leb, lt→ltb}
-use lib.IntN.{ℤ, pos, ◌+ℤ◌}
-use lib.Ieee.{Float, nan, binary32, fits}
+use borrow.Author.Tests.{le-ltb}
+use lib.Dec.{T, ltb, lt→ltb}
+use lib.IntN.{ℤ, ◌+ℤ◌}
+use lib.Ieee.{nan}
 use lib.Ieee.Bits.{is_true}
-use lib.Ieee.Fits.{and_i, and_l, and_r}
-use lib.ListN.{length, get_or, length-append, length-map, get_or-map}
-use Rattle.lists.specs.Lists.{some, many, one, joined, place, up_to, below}
-use Rattle.lists.proofs.Either.{or-none}
-use Rattle.lists.proofs.Tests.{is_false, one_of, one-not, less-or-not, below-low, below-high}
-use Rattle.lists.proofs.Lists.{All, none, more, all_then, all_map, all_append, all-joined, many-append, place_here, place-past, place-below, place-passes}
-use Rattle.lists.proofs.Runs.{up_to-all, joined-cut}
-use Rattle.rules.specs.Grid.{GridPoint, Box, Field, in_box, is_cell, same_point, value}
+use lib.Ieee.Fits.{and_i, and_l}
+use lib.ListN.{length, get_or, length-map, get_or-map}
+use Rattle.lists.specs.Lists.{many, place, below}
+use Rattle.lists.proofs.Tests.{one_of, one-not, less-or-not, below-low}
+use Rattle.lists.proofs.Lists.{All, none, more, all_then, many-append, place_here, place-past, place-below, place-passes}
+use Rattle.lists.proofs.Runs.{up_to-all}
+use Rattle.rules.specs.Grid.{GridPoint, Box, Field, is_cell, same_point}
 use Rattle.rules.specs.Cell.{Vector}
 use Rattle.rules.specs.Vertices.{surface_cell, vertices, layers, layer_vertices, first_vertex, vertex_position}
-use Rattle.rules.specs.Faces.{Edge, Flags, gives, edges, layer_edges, indices, layer_indices, face_cells}
-use Rattle.rules.specs.Call.{bad_dimensions, bad_box, bad_distance, flat_vectors}
-use Rattle.rules.proofs.Counting.{same_point-sound, is_layer_cell, layer-z, cell-layer, layer_vertices-once, layer_vertices-all}
-use Rattle.rules.proofs.Edges.{layer_edges-all, layer-index-count}
-use Rattle.rules.proofs.FourCells.{Four}
-use Rattle.rules.proofs.Indexes.{CellWithin, cell-within, is-cell}
-use Rattle.rules.proofs.Numbers.{first_vertex-next, number-place, four-each, face-all, face_numbers, layer-indices-are}
-use Rattle.rules.proofs.Seen.{ThreeAt, flat_vectors-at, length-vectors}
+use Rattle.rules.specs.Faces.{Edge, Flags, gives, edges, layer_edges, indices, face_cells}
+use Rattle.rules.specs.Call.{flat_vectors}
+use Rattle.rules.proofs.Counting.{same_point-sound, is_layer_cell, layer-z, cell-layer, layer_vertices-once}
+use Rattle.rules.proofs.Edges.{layer_edges-all}
+use Rattle.rules.proofs.Indexes.{CellWithin, cell-within}
+use Rattle.rules.proofs.Numbers.{first_vertex-next, number-place, four-each, face-all, layer-indices-are}
+use Rattle.rules.proofs.Seen.{ThreeAt, flat_vectors-at}
 use Rattle.volume.specs.declared.Corner.{Corner}
 use Rattle.volume.specs.Steps.{steps}
 use Rattle.volume.specs.Volume.{corner, corner_at}

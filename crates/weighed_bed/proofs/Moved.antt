@@ -1,10 +1,10 @@
 -- Moved by whole steps, for any list of triangles: along x and y neither the sum nor the shadow changes; moved up by t steps the sum grows by 3·t times the
 -- shadow, and the shadow stays. Assumes nothing.
-use Prim.Native.Nat.{ℕ, zero, suc, ◌+◌, ◌*◌}
+use Prim.Native.Nat.{ℕ, suc, ◌+◌, ◌*◌}
 use native.Mathlib.Omega.{arith}
-use mathlib.Core.List.{List, [], ◌∷◌}
+use mathlib.Core.List.{List}
 use mathlib.Core.Path.{◌≡◌, refl, sym, ap, ap₂, ◌∙◌}
-use lib.IntN.{ℤ, pos, negsuc, neg_ℤ, ◌+ℤ◌, ◌-ℤ◌, ◌*ℤ◌, +ℤ_assoc, +ℤ_comm, +ℤ_idl, +ℤ_idr, +ℤ_invr, neg_ℤ-+ℤ, *ℤ_comm, *ℤ-zero, zero-*ℤ}
+use lib.IntN.{ℤ, pos, negsuc, neg_ℤ, ◌+ℤ◌, ◌-ℤ◌, ◌*ℤ◌, +ℤ_idl, +ℤ_idr, +ℤ_invr, neg_ℤ-+ℤ, *ℤ_comm, *ℤ-zero, zero-*ℤ}
 use Rattle.lists.proofs.Lists.{All, none, more}
 use Rattle.volume.specs.declared.Corner.{Corner}
 use Rattle.volume.proofs.Whole.{exchange, minus_plus}

@@ -1,10 +1,10 @@
 -- No triangle of the mesher is wide: the four cells round an edge differ by at most one step on each axis, and each vertex lies in its closed cell; so on
 -- each axis the corners of a face are within two grid steps, 512 steps. Assumes nothing.
-use Prim.Native.Nat.{ℕ, zero, suc, ◌+◌, ◌-◌, ◌*◌, ◌%◌, ◌^◌, ◌≤◌, ◌<◌}
+use Prim.Native.Nat.{ℕ, ◌+◌, ◌-◌, ◌*◌, ◌%◌, ◌≤◌}
 use native.Mathlib.Omega.{arith}
-use mathlib.Core.Bool.{Bool, true, false, not, ◌||◌}
-use mathlib.Core.List.{List, [], ◌∷◌, ◌++◌, map}
-use mathlib.Core.Path.{◌≡◌, refl, sym, ap, ap₂, subst, ◌∙◌}
+use mathlib.Core.Bool.{false, not, ◌||◌}
+use mathlib.Core.List.{List, map}
+use mathlib.Core.Path.{◌≡◌, refl, sym, ap, subst, ◌∙◌}
 use borrow.Author.Tests.{le-ltb}
 use lib.Dec.{T, ltb}
 use lib.Ieee.{binary32, fits}
@@ -14,7 +14,7 @@ use Rattle.lists.proofs.Either.{or-none}
 use Rattle.lists.proofs.Lists.{All, none, more, all_then, all_map}
 use Rattle.rules.specs.Grid.{GridPoint, Axis, axis_x, axis_y, axis_z, Box, Field, in_box, is_cell, value, same_point}
 use Rattle.rules.specs.Vertices.{surface_cell, vertices, vertex_position}
-use Rattle.rules.specs.Faces.{Edge, Flags, gives, edge, edges, indices, face_cells, cell1, cell2, cell3, cell4}
+use Rattle.rules.specs.Faces.{Edge, Flags, gives, edge, indices, face_cells, cell1, cell2, cell3, cell4}
 use Rattle.rules.specs.Call.{bad_dimensions, bad_box, bad_distance, flat_vectors}
 use Rattle.rules.proofs.FourCells.{Four}
 use Rattle.rules.proofs.Edges.{edges-all, face_cells-length}

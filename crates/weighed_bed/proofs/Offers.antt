@@ -5,7 +5,6 @@ use native.Mathlib.Omega.{arith}
 use mathlib.Core.Bool.{not}
 use mathlib.Core.List.{List, [], ◌∷◌, ◌++◌, map, map-append}
 use mathlib.Core.Path.{◌≡◌, refl, sym, ap, ap₂, subst, ◌∙◌}
-use lib.Count.{count_trailing_zeros}
 use lib.Dec.{T}
 use lib.IntN.{ℤ, pos, ◌+ℤ◌, +ℤ_idl}
 use lib.Ieee.{Float, binary32, fits}
@@ -33,14 +32,13 @@ use Rattle.whole_box.proofs.Steps.{vertices-more, indices-more}
 use Rattle.layers.specs.declared.State.{State}
 use Rattle.layers.specs.Memory.{Memory}
 use Rattle.layers.specs.Offer.{Output}
-use Rattle.layered_mesh.specs.Fed.{Offered, wrote, joined_with, nothing, Fed, started, taken, refused, points_in_z}
+use Rattle.layered_mesh.specs.Fed.{wrote, joined_with, nothing, Fed, started, taken, refused, points_in_z}
 use Rattle.layered_mesh.proofs.Layered.{mesh-so-far, all-distances, layered-mesh}
-use Rattle.layered_mesh.proofs.Step.{mesh_of, mesh_to}
+use Rattle.layered_mesh.proofs.Step.{mesh_to}
 use Rattle.volume.specs.declared.Corner.{Corner}
 use Rattle.volume.specs.Volume.{corner_at}
 use Rattle.weigh.specs.declared.Weight.{Weight}
 use Rattle.weigh.specs.Sums.{shadow_of, pillar_of, sum_of}
-use Rattle.weigh.specs.Words.{high_of, low_of}
 use Rattle.weigh.specs.Answers.{some_wide, says, weight, sum_in}
 use Rattle.weigh.proofs.Words.{words-make}
 use Rattle.weigh.proofs.Weighing.{Accepted, weighs}
@@ -49,7 +47,7 @@ use Rattle.weighed_bed.specs.Layered.{vertices_below, layer_positions, layer_fir
 use Rattle.weighed_bed.specs.Offers.{Asked, asked, answered, last_positions, all_asked}
 use Rattle.weighed_bed.proofs.Whole.{from_zero}
 use Rattle.weighed_bed.proofs.Fits.{rules-weighed}
-use Rattle.weighed_bed.proofs.Layered.{below-when, below_none, layer_sum, layers-sum}
+use Rattle.weighed_bed.proofs.Layered.{below-when, below_none, layers-sum}
 use Rattle.weighed_bed.proofs.LayerFits.{layer-accepted, layer-told, layer-shadow}
 
 -- the same list before two others

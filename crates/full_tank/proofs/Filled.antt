@@ -1,6 +1,6 @@
 -- The closed grid of a full tank with a far wall: its sludge is the points of the tank, and the vertices of its border cells stand on the planes of the outermost
 -- points, in steps. So its faces weigh the cells between them. Assumes nothing.
-use Prim.Native.Nat.{ℕ, ◌+◌, ◌-◌, ◌*◌, ◌/◌, ◌%◌, ◌^◌, ◌≤◌, ◌<◌}
+use Prim.Native.Nat.{ℕ, ◌+◌, ◌*◌, ◌/◌, ◌%◌, ◌^◌, ◌≤◌, ◌<◌}
 use native.Mathlib.Nat.{le_trans, le_of_eq, div-one}
 use native.Mathlib.Omega.{arith}
 use mathlib.Core.Bool.{Bool, true, false, not, ◌&&◌, cond}
@@ -8,7 +8,7 @@ use mathlib.Core.List.{List}
 use mathlib.Core.Logic.{inl, inr}
 use mathlib.Core.Path.{◌≡◌, refl, sym, ap, subst, ◌∙◌}
 use lib.Dec.{T, leb, le→leb}
-use lib.IntN.{pos, ◌+ℤ◌, ◌-ℤ◌, +ℤ-neg_ℤ_cancel}
+use lib.IntN.{pos, ◌-ℤ◌, +ℤ-neg_ℤ_cancel}
 use lib.Ieee.{Float, nan, binary32}
 use lib.Ieee.Bits.{is_true}
 use lib.Ieee.Fits.{and_i, and_l, and_r}

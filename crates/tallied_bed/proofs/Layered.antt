@@ -16,7 +16,7 @@ use Rattle.lists.proofs.Lists.{many-append, many-most}
 use Rattle.lists.proofs.Tests.{failed, less-or-not}
 use Rattle.lists.proofs.Either.{or-none}
 use Rattle.rules.specs.Grid.{GridPoint, Box, Field, in_box, value}
-use Rattle.rules.specs.Vertices.{layer_cells, cells}
+use Rattle.rules.specs.Vertices.{layer_cells}
 use Rattle.rules.specs.Faces.{Flags}
 use Rattle.rules.proofs.Indexes.{within, box-fits}
 use Rattle.grid.specs.declared.Block.{Block}

@@ -26,7 +26,7 @@ use Rattle.surface_nets.proofs.surface_nets.Reads as reads
 use Rattle.promises.specs.Served.{Served, Done, faces_read, crossings_read, vertices_read}
 use Rattle.promises.proofs.OneOutcome.{Outcome, FitsContract}
 use Rattle.promises.proofs.Once.{surface-nets-once}
-use Rattle.promises.proofs.Runs.{Run, served, BedRun, bed_served}
+use Rattle.promises.proofs.Runs.{Run, served, bed_served}
 use Rattle.promises.proofs.Done.{done-accepts}
 use Rattle.promises.proofs.Local.{runs-alike, surface-nets-local, bed-is-surface-nets}
 use Rattle.promises.proofs.Again.{no-cell-shows, outside-keeps, surface-nets-again}

@@ -1,11 +1,11 @@
 -- A call with an outcome that fits its contract, made from lists: what a contract says of arguments and outcome is given, all else (where a list lies, how long
 -- it is lent) is anything. Definitions only. Assumes nothing.
 use Prim.Native.Nat.{ℕ}
-use mathlib.Core.Bool.{Bool}
 use mathlib.Core.List.{List, []}
 use mathlib.Core.Path.{◌≡◌}
 use contract.Lifetimes.{Lfts}
-use denote.Ref.{Bor}
+use denote.Bor.{Bor}
+use denote.MutBor.{MutBor}
 use lib.IntN.{ℤ}
 use lib.Ieee.{Float}
 use Rattle.rules.specs.Call.{Buffers, answer, afterwards, room}
@@ -26,6 +26,10 @@ use Rattle.skin.specs.Scan.{examined}
 -- a list that is lent
 abbrev pub to : {X : Type 0} → X → Bor X
 to x = record { ref_ptr = (0, 0); now = x }
+
+-- one that is lent to write to
+abbrev pub to_mut : {X : Type 0} → X → MutBor X
+to_mut x = record { ref_ptr = (0, 0); ghost_name = 0; now = x }
 
 abbrev eight : Lfts 8
 eight = ([], ([], ([], ([], ([], ([], ([], ([], tt))))))))
@@ -49,8 +53,8 @@ module _ (grid : List Float) (dims low high : Extent) (plane : EachAxis) (r : An
                 (
                   plane,
                   (
-                    to before.positions,
-                    (to before.normals, (to before.cells, (to before.strides, (to before.crossings, (to before.map, (to before.indices, tt)))))),
+                    to_mut before.positions,
+                    (to_mut before.normals, (to_mut before.cells, (to_mut before.strides, (to_mut before.crossings, (to_mut before.map, (to_mut before.indices, tt)))))),
                   ),
                 ),
               ),
@@ -83,8 +87,8 @@ module _ (grid : List Float) (dims low high : Extent) (plane : EachAxis) (r : An
                 (
                   plane,
                   (
-                    to after.positions,
-                    (to after.normals, (to after.cells, (to after.strides, (to after.crossings, (to after.map, (to after.indices, tt)))))),
+                    to_mut after.positions,
+                    (to_mut after.normals, (to_mut after.cells, (to_mut after.strides, (to_mut after.crossings, (to_mut after.map, (to_mut after.indices, tt)))))),
                   ),
                 ),
               ),
@@ -106,10 +110,10 @@ module _ (grid : List Float) (words : List ℕ) (n v i : ℕ) (before after : Bu
           (
             to words,
             (
-              to before.positions,
+              to_mut before.positions,
               (
-                to before.normals,
-                (to before.cells, (to before.strides, (to before.crossings, (to before.map, (to before.indices, (to 5, (to 6, tt))))))),
+                to_mut before.normals,
+                (to_mut before.cells, (to_mut before.strides, (to_mut before.crossings, (to_mut before.map, (to_mut before.indices, (to_mut 5, (to_mut 6, tt))))))),
               ),
             ),
           ),
@@ -150,8 +154,8 @@ module _ (numbers : List ℤ) (dims low high : Extent) (plane : EachAxis) (r : A
                 (
                   plane,
                   (
-                    to before.positions,
-                    (to before.normals, (to before.cells, (to before.strides, (to before.crossings, (to before.map, (to before.indices, tt)))))),
+                    to_mut before.positions,
+                    (to_mut before.normals, (to_mut before.cells, (to_mut before.strides, (to_mut before.crossings, (to_mut before.map, (to_mut before.indices, tt)))))),
                   ),
                 ),
               ),

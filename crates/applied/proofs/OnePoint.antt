@@ -7,7 +7,7 @@ use mathlib.Core.List.{List, [], ◌∷◌, ◌++◌, map}
 use mathlib.Core.Path.{◌≡◌, refl}
 use lib.Dec.{T}
 use lib.IntN.{pos}
-use lib.ListN.{get_or, length, drop, replicate}
+use lib.ListN.{length, drop, replicate}
 use lib.Ieee.{Float, nan, fin, binary32, fits, of_bits}
 use lib.Ieee.Fits.{and_l, and_r}
 use Rattle.lists.specs.Lists.{run, joined}

@@ -1,16 +1,15 @@
 -- The theorem about checked plans, applied: the two pieces of the cut of Applied as a list of blocks, to which check_plan answers 0 with a yes, and the calls on
 -- them. Assumes nothing.
-use mathlib.Core.Bool.{true, false}
+use mathlib.Core.Bool.{false}
 use mathlib.Core.List.{List, [], ◌∷◌, map}
 use mathlib.Core.Path.{◌≡◌, refl}
 use lib.ListN.{length}
 use Rattle.lists.specs.Lists.{joined}
-use Rattle.rules.specs.Cutting.{Piece, pieces}
 use Rattle.lists.proofs.Lists.{All, more, none}
 use Rattle.lists.proofs.Permutation.{Perm}
 use Rattle.rules.proofs.Cutting.{cuts-plan}
 use Rattle.plan.specs.declared.Block.{Block}
-use Rattle.plan.specs.Plan.{piece, block, Checks, plan_answer, bad_piece}
+use Rattle.plan.specs.Plan.{piece, block, plan_answer, bad_piece}
 use Rattle.promises.specs.Served.{faces_read}
 use Rattle.promises.proofs.Runs.{Run, served}
 use Rattle.promises.proofs.Done.{done-accepts}

@@ -13,7 +13,7 @@ use Rattle.tally.specs.declared.Told.{Told}
 use Rattle.tally.specs.Call.{counted, told, tally_answer, tallied}
 use Rattle.tallied_bed.specs.Between.{Between}
 use Rattle.tallied_bed.proofs.Functions.{bed-tally-bounds}
-use Rattle.applied.proofs.Made.{to}
+use Rattle.applied.proofs.Made.{to, to_mut}
 use Rattle.applied.proofs.OnePoint.{opened, grid, bed_whole, whole-examined}
 use Rattle.applied.proofs.Bounded.{whole-weight}
 
@@ -33,7 +33,7 @@ abbrev whole_tally : TallyCall
 whole_tally =
     record {
       lifetimes = ([], ([], ([], tt)));
-      args = (to grid, (to words, (to old, tt)));
+      args = (to grid, (to words, (to_mut old, tt)));
       result = 0;
       last = (tt, (tt, (0 ∷ 8 ∷ 36 ∷ [], tt)));
       fits = (sym (ap (λ (t : Told). t.answer) whole-tallied), sym (ap (λ (t : Told). counts_left t old) whole-tallied));
@@ -43,7 +43,7 @@ abbrev whole_asked : EnclosedCall
 whole_asked =
     record {
       lifetimes = ([], ([], ([], tt)));
-      args = (to grid, (to words, (to false, tt)));
+      args = (to grid, (to words, (to_mut false, tt)));
       result = 0;
       last = (tt, (tt, (true, tt)));
       fits = whole-examined;

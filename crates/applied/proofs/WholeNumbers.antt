@@ -1,9 +1,8 @@
 -- The grid of OnePoint in 8-bit whole numbers, 1 everywhere and -1 at (1,1,1), and a call of surface_nets_i8 on it, shown to fit its contract. It comes to what
 -- the call over floats came to, number for number (document 02, request 5). Assumes nothing.
-use Prim.Native.Nat.{ℕ}
 use mathlib.Core.Bool.{Bool, true, ◌&&◌}
 use mathlib.Core.List.{List, [], ◌∷◌, ◌++◌}
-use mathlib.Core.Path.{◌≡◌, refl, sym}
+use mathlib.Core.Path.{◌≡◌, refl}
 use lib.Dec.{T, ltb, ltb→lt, lit≤}
 use lib.IntN.{ℤ, pos, negsuc}
 use lib.Signed.{mag}

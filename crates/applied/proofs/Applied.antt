@@ -5,6 +5,7 @@ use mathlib.Core.Bool.{false}
 use mathlib.Core.List.{List, [], ◌∷◌, ◌++◌}
 use mathlib.Core.Path.{◌≡◌, refl, sym, ◌∙◌}
 use native.Mathlib.Omega.{arith}
+use borrow.Fn.Kinds.{ParamKind, ResultKind}
 use lib.Dec.{T, lit≤}
 use lib.ListN.{length, get_or, take, replicate, get_or-append}
 use lib.Ieee.{nan, binary32, of_bits}
@@ -20,6 +21,7 @@ use Rattle.rules.proofs.Crossings.{Possible}
 use Rattle.lists.proofs.Permutation.{Perm}
 use Rattle.rules.proofs.Locality.{SameWritten}
 use Rattle.grid.specs.Block.{point}
+use Rattle.grid.proofs.Instances.{float-type}
 use Rattle.cube.proofs.ClosedCell.{InCell}
 use Rattle.surface_nets.proofs.surface_nets.Kinds as kinds
 use Rattle.surface_nets.proofs.surface_nets.Reads as reads
@@ -49,8 +51,17 @@ use Rattle.applied.proofs.OnePoint.{front, grid, spoiled, dims, opened, whole_in
 -- ---- one outcome alone
 
 -- whatever fits the contract of surface_nets at these arguments is what stands there: the answer 0, V 8 and I 36, and the seven lists
-pub one-outcome : (o : Outcome 8 kinds.ps kinds.r whole.lifetimes whole.args) → FitsContract 8 kinds.ps kinds.r reads.Learnt whole.lifetimes whole.args o → o ≡ whole.outcome
-one-outcome o l = surface-nets-once whole.lifetimes whole.args o whole.outcome l whole.fits
+abbrev ps : List (ParamKind 9)
+ps = kinds.ps float-type.type float-type.laws float-type.copy
+
+abbrev r : ResultKind 9
+r = kinds.r float-type.type float-type.laws float-type.copy
+
+pub one-outcome : (o : Outcome 9 ps r whole.lifetimes whole.args)
+    → FitsContract 9 ps r (reads.Learnt float-type.type float-type.laws float-type.copy float-type.distance float-type.distance_dict float-type.clone float-type.clone_dict)
+    whole.lifetimes whole.args o
+    → o ≡ whole.outcome
+one-outcome o l = surface-nets-once float-type whole.lifetimes whole.args o whole.outcome l whole.fits
 
 -- ---- every position in its cell
 

@@ -1,26 +1,28 @@
 -- A call with an outcome that fits its contract, made from lists: what a contract says of arguments and outcome is given, all else (where a list lies, how long
 -- it is lent) is anything. Definitions only. Assumes nothing.
 use Prim.Native.Nat.{ℕ}
+use mathlib.Core.Bool.{Bool}
 use mathlib.Core.List.{List, []}
 use mathlib.Core.Path.{◌≡◌}
 use contract.Lifetimes.{Lfts}
 use denote.Bor.{Bor}
 use denote.MutBor.{MutBor}
-use lib.IntN.{ℤ}
 use lib.Ieee.{Float}
+use Rattle.std.specs.Prelude.{Result}
 use Rattle.rules.specs.Call.{Buffers, answer, afterwards, room}
 use Rattle.grid.specs.declared.Extent.{Extent}
 use Rattle.grid.specs.declared.EachAxis.{EachAxis}
-use Rattle.grid.specs.Values.{as_floats, Wholes}
-use Rattle.judge.specs.declared.Answer.{Answer}
+use Rattle.grid.proofs.Instances.{DistanceType}
+use Rattle.judge.specs.declared.Tally.{Tally}
+use Rattle.judge.specs.declared.Refusal.{Refusal}
 use Rattle.judge.specs.AsRules.{answer_of}
 use Rattle.lists.specs.Floats.{Binary32}
 use Rattle.surface_nets.specs.AsRules.{call_made}
 use Rattle.bed.specs.Boundary.{asked, said}
-use Rattle.promises.proofs.Runs.{Run, BedRun}
-use Rattle.promises.proofs.WholeRuns.{EightRun}
-use Rattle.closed_mesh.proofs.Outcome.{Mesh, Test}
-use Rattle.skin.specs.declared.Enclosed.{Enclosed}
+use Rattle.promises.proofs.Runs.{RunOf, BedRun}
+use Rattle.closed_mesh.proofs.Outcome.{MeshOf, Test}
+use Rattle.skin.specs.declared.Refusal.{Refusal as Untested}
+use Rattle.skin.specs.Answer.{answer_of as said_of_test}
 use Rattle.skin.specs.Scan.{examined}
 
 -- a list that is lent
@@ -34,16 +36,20 @@ to_mut x = record { ref_ptr = (0, 0); ghost_name = 0; now = x }
 abbrev eight : Lfts 8
 eight = ([], ([], ([], ([], ([], ([], ([], ([], tt))))))))
 
-module _ (grid : List Float) (dims low high : Extent) (plane : EachAxis) (r : Answer) (before after : Buffers)
-    (answered : answer_of r ≡ answer (call_made grid dims low high plane) (room before))
-    (left : after ≡ afterwards (call_made grid dims low high plane) before) (numbers : Binary32 grid) where
-  -- a call of surface_nets
-  abbrev pub run_of : Run
-  run_of =
+-- one more, of the type of the distances
+abbrev nine : Lfts 9
+nine = ([], eight)
+
+module _ (D : DistanceType) (numbers : List D.type.Denot) (dims low high : Extent) (plane : EachAxis) (r : Result Tally Refusal) (before after : Buffers)
+    (answered : answer_of r ≡ answer (call_made (D.distance.floats numbers) dims low high plane) (room before))
+    (left : after ≡ afterwards (call_made (D.distance.floats numbers) dims low high plane) before) (told : D.distance.held numbers) where
+  -- a call of surface_nets on numbers of a type
+  abbrev pub run_on : RunOf D
+  run_on =
       record {
-        lifetimes = eight;
+        lifetimes = nine;
         args = (
-          to grid,
+          to numbers,
           (
             dims,
             (
@@ -66,18 +72,18 @@ module _ (grid : List Float) (dims low high : Extent) (plane : EachAxis) (r : An
               result = r;
               last = (tt, (tt, (tt, (tt, (tt, (after.positions, (after.normals, (after.cells, (after.strides, (after.crossings, (after.map, (after.indices, tt))))))))))));
             };
-        fits = (answered, (left, numbers));
+        fits = (answered, (left, told));
       }
 
   -- the same as crate closed_mesh has it
-  abbrev pub mesh_outcome : Mesh
-  mesh_outcome =
+  abbrev pub mesh_on : MeshOf D
+  mesh_on =
       record {
-        lifetimes = eight;
-        args = run_of.args;
+        lifetimes = nine;
+        args = run_on.args;
         result = r;
         exit = (
-          to grid,
+          to numbers,
           (
             dims,
             (
@@ -95,7 +101,7 @@ module _ (grid : List Float) (dims low high : Extent) (plane : EachAxis) (r : An
             ),
           ),
         );
-        learnt = (answered, (left, numbers));
+        learnt = (answered, (left, told));
       }
 
 -- a call of bed_surface_nets, on twelve words: V and I stand behind the last two parameters, where anything stood before
@@ -135,46 +141,11 @@ module _ (grid : List Float) (words : List ℕ) (n v i : ℕ) (before after : Bu
         fits = (answered, (left, numbers));
       }
 
--- a call of surface_nets_i8
-module _ (numbers : List ℤ) (dims low high : Extent) (plane : EachAxis) (r : Answer) (before after : Buffers)
-    (answered : answer_of r ≡ answer (call_made (as_floats numbers) dims low high plane) (room before))
-    (left : after ≡ afterwards (call_made (as_floats numbers) dims low high plane) before) (whole : Wholes 8 numbers) where
-  abbrev pub eight_run_of : EightRun
-  eight_run_of =
-      record {
-        lifetimes = eight;
-        args = (
-          to numbers,
-          (
-            dims,
-            (
-              low,
-              (
-                high,
-                (
-                  plane,
-                  (
-                    to_mut before.positions,
-                    (to_mut before.normals, (to_mut before.cells, (to_mut before.strides, (to_mut before.crossings, (to_mut before.map, (to_mut before.indices, tt)))))),
-                  ),
-                ),
-              ),
-            ),
-          ),
-        );
-        outcome =
-            record {
-              result = r;
-              last = (tt, (tt, (tt, (tt, (tt, (after.positions, (after.normals, (after.cells, (after.strides, (after.crossings, (after.map, (after.indices, tt))))))))))));
-            };
-        fits = (answered, (left, whole));
-      }
-
 -- a call of is_enclosed
-abbrev pub test_of : (grid : List Float) (dims low high : Extent) (r : Enclosed) → r ≡ examined grid dims low high → Test
+abbrev pub test_of : (grid : List Float) (dims low high : Extent) (r : Result Bool Untested) → said_of_test r ≡ examined grid dims low high → Test
 test_of grid dims low high r e =
     record {
-      lifetimes = ([], tt);
+      lifetimes = ([], ([], tt));
       args = (to grid, (dims, (low, (high, tt))));
       result = r;
       exit = (to grid, (dims, (low, (high, tt))));

@@ -5,17 +5,19 @@ use native.Mathlib.Omega.{arith}
 use mathlib.Core.Bool.{false}
 use mathlib.Core.List.{List, [], ◌∷◌, map}
 use mathlib.Core.Path.{◌≡◌, refl}
-use lib.IntN.{pos}
+use lib.IntN.{ℤ, pos}
 use lib.Ieee.{Float}
 use Rattle.lists.specs.Lists.{some}
 use Rattle.lists.proofs.Lists.{more, none}
 use Rattle.rules.specs.Grid.{Field}
 use Rattle.skin.specs.Enclosed.{Enclosed}
 use Rattle.skin.proofs.Premise.{enclosed-says}
-use Rattle.volume.specs.declared.Weighed.{Weighed}
-use Rattle.volume.specs.Steps.{steps, outside}
+use Rattle.std.specs.Prelude.{Result, Ok}
+use Rattle.volume.specs.declared.Refusal.{Refusal}
+use Rattle.volume.specs.Steps.{steps, past}
 use Rattle.volume.specs.Volume.{corner_at, determinant, sum_over}
-use Rattle.volume.specs.Answers.{weighed, weighing}
+use Rattle.volume.specs.Answers.{weighed, weighing, told_by}
+use Rattle.volume.proofs.Weighing.{given, given-told}
 use Rattle.promises.proofs.Runs.{served}
 use Rattle.promises.proofs.CutMesh.{field_in}
 use Rattle.plan.specs.declared.Block.{Block}
@@ -48,7 +50,7 @@ moved =
     ∷ 0x40355555 ∷ 0x40BAAAAB ∷ 0x4142AAAB ∷ 0x404AAAAA ∷ 0x40BAAAAB ∷ 0x4142AAAB
     ∷ 0x40355555 ∷ 0x40C55555 ∷ 0x4142AAAB ∷ 0x404AAAAA ∷ 0x40C55555 ∷ 0x4142AAAB ∷ [])
 
-abbrev weigh_of : (positions : List Float) (r : Weighed) → r ≡ weighing positions whole_indices → Weigh
+abbrev weigh_of : (positions : List Float) (r : Result ℤ Refusal) → told_by r ≡ weighing positions whole_indices → Weigh
 weigh_of positions r e =
     record {
       lifetimes = ([], ([], tt));
@@ -60,15 +62,15 @@ weigh_of positions r e =
 
 -- the sum of Bounded, 6·85³
 stands : weighed 0 (pos 3684750) ≡ weighing standing whole_indices
-unfolding opened weighing some outside steps determinant sum_over
+unfolding opened weighing some past steps determinant sum_over
 stands = refl
 
 abbrev weigh_here : Weigh
-weigh_here = weigh_of standing (weighed 0 (pos 3684750)) stands
+weigh_here = weigh_of standing (Ok (pos 3684750)) stands
 
 -- the second call, whatever it answers
 abbrev weigh_there : Weigh
-weigh_there = weigh_of moved (weighing moved whole_indices) refl
+weigh_there = weigh_of moved (given moved whole_indices) (given-told moved whole_indices)
 
 -- ---- moved
 
@@ -80,7 +82,7 @@ unfolding opened
 here-own = record { meshed = refl; positions = refl; indices = refl; weighed = refl }
 
 there-shifted : Shifted shift (told weigh_here) (told weigh_there)
-unfolding opened some outside steps
+unfolding opened some past steps
 there-shifted = record { indices = refl; long = refl; inside = refl; moves = moves }
   where
     moves : (v : ℕ) → v < 8 → Moves shift (corner_at standing v) (corner_at moved v)

@@ -11,8 +11,7 @@ use lib.ListN.{replicate}
 use lib.Ieee.{Float, fin}
 use Rattle.rules.specs.Cell.{one32}
 use Rattle.rules.specs.Call.{Answer, answer}
-use Rattle.skin.specs.declared.Enclosed.{Enclosed}
-use Rattle.skin.specs.Scan.{answers, examined}
+use Rattle.skin.specs.Scan.{Tested, answers, examined}
 use Rattle.bed.specs.Boundary.{asked, room_asked, said}
 use Rattle.bed.specs.Words12.{dims_asked, low_asked, high_asked}
 use Rattle.applied.proofs.OnePoint.{opened}
@@ -48,7 +47,7 @@ unfolding opened
 z-where-z-is-short = refl
 
 -- the test of request 8: to (4, 3, 5) the point lies from min + 1 to max - 2 on each axis, and in the two boxes above it does not; flags are not looked at
-abbrev tested : List ℕ → Enclosed
+abbrev tested : List ℕ → Tested
 tested words = examined grid (dims_asked words) (low_asked words) (high_asked words)
 
 pub enclosed-in-three-cells : tested (5 ∷ 4 ∷ 6 ∷ 1 ∷ 0 ∷ 2 ∷ 4 ∷ 3 ∷ 5 ∷ 9 ∷ 0 ∷ 9 ∷ []) ≡ answers 0 true

@@ -10,6 +10,7 @@ use lib.IntN.{pos}
 use lib.ListN.{length, drop, replicate}
 use lib.Ieee.{Float, nan, fin, binary32, fits, of_bits}
 use lib.Ieee.Fits.{and_l, and_r}
+use Rattle.std.specs.Prelude.{Result, Ok}
 use Rattle.lists.specs.Lists.{run, joined}
 use Rattle.rules.specs.Cell.{one32}
 use Rattle.rules.specs.Call.{Buffers, room, answer, afterwards}
@@ -19,7 +20,9 @@ use Rattle.lists.proofs.Lists.{All, all-at}
 use Rattle.lists.proofs.Lists as lists
 use Rattle.grid.specs.declared.Extent.{Extent}
 use Rattle.grid.specs.declared.EachAxis.{EachAxis}
-use Rattle.judge.specs.declared.Answer.{Answer}
+use Rattle.grid.proofs.Instances.{float-type}
+use Rattle.judge.specs.declared.Tally.{Tally}
+use Rattle.judge.specs.declared.Refusal.{Refusal}
 use Rattle.judge.specs.AsRules.{answer_of}
 use Rattle.whole_box.proofs.Steps.{with-map}
 use Rattle.lists.specs.Floats.{Binary32}
@@ -30,7 +33,7 @@ use Rattle.skin.specs.Enclosed.{inner, enclosed}
 use Rattle.skin.specs.Scan.{judged, examined}
 use Rattle.skin.specs.Scan as scan
 use Rattle.closed_mesh.proofs.Outcome.{Mesh, Test}
-use Rattle.applied.proofs.Made.{run_of, bed_run_of, mesh_outcome, test_of}
+use Rattle.applied.proofs.Made.{run_on, bed_run_of, mesh_on, test_of}
 
 -- ---- what goes in
 
@@ -188,8 +191,8 @@ unfoldable pub opened : Unit {0}
 unfolding rules.opened of_bits faces_seen links inner enclosed judged
 opened = tt
 
-abbrev pub counts : ℕ → ℕ → Answer
-counts v i = record { number = 0; vertex_count = v; index_count = i }
+abbrev pub counts : ℕ → ℕ → Result Tally Refusal
+counts v i = Ok (record { vertices = v; indices = i })
 
 -- every number of the two grids is a value of binary32: not-a-number is one
 fitting : List Float → Bool
@@ -222,14 +225,14 @@ unfolding opened
 whole-left = refl
 
 abbrev pub whole : Run
-whole = run_of grid dims lowest highest no_plane (counts 8 36) (lent 8 36 77) whole_left whole-answered whole-left grid-fits
+whole = run_on float-type grid dims lowest highest no_plane (counts 8 36) (lent 8 36 77) whole_left whole-answered whole-left grid-fits
 
 -- the same call of the function for C
 abbrev pub bed_whole : BedRun
 bed_whole = bed_run_of grid (4 ∷ 4 ∷ 4 ∷ 0 ∷ 0 ∷ 0 ∷ 3 ∷ 3 ∷ 3 ∷ 0 ∷ 0 ∷ 0 ∷ []) 0 8 36 (lent 8 36 77) whole_left whole-answered whole-left grid-fits
 
 abbrev pub whole_mesh : Mesh
-whole_mesh = mesh_outcome grid dims lowest highest no_plane (counts 8 36) (lent 8 36 77) whole_left whole-answered whole-left grid-fits
+whole_mesh = mesh_on float-type grid dims lowest highest no_plane (counts 8 36) (lent 8 36 77) whole_left whole-answered whole-left grid-fits
 
 -- the lower piece: V 8, I 30
 abbrev lower_left : ℕ → Buffers
@@ -244,7 +247,7 @@ unfolding opened
 lower-left = refl
 
 abbrev pub lower : Run
-lower = run_of grid dims lowest lower_high no_plane (counts 8 30) (lent 8 30 77) (lower_left 77) lower-answered lower-left grid-fits
+lower = run_on float-type grid dims lowest lower_high no_plane (counts 8 30) (lent 8 30 77) (lower_left 77) lower-answered lower-left grid-fits
 
 -- the upper piece: V 4, I 6
 abbrev upper_left : Buffers
@@ -259,7 +262,7 @@ unfolding opened
 upper-left = refl
 
 abbrev pub upper : Run
-upper = run_of grid dims upper_low highest no_plane (counts 4 6) (lent 4 6 77) upper_left upper-answered upper-left grid-fits
+upper = run_on float-type grid dims upper_low highest no_plane (counts 4 6) (lent 4 6 77) upper_left upper-answered upper-left grid-fits
 
 -- the lower piece of the spoiled grid, with 88 where 77 was
 pub elsewhere-answered : answer_of (counts 8 30) ≡ answer (call_made spoiled dims lowest lower_high no_plane) (room (lent 8 30 88))
@@ -271,7 +274,7 @@ unfolding opened
 elsewhere-left = refl
 
 abbrev pub elsewhere : Run
-elsewhere = run_of spoiled dims lowest lower_high no_plane (counts 8 30) (lent 8 30 88) (lower_left 88) elsewhere-answered elsewhere-left spoiled-fits
+elsewhere = run_on float-type spoiled dims lowest lower_high no_plane (counts 8 30) (lent 8 30 88) (lower_left 88) elsewhere-answered elsewhere-left spoiled-fits
 
 -- a flat box, x from 0 to 0: V 0, I 0, and the lists as they were but the map, where its 16 points have no vertex
 abbrev flat_left : Buffers
@@ -286,7 +289,7 @@ unfolding opened
 flat-left = refl
 
 abbrev pub flat : Run
-flat = run_of grid dims lowest flat_high no_plane (counts 0 0) (lent 8 36 77) flat_left flat-answered flat-left grid-fits
+flat = run_on float-type grid dims lowest flat_high no_plane (counts 0 0) (lent 8 36 77) flat_left flat-answered flat-left grid-fits
 
 -- the upper piece once more, in the lists that the whole left: with x 0 the map shows the whole's vertices, and else its own
 abbrev again_map : List ℕ
@@ -309,7 +312,7 @@ unfolding opened
 again-left = refl
 
 abbrev pub again : Run
-again = run_of grid dims upper_low highest no_plane (counts 4 6) whole_left again_left again-answered again-left grid-fits
+again = run_on float-type grid dims upper_low highest no_plane (counts 4 6) whole_left again_left again-answered again-left grid-fits
 
 -- and alone, in the lists that the whole was lent
 abbrev alone_left : Buffers
@@ -333,7 +336,7 @@ unfolding opened
 alone-left = refl
 
 abbrev pub alone : Run
-alone = run_of grid dims upper_low highest no_plane (counts 4 6) (lent 8 36 77) alone_left alone-answered alone-left grid-fits
+alone = run_on float-type grid dims upper_low highest no_plane (counts 4 6) (lent 8 36 77) alone_left alone-answered alone-left grid-fits
 
 -- the test of the premise of request 8: yes
 pub whole-examined : scan.answers 0 true ≡ examined grid dims lowest highest
@@ -341,4 +344,4 @@ unfolding opened
 whole-examined = refl
 
 abbrev pub whole_test : Test
-whole_test = test_of grid dims lowest highest (scan.answers 0 true) whole-examined
+whole_test = test_of grid dims lowest highest (Ok true) whole-examined

@@ -9,8 +9,7 @@ use lib.Signed.{◌≤ℤ◌}
 use Rattle.bed.specs.Words12.{block_words}
 use Rattle.bed.specs.Tallied.{counts_left}
 use Rattle.bed.proofs.Places.{TallyCall, EnclosedCall}
-use Rattle.tally.specs.declared.Told.{Told}
-use Rattle.tally.specs.Call.{counted, told, tally_answer, tallied}
+use Rattle.tally.specs.Call.{Told, counted, told, tally_answer, tallied}
 use Rattle.tallied_bed.specs.Between.{Between}
 use Rattle.tallied_bed.proofs.Functions.{bed-tally-bounds}
 use Rattle.applied.proofs.Made.{to, to_mut}

@@ -1,4 +1,4 @@
--- The grid of OnePoint in 8-bit whole numbers, 1 everywhere and -1 at (1,1,1), and a call of surface_nets_i8 on it, shown to fit its contract. It comes to what
+-- The grid of OnePoint in 8-bit whole numbers, 1 everywhere and -1 at (1,1,1), and a call of surface_nets on it, shown to fit its contract. It comes to what
 -- the call over floats came to, number for number (document 02, request 5). Assumes nothing.
 use mathlib.Core.Bool.{Bool, true, ◌&&◌}
 use mathlib.Core.List.{List, [], ◌∷◌, ◌++◌}
@@ -13,13 +13,14 @@ use Rattle.rounding.specs.Signed.{InBits}
 use Rattle.rules.specs.Call.{room, answer, afterwards, answers}
 use Rattle.lists.proofs.Lists.{All, none, more, all-at}
 use Rattle.grid.specs.Values.{as_floats, Wholes}
+use Rattle.grid.proofs.Instances.{eight-type}
 use Rattle.judge.specs.AsRules.{answer_of}
 use Rattle.cube.proofs.ClosedCell.{InCell}
 use Rattle.surface_nets.specs.AsRules.{call_made}
 use Rattle.promises.proofs.Runs.{served}
 use Rattle.promises.proofs.WholeRuns.{EightRun, eight_served}
 use Rattle.promises.proofs.Wholes.{eight-as-floats, eight-closed}
-use Rattle.applied.proofs.Made.{eight_run_of}
+use Rattle.applied.proofs.Made.{run_on}
 use Rattle.applied.proofs.OnePoint.{grid, dims, no_plane, lowest, highest, lent, opened, counts, whole_left, whole}
 
 abbrev pub numbers : List ℤ
@@ -55,7 +56,7 @@ unfolding opened
 eight-left = refl
 
 abbrev pub eight_whole : EightRun
-eight_whole = eight_run_of numbers dims lowest highest no_plane (counts 8 36) (lent 8 36 77) whole_left eight-answered eight-left numbers-narrow
+eight_whole = run_on eight-type numbers dims lowest highest no_plane (counts 8 36) (lent 8 36 77) whole_left eight-answered eight-left numbers-narrow
 
 -- ---- the theorems, applied
 

@@ -9,7 +9,7 @@ use Rattle.rules.specs.Call.{Answer, Room, Buffers, answer, afterwards, room}
 use Rattle.grid.specs.declared.Extent.{Extent}
 use Rattle.grid.specs.declared.Block.{Block}
 use Rattle.grid.specs.Block.{point, call_of}
-use Rattle.skin.specs.declared.Enclosed.{Enclosed}
+use Rattle.skin.specs.Scan.{Tested}
 use Rattle.skin.specs.Scan.{examined, examined_layer}
 use Rattle.levels.specs.Call.{box_from, levels_answer, levels_after, layer_answer, layer_after}
 use Rattle.closing.specs.Answers.{close_answer, closed_room, layer_answer as closed_answer, layer_room}
@@ -26,10 +26,10 @@ Answered grid rooms says k = says ≡ answer (call_of grid k) rooms
 abbrev pub Meshed : List Float → Buffers → Answer → Buffers → Block → Type 0
 Meshed grid lent says left k = Answered grid (room lent) says k × (left ≡ afterwards (call_of grid k) lent)
 
-abbrev pub Examined : List Float → Enclosed → Block → Type 0
+abbrev pub Examined : List Float → Tested → Block → Type 0
 Examined grid says k = says ≡ examined grid k.dims k.low k.high
 
-abbrev pub LayerExamined : List Float → ℕ → Enclosed → Block → Type 0
+abbrev pub LayerExamined : List Float → ℕ → Tested → Block → Type 0
 LayerExamined layer z says k = says ≡ examined_layer layer k.dims k.low k.high z
 
 abbrev pub Levelled : List Float → List Float → ℕ → List Float → Block → Type 0

@@ -2,7 +2,7 @@
 use Prim.Native.Nat.{ℕ}
 use mathlib.Core.List.{List}
 use mathlib.Core.Path.{◌≡◌, ap, ◌∙◌}
-use Rattle.tally.specs.declared.Told.{Told}
+use Rattle.tally.specs.Call.{Told}
 use Rattle.bed.specs.Tallied.{counts_left}
 
 pub left_as : {t u : Told} {r : ℕ} {left' : List ℕ} (old : List ℕ) → t ≡ u → (r ≡ t.answer) × (left' ≡ counts_left t old) → (r ≡ u.answer) × (left' ≡ counts_left u old)

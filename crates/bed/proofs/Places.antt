@@ -17,7 +17,7 @@ use Rattle.skin.specs.Scan.{answers, examined, examined_layer}
 use Rattle.mesh_file.specs.Mesh.{Mesh, mesh, Held}
 use Rattle.mesh_file.specs.Writing.{writing, written}
 use Rattle.mesh_file.specs.Reading.{Bytes, read_of, checked, reading_in, filled_in}
-use Rattle.mesh_file.specs.declared.Read.{Read}
+use Rattle.mesh_file.specs.Reading.{Read}
 use Rattle.mesh_record.specs.Written.{record_answer, record_written}
 use Rattle.fixtures.specs.Cut.{cut_answer, cut_grid}
 use Rattle.layers.specs.Memory.{memory, lengths, start_answer}
@@ -27,7 +27,7 @@ use Rattle.volume.specs.Answers.{weighed, weighing}
 use Rattle.weigh.specs.Answers.{told, weight}
 use Rattle.levels.specs.Call as level-specs
 use Rattle.tally.specs.Call as tally-specs
-use Rattle.tally.specs.declared.Told.{Told}
+use Rattle.tally.specs.Call.{Told}
 use Rattle.bed.specs.Tallied.{counts_in, counts_left}
 use Rattle.bed.specs.Words12 as words12
 use Rattle.bed.specs.Boundary.{asked, room_asked, said}

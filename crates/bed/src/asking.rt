@@ -35,8 +35,6 @@ pub extern "C" fn bed_answer(
         map: stride_to_index_len as usize,
         indices: indices_len as usize,
     };
-    let a = judge::answer_for(sdf, k, room);
-    *vertex_count = a.vertex_count;
-    *index_count = a.index_count;
-    a.number
+    let answer = judge::answer_for(sdf, k, room);
+    crate::answers::tell(answer, vertex_count, index_count)
 }

@@ -11,5 +11,5 @@ pub extern "C" fn bed_cut_fixtures(file: &[u8], words: &[u32; 12], sdf: &mut [f3
     ensures sdf_after { sdf.new ≡ cut_grid file.now (point (dims_asked words.now)) sdf.old }
 {
     let dims = crate::words::dims_of(words);
-    fixtures::cut_fixtures(file, dims, sdf)
+    fixtures::number_of(fixtures::cut_fixtures(file, dims, sdf))
 }

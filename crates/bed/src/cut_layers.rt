@@ -4,8 +4,11 @@ ghost use Rattle.std.specs.Prelude.{◌≡◌, length};
 ghost use Rattle.grid.specs.Block.{point};
 ghost use Rattle.grid.specs.Values.{as_floats};
 ghost use Rattle.fixtures.specs.Layer.{layer_answer, cut_layer};
+ghost use Rattle.fixture_widths.specs.Refused.{answer_of};
 ghost use Rattle.fixture_widths.specs.Into.{into_answer, cut_into};
 ghost use Rattle.bed.specs.Words12.{dims_asked};
+
+use fixture_widths::Refusal;
 
 // The answer number: 0, 1, 81, 3 or 51 to 56. Every answer but 0 changes nothing.
 #[unsafe(no_mangle)]
@@ -19,7 +22,16 @@ pub extern "C" fn bed_cut_fixtures_layer(
     ensures layer_after { layer.new ≡ cut_layer file.now (point (dims_asked words.now)) z layer.old }
 {
     let dims = crate::words::dims_of(words);
-    fixtures::cut_fixtures_layer(file, dims, z, layer)
+    fixtures::number_of(fixtures::cut_fixtures_layer(file, dims, z, layer))
+}
+
+fn number(answer: Result<(), Refusal>) -> u32
+    ensures { result ≡ answer_of answer }
+{
+    match answer {
+        Ok(()) => 0,
+        Err(refusal) => u32::from(refusal),
+    }
 }
 
 // The answer number: 0, 1, 81, 3, 51 to 56 or 82. Every answer but 0 changes nothing.
@@ -35,7 +47,7 @@ pub extern "C" fn bed_cut_fixtures_layer_i16(
     ensures out_after { out.new ≡ cut_into file.now (point (dims_asked words.now)) z (as_floats layer.now) out.old }
 {
     let dims = crate::words::dims_of(words);
-    fixture_widths::cut_fixtures_layer_i16(file, layer, dims, z, out)
+    number(fixture_widths::cut_fixtures_layer(file, layer, dims, z, out))
 }
 
 #[unsafe(no_mangle)]
@@ -50,5 +62,5 @@ pub extern "C" fn bed_cut_fixtures_layer_i8(
     ensures out_after { out.new ≡ cut_into file.now (point (dims_asked words.now)) z (as_floats layer.now) out.old }
 {
     let dims = crate::words::dims_of(words);
-    fixture_widths::cut_fixtures_layer_i8(file, layer, dims, z, out)
+    number(fixture_widths::cut_fixtures_layer(file, layer, dims, z, out))
 }

@@ -1,8 +1,22 @@
 // Document 02, request 8, for C: whether a grid and a box meet the premise under which the skin has no hole, by the grid and by one layer of it.
 ghost use Rattle.std.specs.Prelude.{◌≡◌};
 ghost use Rattle.grid.specs.Values.{as_floats};
+ghost use Rattle.skin.specs.Answer.{answer_of};
 ghost use Rattle.skin.specs.Scan.{answers, examined, examined_layer};
 ghost use Rattle.bed.specs.Words12.{dims_asked, low_asked, high_asked};
+
+use skin::Refusal;
+
+// The outcome behind `enclosed`: false on a refusal.
+fn tell(answer: Result<bool, Refusal>, enclosed: &mut bool) -> u32
+    ensures { answers result enclosed.new ≡ answer_of answer }
+{
+    *enclosed = answer.unwrap_or(false);
+    match answer {
+        Ok(_) => 0,
+        Err(refusal) => u32::from(refusal),
+    }
+}
 
 // The answer number, 0 to 3, with the test's outcome behind `enclosed`: false on a refusal.
 #[unsafe(no_mangle)]
@@ -11,9 +25,7 @@ pub extern "C" fn bed_is_enclosed(sdf: &[f32], words: &[u32; 12], enclosed: &mut
         (high_asked words.now) }
 {
     let k = crate::words::block_of(words);
-    let a = skin::is_enclosed(sdf, k.dims, k.low, k.high);
-    *enclosed = a.enclosed;
-    a.answer
+    tell(skin::is_enclosed(sdf, k.dims, k.low, k.high), enclosed)
 }
 
 // The same for signed 16-bit distances (document 02, request 5).
@@ -23,9 +35,7 @@ pub extern "C" fn bed_is_enclosed_i16(sdf: &[i16], words: &[u32; 12], enclosed: 
         (high_asked words.now) }
 {
     let k = crate::words::block_of(words);
-    let a = skin::is_enclosed_i16(sdf, k.dims, k.low, k.high);
-    *enclosed = a.enclosed;
-    a.answer
+    tell(skin::is_enclosed(sdf, k.dims, k.low, k.high), enclosed)
 }
 
 // And for signed 8-bit ones.
@@ -35,9 +45,7 @@ pub extern "C" fn bed_is_enclosed_i8(sdf: &[i8], words: &[u32; 12], enclosed: &m
         (high_asked words.now) }
 {
     let k = crate::words::block_of(words);
-    let a = skin::is_enclosed_i8(sdf, k.dims, k.low, k.high);
-    *enclosed = a.enclosed;
-    a.answer
+    tell(skin::is_enclosed(sdf, k.dims, k.low, k.high), enclosed)
 }
 
 // ---- one layer of X·Y distances, the layer z of the box: the answer number, 0 to 3 or 77, with the test's outcome behind `enclosed`. Dimensions and box come as
@@ -54,9 +62,10 @@ pub extern "C" fn bed_is_enclosed_layer(
         (low_asked words.now) (high_asked words.now) z }
 {
     let k = crate::words::block_of(words);
-    let a = skin::layer::is_enclosed_layer(layer, k.dims, k.low, k.high, z);
-    *enclosed = a.enclosed;
-    a.answer
+    tell(
+        skin::layer::is_enclosed_layer(layer, k.dims, k.low, k.high, z),
+        enclosed,
+    )
 }
 
 #[unsafe(no_mangle)]
@@ -70,9 +79,10 @@ pub extern "C" fn bed_is_enclosed_layer_i16(
         (low_asked words.now) (high_asked words.now) z }
 {
     let k = crate::words::block_of(words);
-    let a = skin::layer::is_enclosed_layer_i16(layer, k.dims, k.low, k.high, z);
-    *enclosed = a.enclosed;
-    a.answer
+    tell(
+        skin::layer::is_enclosed_layer(layer, k.dims, k.low, k.high, z),
+        enclosed,
+    )
 }
 
 #[unsafe(no_mangle)]
@@ -86,7 +96,8 @@ pub extern "C" fn bed_is_enclosed_layer_i8(
         (low_asked words.now) (high_asked words.now) z }
 {
     let k = crate::words::block_of(words);
-    let a = skin::layer::is_enclosed_layer_i8(layer, k.dims, k.low, k.high, z);
-    *enclosed = a.enclosed;
-    a.answer
+    tell(
+        skin::layer::is_enclosed_layer(layer, k.dims, k.low, k.high, z),
+        enclosed,
+    )
 }

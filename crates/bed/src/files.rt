@@ -1,9 +1,38 @@
 // Mesh files for C and Rust (document 02, request 2): thin functions over mesh_file and, for one record, mesh_record. The file is lent memory; include/bed.h says the rest.
 ghost use Rattle.std.specs.Prelude.{◌≡◌, [], ◌∷◌, length};
+ghost use Rattle.mesh_record.specs.Refusal.{answer_of};
 ghost use Rattle.mesh_record.specs.Written.{record_answer, record_written};
 ghost use Rattle.mesh_file.specs.Mesh.{mesh, Held};
 ghost use Rattle.mesh_file.specs.Writing.{writing, written};
-ghost use Rattle.mesh_file.specs.Reading.{Bytes, read_of, checked, reading_in, filled_in};
+ghost use Rattle.mesh_file.specs.Reading.{Bytes, read_result, read_of, checked, reading_in, filled_in};
+
+use mesh_file::{Counts, Refusal};
+
+// The answer's number: 0, or that of the refusal.
+fn answer<T: Drop>(outcome: Result<T, Refusal>) -> u32
+    ensures { result ≡ answer_of outcome }
+{
+    match outcome {
+        Ok(_) => 0,
+        Err(refusal) => refusal.into(),
+    }
+}
+
+// The same of a mesh, with its counts behind C's pointers: 0 where it was refused.
+fn answer_with_counts(
+    read: Result<Counts, Refusal>,
+    vertex_count: &mut u64,
+    triangle_count: &mut u64,
+) -> u32
+    ensures value { result ≡ (read_result read).answer }
+    ensures vertex_count_after { vertex_count.new ≡ (read_result read).vertices }
+    ensures triangle_count_after { triangle_count.new ≡ (read_result read).triangles }
+{
+    let counts = read.unwrap_or_default();
+    *vertex_count = counts.vertices as u64;
+    *triangle_count = counts.triangles as u64;
+    answer(read)
+}
 
 #[unsafe(no_mangle)]
 pub extern "C" fn bed_write_mesh(
@@ -19,8 +48,8 @@ pub extern "C" fn bed_write_mesh(
     ensures held { Held (mesh positions.now normals.now indices.now) }
 {
     let wrote = mesh_file::write_mesh(positions, normals, indices, file);
-    *byte_count = wrote.bytes as u64;
-    wrote.answer
+    *byte_count = wrote.unwrap_or(0) as u64;
+    answer(wrote)
 }
 
 // One record, its seven words and their sum, at a place of the lent bytes: 0, or 29 where it would end past them.
@@ -39,7 +68,8 @@ pub extern "C" fn bed_write_record(
     ensures value { result ≡ record_answer at file.old }
     ensures file_after { file.new ≡ record_written (kind ∷ a ∷ b ∷ c ∷ d ∷ e ∷ f ∷ []) at file.old }
 {
-    mesh_record::put_record(file, at as usize, kind, a, b, c, d, e, f)
+    let words = [kind, a, b, c, d, e, f];
+    answer(mesh_record::put_record(file, at as usize, words))
 }
 
 #[unsafe(no_mangle)]
@@ -60,9 +90,7 @@ pub extern "C" fn bed_read_mesh(
     ensures bytes { Bytes file.now }
 {
     let read = mesh_file::read_mesh(file, positions, normals, indices);
-    *vertex_count = read.vertices as u64;
-    *triangle_count = read.triangles as u64;
-    read.answer
+    answer_with_counts(read, vertex_count, triangle_count)
 }
 
 // The answer and the counts of a whole file, with no list lent: what to lend for `bed_read_mesh`.
@@ -78,7 +106,5 @@ pub extern "C" fn bed_check_mesh(
     ensures bytes { Bytes file.now }
 {
     let found = mesh_file::check_file(file);
-    *vertex_count = found.vertices as u64;
-    *triangle_count = found.triangles as u64;
-    found.answer
+    answer_with_counts(found, vertex_count, triangle_count)
 }

@@ -1,6 +1,7 @@
 // The bed layer by layer, for C and Rust (document 02, request 1): thin functions over crate layers. A state is fifteen numbers, so that whatever stands
 // in its memory is a state; include/bed.h names each of them.
 ghost use Rattle.std.specs.Prelude.{◌≡◌};
+ghost use Rattle.layers.specs.Answer.{start_number, answer_of};
 ghost use Rattle.layers.specs.Memory.{memory, lengths, start_answer};
 ghost use Rattle.layers.specs.Offer.{left, room_in, layer_answer, state_after, leaves};
 ghost use Rattle.layers.specs.Words.{state_of, words_on};
@@ -8,6 +9,37 @@ ghost use Rattle.layers.specs.Lent.{memory_before, memory_after, output_before, 
 ghost use Rattle.bed.specs.Boundary.{said};
 ghost use Rattle.bed.specs.Layered.{words_started};
 ghost use Rattle.bed.specs.Words12.{block_words};
+
+use judge::Tally;
+use layers::{Refusal, State};
+
+fn number(answer: Result<(), Refusal>) -> u32
+    ensures { result ≡ start_number answer }
+{
+    match answer {
+        Ok(()) => 0,
+        Err(refusal) => u32::from(refusal),
+    }
+}
+
+// As the mesher's answers, with 8 beside them.
+fn tell(answer: Result<Tally, Refusal>, vertex_count: &mut u64, index_count: &mut u64) -> u32
+    ensures { said result vertex_count.new index_count.new ≡ answer_of answer }
+{
+    match answer {
+        Ok(counts) => crate::answers::tell(Ok(counts), vertex_count, index_count),
+        Err(Refusal::Call(refusal)) => crate::answers::tell(
+            Err(refusal),
+            vertex_count,
+            index_count,
+        ),
+        Err(Refusal::Full) => {
+            *vertex_count = 0;
+            *index_count = 0;
+            8
+        }
+    }
+}
 
 // The answer number, 0, 1, 2 or 4. The lent memory is only measured, and the state is written on 0 alone.
 #[unsafe(no_mangle)]
@@ -27,9 +59,9 @@ pub extern "C" fn bed_layers_start(
     let distances = kept_distances.len();
     let map = kept_map.len();
     let positions = kept_positions.len();
-    let answer = layers::answers::start_answer(k, distances, map, positions);
+    let answer = number(layers::start_answer(k, distances, map, positions));
     if answer == 0 {
-        *layers = layers::words::words(layers::begin(k));
+        *layers = <[u32; 15]>::from(State::begin(k));
     }
     answer
 }
@@ -61,9 +93,8 @@ pub extern "C" fn bed_layers_offer(
         ≡ leaves (state_of layers.old) layer.now (memory_before kept_distances kept_map kept_positions)
         (output_before positions normals cells strides crossings indices) }
 {
-    let s = layers::words::state(layers);
-    let o = layers::offer(
-        s,
+    let mut state = State::from(*layers);
+    let answer = state.offer(
         layer,
         kept_distances,
         kept_map,
@@ -75,10 +106,6 @@ pub extern "C" fn bed_layers_offer(
         crossings,
         indices,
     );
-    let a = o.answer;
-    let next = o.state;
-    layers::words::step(layers, next);
-    *vertex_count = a.vertex_count;
-    *index_count = a.index_count;
-    a.number
+    layers::words::step(layers, state);
+    tell(answer, vertex_count, index_count)
 }

@@ -4,8 +4,20 @@ ghost use Rattle.std.specs.Prelude.{◌≡◌, length};
 ghost use Rattle.lists.specs.Floats.{Binary32};
 ghost use Rattle.grid.specs.Block.{point};
 ghost use Rattle.grid.specs.Values.{as_floats};
+ghost use Rattle.levels.specs.Answers.{answer_of};
 ghost use Rattle.levels.specs.Call.{box_from, levels_answer, levels_after, layer_answer, layer_after};
 ghost use Rattle.bed.specs.Words12.{dims_asked, low_asked, high_asked};
+
+use levels::Refusal;
+
+fn number(answer: Result<(), Refusal>) -> u32
+    ensures { result ≡ answer_of answer }
+{
+    match answer {
+        Ok(()) => 0,
+        Err(refusal) => u32::from(refusal),
+    }
+}
 
 // ---- a grid in memory: the answer number, 0 to 3, 5 or 78
 
@@ -18,7 +30,7 @@ pub extern "C" fn bed_levels(sdf: &[f32], words: &[u32; 12], out: &mut [f32]) ->
     ensures binary32 { Binary32 sdf.now }
 {
     let k = crate::words::block_of(words);
-    levels::levels(sdf, k.dims, k.low, k.high, out)
+    number(levels::levels(sdf, k.dims, k.low, k.high, out))
 }
 
 #[unsafe(no_mangle)]
@@ -29,7 +41,7 @@ pub extern "C" fn bed_levels_i16(sdf: &[i16], words: &[u32; 12], out: &mut [f32]
         (box_from (low_asked words.now) (high_asked words.now)) out.old }
 {
     let k = crate::words::block_of(words);
-    levels::levels_i16(sdf, k.dims, k.low, k.high, out)
+    number(levels::levels(sdf, k.dims, k.low, k.high, out))
 }
 
 #[unsafe(no_mangle)]
@@ -40,7 +52,7 @@ pub extern "C" fn bed_levels_i8(sdf: &[i8], words: &[u32; 12], out: &mut [f32]) 
         (box_from (low_asked words.now) (high_asked words.now)) out.old }
 {
     let k = crate::words::block_of(words);
-    levels::levels_i8(sdf, k.dims, k.low, k.high, out)
+    number(levels::levels(sdf, k.dims, k.low, k.high, out))
 }
 
 // ---- one layer, with the layer below it: the answer number, 0 to 3, 5, 77 or 78
@@ -59,7 +71,7 @@ pub extern "C" fn bed_levels_layer(
         (box_from (low_asked words.now) (high_asked words.now)) z out.old }
 {
     let k = crate::words::block_of(words);
-    levels::levels_layer(below, layer, k.dims, k.low, k.high, z, out)
+    number(levels::levels_layer(below, layer, k.dims, k.low, k.high, z, out))
 }
 
 #[unsafe(no_mangle)]
@@ -76,7 +88,7 @@ pub extern "C" fn bed_levels_layer_i16(
         (box_from (low_asked words.now) (high_asked words.now)) z out.old }
 {
     let k = crate::words::block_of(words);
-    levels::levels_layer_i16(below, layer, k.dims, k.low, k.high, z, out)
+    number(levels::levels_layer(below, layer, k.dims, k.low, k.high, z, out))
 }
 
 #[unsafe(no_mangle)]
@@ -93,5 +105,5 @@ pub extern "C" fn bed_levels_layer_i8(
         (box_from (low_asked words.now) (high_asked words.now)) z out.old }
 {
     let k = crate::words::block_of(words);
-    levels::levels_layer_i8(below, layer, k.dims, k.low, k.high, z, out)
+    number(levels::levels_layer(below, layer, k.dims, k.low, k.high, z, out))
 }

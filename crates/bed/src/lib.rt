@@ -1,6 +1,7 @@
 // The functions that C and Rust link: thin, and nothing else. A slice is a pointer and then a length; include/bed.h says the rest.
 #![tactic(auto)]
 
+mod answers;
 pub mod asking;
 pub mod closed;
 pub mod cut;
@@ -47,7 +48,7 @@ pub extern "C" fn bed_surface_nets(
     ensures binary32 { Binary32 sdf.now }
 {
     let k = crate::words::block_of(words);
-    let a = surface_nets::surface_nets(
+    let answer = surface_nets::surface_nets(
         sdf,
         k.dims,
         k.low,
@@ -61,7 +62,5 @@ pub extern "C" fn bed_surface_nets(
         stride_to_index,
         indices,
     );
-    *vertex_count = a.vertex_count;
-    *index_count = a.index_count;
-    a.number
+    answers::tell(answer, vertex_count, index_count)
 }

@@ -34,9 +34,16 @@ pub extern "C" fn bed_check_plan(
         max_plane_y,
         max_plane_z,
     };
-    let a = plan::check_plan(blocks, whole);
-    *holds = a.holds;
-    a.answer
+    match plan::check_plan(blocks, whole) {
+        Ok(yes) => {
+            *holds = yes;
+            0
+        }
+        Err(why) => {
+            *holds = false;
+            why.into()
+        }
+    }
 }
 
 // The first edge at which blocks are no plan, and the first two blocks that own it. The answer number: 0 told, 43 they are a plan, or 40, 41 or 42.
@@ -44,5 +51,8 @@ pub extern "C" fn bed_check_plan(
 pub extern "C" fn bed_plan_witness(blocks: &[u32], whole: &[u32; 12], edge: &mut [u32; 6]) -> u32
     ensures { Tells blocks.now (piece_in whole.now 0) result edge.old edge.new }
 {
-    witness::plan_witness(blocks, whole, edge)
+    match witness::plan_witness(blocks, whole, edge) {
+        Ok(()) => 0,
+        Err(reason) => reason.into(),
+    }
 }

@@ -2,11 +2,11 @@
 // counts stand in the three words of a `bed_counts`; include/bed.h says the rest.
 ghost use Rattle.std.specs.Prelude.{◌≡◌};
 ghost use Rattle.grid.specs.Values.{as_floats};
-ghost use Rattle.tally.specs.Call.{tallied, layer_told};
+ghost use Rattle.tally.specs.Call.{told_of, tallied, layer_told};
 ghost use Rattle.bed.specs.Words12.{block_words};
 ghost use Rattle.bed.specs.Tallied.{counts_in, counts_left};
 
-use tally::{Counts, Told};
+use tally::{Counts, Refusal};
 
 fn counts_of(words: &[u64; 3]) -> Counts
     ensures { result ≡ counts_in words.now }
@@ -18,17 +18,18 @@ fn counts_of(words: &[u64; 3]) -> Counts
     }
 }
 
-// The counts are written where the answer is 0, and else stay.
-fn leave(t: Told, counts: &mut [u64; 3]) -> u32
-    ensures value { result ≡ t.answer }
-    ensures counts_after { counts.new ≡ counts_left t counts.old }
+// The counts are written where there are any, and else stay.
+fn leave(answer: Result<Counts, Refusal>, counts: &mut [u64; 3]) -> u32
+    ensures value { (kept : Counts) → result ≡ (told_of kept answer).answer }
+    ensures counts_after { (kept : Counts) → counts.new ≡ counts_left (told_of kept answer) counts.old }
 {
-    let answer = t.answer;
-    let c = t.counts;
-    if answer == 0 {
-        *counts = [c.whole, c.vertices, c.indices];
+    match answer {
+        Ok(c) => {
+            *counts = [c.whole, c.vertices, c.indices];
+            0
+        }
+        Err(refusal) => u32::from(refusal),
     }
-    answer
 }
 
 // ---- a grid in memory: the answer number, 0 to 3 or 5
@@ -49,7 +50,7 @@ pub extern "C" fn bed_tally_i16(sdf: &[i16], words: &[u32; 12], counts: &mut [u6
     ensures counts_after { counts.new ≡ counts_left (tallied (as_floats sdf.now) (block_words words.now)) counts.old }
 {
     let k = crate::words::block_of(words);
-    let t = tally::tally_i16(sdf, k);
+    let t = tally::tally(sdf, k);
     leave(t, counts)
 }
 
@@ -59,7 +60,7 @@ pub extern "C" fn bed_tally_i8(sdf: &[i8], words: &[u32; 12], counts: &mut [u64;
     ensures counts_after { counts.new ≡ counts_left (tallied (as_floats sdf.now) (block_words words.now)) counts.old }
 {
     let k = crate::words::block_of(words);
-    let t = tally::tally_i8(sdf, k);
+    let t = tally::tally(sdf, k);
     leave(t, counts)
 }
 
@@ -98,7 +99,7 @@ pub extern "C" fn bed_tally_layer_i16(
 {
     let k = crate::words::block_of(words);
     let so_far = counts_of(counts);
-    let t = tally::tally_layer_i16(below, layer, k, z, so_far);
+    let t = tally::tally_layer(below, layer, k, z, so_far);
     leave(t, counts)
 }
 
@@ -117,6 +118,6 @@ pub extern "C" fn bed_tally_layer_i8(
 {
     let k = crate::words::block_of(words);
     let so_far = counts_of(counts);
-    let t = tally::tally_layer_i8(below, layer, k, z, so_far);
+    let t = tally::tally_layer(below, layer, k, z, so_far);
     leave(t, counts)
 }

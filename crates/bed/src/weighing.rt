@@ -7,8 +7,10 @@ ghost use Rattle.volume.specs.Answers.{weighed, weighing};
 pub extern "C" fn bed_volume(positions: &[f32], indices: &[u32], volume: &mut i64) -> u32
     ensures { weighed result volume.new ≡ weighing positions.now indices.now }
 {
-    let w = volume::volume(positions, indices);
-    let sum = w.volume;
+    let (answer, sum) = match volume::volume(positions, indices) {
+        Ok(sum) => (0, sum),
+        Err(refusal) => (u32::from(refusal), 0),
+    };
     *volume = sum;
-    w.answer
+    answer
 }

@@ -2,6 +2,8 @@
 ghost use Rattle.std.specs.Prelude.{◌≡◌};
 ghost use Rattle.weigh.specs.Answers.{told, weight};
 
+use weigh::Weight;
+
 // The answer number, 0, 61, 63, 64, 75 or 76, with the sum's two words and the shadow behind the last three: all 0 on a refusal.
 #[unsafe(no_mangle)]
 pub extern "C" fn bed_weigh(
@@ -14,12 +16,12 @@ pub extern "C" fn bed_weigh(
 ) -> u32
     ensures { told result sum_low.new sum_high.new shadow.new ≡ weight positions.now first indices.now }
 {
-    let w = weigh::weigh(positions, first, indices);
-    let low = w.low;
-    let high = w.high;
-    let area = w.shadow;
-    *sum_low = low;
-    *sum_high = high;
-    *shadow = area;
-    w.answer
+    let (answer, weight) = match weigh::weigh(positions, first, indices) {
+        Ok(weight) => (0, weight),
+        Err(refusal) => (u32::from(refusal), Weight::default()),
+    };
+    *sum_low = weight.low;
+    *sum_high = weight.high;
+    *shadow = weight.shadow;
+    answer
 }

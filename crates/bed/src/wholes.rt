@@ -31,7 +31,7 @@ pub extern "C" fn bed_surface_nets_i16(
     ensures wholes { Wholes 16 sdf.now }
 {
     let k = crate::words::block_of(words);
-    let a = surface_nets::surface_nets_i16(
+    let answer = surface_nets::surface_nets(
         sdf,
         k.dims,
         k.low,
@@ -45,9 +45,7 @@ pub extern "C" fn bed_surface_nets_i16(
         stride_to_index,
         indices,
     );
-    *vertex_count = a.vertex_count;
-    *index_count = a.index_count;
-    a.number
+    crate::answers::tell(answer, vertex_count, index_count)
 }
 
 // Signed 8-bit distances.
@@ -74,7 +72,7 @@ pub extern "C" fn bed_surface_nets_i8(
     ensures wholes { Wholes 8 sdf.now }
 {
     let k = crate::words::block_of(words);
-    let a = surface_nets::surface_nets_i8(
+    let answer = surface_nets::surface_nets(
         sdf,
         k.dims,
         k.low,
@@ -88,9 +86,7 @@ pub extern "C" fn bed_surface_nets_i8(
         stride_to_index,
         indices,
     );
-    *vertex_count = a.vertex_count;
-    *index_count = a.index_count;
-    a.number
+    crate::answers::tell(answer, vertex_count, index_count)
 }
 
 // The answer alone, of 16-bit numbers.
@@ -122,10 +118,8 @@ pub extern "C" fn bed_answer_i16(
         map: stride_to_index_len as usize,
         indices: indices_len as usize,
     };
-    let a = judge::answer_for_i16(sdf, k, room);
-    *vertex_count = a.vertex_count;
-    *index_count = a.index_count;
-    a.number
+    let answer = judge::answer_for(sdf, k, room);
+    crate::answers::tell(answer, vertex_count, index_count)
 }
 
 // The answer alone, of 8-bit numbers.
@@ -157,8 +151,6 @@ pub extern "C" fn bed_answer_i8(
         map: stride_to_index_len as usize,
         indices: indices_len as usize,
     };
-    let a = judge::answer_for_i8(sdf, k, room);
-    *vertex_count = a.vertex_count;
-    *index_count = a.index_count;
-    a.number
+    let answer = judge::answer_for(sdf, k, room);
+    crate::answers::tell(answer, vertex_count, index_count)
 }

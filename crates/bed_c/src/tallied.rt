@@ -5,8 +5,6 @@ ghost use Rattle.tally.specs.Call.{tallied, layer_told};
 ghost use Rattle.bed.specs.Words12.{block_words};
 ghost use Rattle.bed.specs.Tallied.{counts_in, counts_left};
 
-use tally::{Counts, Told};
-
 #[unsafe(no_mangle)]
 pub extern "C" fn bed_tally(sdf: &[f32], words: &[u32; 12], counts: &mut [u64; 3]) -> u32
     ensures value { result ≡ (tallied sdf.now (block_words words.now)).answer }

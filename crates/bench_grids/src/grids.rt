@@ -12,18 +12,11 @@ pub(crate) fn ball(middle: f32) -> [f32; 27] {
     sdf
 }
 
-// Ball, its last distance left out.
-pub(crate) fn ball_of_26() -> [f32; 26] {
-    let mut sdf = [1.0f32; 26];
-    sdf[13] = -1.0;
-    sdf
-}
-
 // Ball, with another distance at one place.
 pub(crate) fn ball_with(place: usize, distance: f32) -> [f32; 27] {
     let mut sdf = ball(-1.0);
-    if place < 27 {
-        sdf[place] = distance;
+    if let Some(d) = sdf.get_mut(place) {
+        *d = distance;
     }
     sdf
 }
@@ -32,13 +25,11 @@ pub(crate) fn ball_with(place: usize, distance: f32) -> [f32; 27] {
 pub(crate) fn signs(pattern: u32) -> [f32; 27] {
     let mut sdf = [1.0f32; 27];
     let mut rest = pattern;
-    let mut i = 0usize;
-    while i < 27 {
+    for d in sdf.iter_mut() {
         if rest % 2 == 1 {
-            sdf[i] = -1.0;
+            *d = -1.0;
         }
-        rest = rest / 2;
-        i += 1;
+        rest /= 2;
     }
     sdf
 }

@@ -6,20 +6,9 @@ mod bench;
 mod grids;
 mod said;
 
-use bench::{Show, case};
+use bench::{AMPLE, Case, Show};
 use grid::{Block, EachAxis, Extent};
 use judge::Lengths;
-
-// Room for the largest mesh here, and three numbers to spare in each list.
-const AMPLE: Lengths = Lengths {
-    positions: 27,
-    normals: 27,
-    cells: 27,
-    strides: 11,
-    crossings: 11,
-    map: 30,
-    indices: 39,
-};
 
 fn at(x: u32, y: u32, z: u32) -> Extent {
     Extent { x, y, z }
@@ -47,167 +36,147 @@ fn row_of(x: u32) -> Block {
 
 fn with_plane() -> Block {
     Block {
-        dims: at(3, 3, 3),
-        low: at(0, 0, 0),
-        high: at(2, 2, 2),
         max_plane: EachAxis::ALL,
+        ..up_to(2, 2, 2)
     }
 }
 
-// A line with the counts, of any grid and of Ball.
-fn counts(rt: &impl Print, name: &[u8], sdf: &[f32], asked: Block) {
-    case(rt, name, sdf, asked, AMPLE, Show::Counts);
-}
-
-fn ball(rt: &impl Print, name: &[u8], asked: Block) {
-    counts(rt, name, &grids::ball(-1.0), asked);
-}
-
-// Ball, with this much room.
-fn ball_in(rt: &impl Print, name: &[u8], positions: usize, map: usize, indices: usize) {
-    let room = Lengths {
-        positions,
-        normals: 27,
-        cells: 27,
-        strides: 11,
-        crossings: 11,
-        map,
-        indices,
-    };
-    case(
-        rt,
-        name,
-        &grids::ball(-1.0),
-        up_to(2, 2, 2),
-        room,
-        Show::Counts,
-    );
-}
-
 // One cell, with its vertex.
-fn cell(rt: &impl Print, name: &[u8], corners: &[f32]) {
-    let one = plain(at(2, 2, 2), at(0, 0, 0), at(1, 1, 1));
-    case(rt, name, corners, one, AMPLE, Show::Vertex);
+fn cell<'a>(name: &'static str, corners: &'a [f32]) -> Case<'a> {
+    Case {
+        show: Show::Vertex,
+        ..Case::new(name, corners, plain(at(2, 2, 2), at(0, 0, 0), at(1, 1, 1)))
+    }
 }
 
-fn meshes(rt: &impl Print) {
+fn run(rt: &impl Print, cases: &[Case<'_>]) {
+    for case in cases {
+        case.run(rt);
+    }
+}
+
+// Meshes, dimensions, boxes and lengths.
+fn balls(rt: &impl Print) {
+    let ball = grids::ball(-1.0);
     let whole = up_to(2, 2, 2);
-    case(rt, b"Ball", &grids::ball(-1.0), whole, AMPLE, Show::Mesh);
-    ball(rt, b"Ball with max plane", with_plane());
-    counts(rt, b"All 1.0", &grids::ball(1.0), whole);
-    counts(
+    run(
         rt,
-        b"Ball with -0.0 at the middle",
-        &grids::ball(-0.0),
-        whole,
+        &[
+            Case {
+                show: Show::Mesh,
+                ..Case::new("Ball", &ball, whole)
+            },
+            Case::new("Ball with max plane", &ball, with_plane()),
+            Case::new("All 1.0", &grids::ball(1.0), whole),
+            Case::new("Ball with -0.0 at the middle", &grids::ball(-0.0), whole),
+            Case::new("Ball, flat box to (0,2,2)", &ball, up_to(0, 2, 2)),
+            Case {
+                show: Show::Indices,
+                ..Case::new(
+                    "Signs 0x2015 with max plane",
+                    &grids::signs(0x2015),
+                    with_plane(),
+                )
+            },
+            Case::new(
+                "Dimension 0",
+                &ball,
+                plain(at(0, 3, 3), at(0, 0, 0), at(2, 2, 2)),
+            ),
+            Case::new("Dimensions 16,777,217, 1, 1", &[1.0], row_of(16777217)),
+            Case::new("Dimensions 16,777,218, 1, 1", &[1.0], row_of(16777218)),
+            Case::new(
+                "min (2,0,0), max (1,2,2)",
+                &ball,
+                plain(at(3, 3, 3), at(2, 0, 0), at(1, 2, 2)),
+            ),
+            Case::new("max (3,2,2)", &ball, up_to(3, 2, 2)),
+            Case::new("Grid of 26, box to (2,2,2)", &ball[..26], up_to(2, 2, 2)),
+            Case::new("Grid of 26, box to (1,1,1)", &ball[..26], up_to(1, 1, 1)),
+            Case {
+                room: Lengths { map: 26, ..AMPLE },
+                ..Case::new("Map one short of the grid", &ball, whole)
+            },
+        ],
     );
-    ball(rt, b"Ball, flat box to (0,2,2)", up_to(0, 2, 2));
 }
 
-fn signs(rt: &impl Print) {
-    case(
-        rt,
-        b"Signs 0x2015 with max plane",
-        &grids::signs(0x2015),
-        with_plane(),
-        AMPLE,
-        Show::Indices,
-    );
-}
-
-fn dimensions(rt: &impl Print) {
-    ball(
-        rt,
-        b"Dimension 0",
-        plain(at(0, 3, 3), at(0, 0, 0), at(2, 2, 2)),
-    );
-    counts(rt, b"Dimensions 16,777,217, 1, 1", &[1.0], row_of(16777217));
-    counts(rt, b"Dimensions 16,777,218, 1, 1", &[1.0], row_of(16777218));
-}
-
-fn boxes(rt: &impl Print) {
-    ball(
-        rt,
-        b"min (2,0,0), max (1,2,2)",
-        plain(at(3, 3, 3), at(2, 0, 0), at(1, 2, 2)),
-    );
-    ball(rt, b"max (3,2,2)", up_to(3, 2, 2));
-}
-
-fn lengths(rt: &impl Print) {
-    let short = grids::ball_of_26();
-    counts(rt, b"Grid of 26, box to (2,2,2)", &short, up_to(2, 2, 2));
-    counts(rt, b"Grid of 26, box to (1,1,1)", &short, up_to(1, 1, 1));
-    ball_in(rt, b"Map one short of the grid", 27, 26, 39);
-}
-
-fn not_a_number(rt: &impl Print) {
+// Distances that are not let in, or just.
+fn distances(rt: &impl Print) {
     let nan = grids::ball_with(26, 0.0 / 0.0);
-    counts(
-        rt,
-        b"Ball with not-a-number at (2,2,2)",
-        &nan,
-        up_to(2, 2, 2),
-    );
-    counts(rt, b"The same, box to (1,1,1)", &nan, up_to(1, 1, 1));
-}
-
-fn large(rt: &impl Print) {
     let whole = up_to(2, 2, 2);
-    counts(
+    run(
         rt,
-        b"Ball with 2^124 at (0,0,0)",
-        &grids::ball_with(0, grids::CAP),
-        whole,
-    );
-    counts(
-        rt,
-        b"Ball with the next float up",
-        &grids::ball_with(0, grids::ABOVE_CAP),
-        whole,
+        &[
+            Case::new("Ball with not-a-number at (2,2,2)", &nan, whole),
+            Case::new("The same, box to (1,1,1)", &nan, up_to(1, 1, 1)),
+            Case::new(
+                "Ball with 2^124 at (0,0,0)",
+                &grids::ball_with(0, grids::CAP),
+                whole,
+            ),
+            Case::new(
+                "Ball with the next float up",
+                &grids::ball_with(0, grids::ABOVE_CAP),
+                whole,
+            ),
+        ],
     );
 }
 
 fn room(rt: &impl Print) {
-    ball_in(rt, b"Ball, positions 23", 23, 30, 39);
-    ball_in(rt, b"Ball, positions 23, indices 17", 23, 30, 17);
-    ball_in(rt, b"Ball, indices 17", 27, 30, 17);
+    let ball = grids::ball(-1.0);
+    let whole = up_to(2, 2, 2);
+    run(
+        rt,
+        &[
+            Case {
+                room: Lengths {
+                    positions: 23,
+                    ..AMPLE
+                },
+                ..Case::new("Ball, positions 23", &ball, whole)
+            },
+            Case {
+                room: Lengths {
+                    positions: 23,
+                    indices: 17,
+                    ..AMPLE
+                },
+                ..Case::new("Ball, positions 23, indices 17", &ball, whole)
+            },
+            Case {
+                room: Lengths {
+                    indices: 17,
+                    ..AMPLE
+                },
+                ..Case::new("Ball, indices 17", &ball, whole)
+            },
+        ],
+    );
 }
 
 // One cell whose four x edges cross alike, and the corners on which other orders of the normal's terms change bits.
 fn cells(rt: &impl Print) {
-    cell(
+    run(
         rt,
-        b"Fraction of (1, -1) along x",
-        &grids::along_x(1.0, -1.0),
-    );
-    cell(
-        rt,
-        b"Fraction of (0, -1) along x",
-        &grids::along_x(0.0, -1.0),
-    );
-    cell(
-        rt,
-        b"Fraction of (-1, 0) along x",
-        &grids::along_x(-1.0, 0.0),
-    );
-    cell(
-        rt,
-        b"Cell -1 0 0 -1 0 0 0 -1",
-        &[-1.0, 0.0, 0.0, -1.0, 0.0, 0.0, 0.0, -1.0],
+        &[
+            cell("Fraction of (1, -1) along x", &grids::along_x(1.0, -1.0)),
+            cell("Fraction of (0, -1) along x", &grids::along_x(0.0, -1.0)),
+            cell("Fraction of (-1, 0) along x", &grids::along_x(-1.0, 0.0)),
+            cell(
+                "Cell -1 0 0 -1 0 0 0 -1",
+                &[-1.0, 0.0, 0.0, -1.0, 0.0, 0.0, 0.0, -1.0],
+            ),
+        ],
     );
 }
 
 fn main(rt: HostRuntime) {
     let rt = &rt;
-    said::head(rt);
-    meshes(rt);
-    signs(rt);
-    dimensions(rt);
-    boxes(rt);
-    lengths(rt);
-    not_a_number(rt);
-    large(rt);
+    let _ = println!(rt; "{}", said::HEAD);
+    balls(rt);
+    distances(rt);
     room(rt);
     cells(rt);
 }

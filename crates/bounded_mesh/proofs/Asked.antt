@@ -5,14 +5,13 @@ use lib.Dec.{T}
 use Rattle.lists.proofs.Tests.{is-test}
 use Rattle.rules.specs.Call.{bad_dimensions, bad_box, bad_length, room}
 use Rattle.rules.proofs.Accepted.{Accepted}
-use Rattle.skin.specs.declared.Enclosed.{Enclosed as Tested}
 use Rattle.skin.specs.Enclosed.{Enclosed, enclosed}
-use Rattle.skin.specs.Scan.{answers, judged}
+use Rattle.skin.specs.Scan.{Tested, answers, judged}
 use Rattle.skin.proofs.Premise.{enclosed-says}
 use Rattle.promises.specs.Served.{Served, Done}
 use Rattle.promises.proofs.Done.{done-accepts}
 use Rattle.promises.proofs.Runs.{Run, served, grid_of, dims_of, low_of, high_of, BedRun, bed_served, bed_grid, bed_dims, bed_low, bed_high}
-use Rattle.closed_mesh.proofs.Outcome.{input, Test, test_input, BedTest, bed_test_input, bed_tested}
+use Rattle.closed_mesh.proofs.Outcome.{input, Test, test_input, tested, BedTest, bed_test_input, bed_tested}
 use Rattle.closed_mesh.proofs.Calls.{moved}
 use Rattle.weighed_mesh.specs.Told.{weight_of}
 use Rattle.bounded_mesh.specs.Bounded.{Bounded}
@@ -40,7 +39,7 @@ yes-bounded u done yes' = volume-bounded u done (yes-says u done yes')
 
 -- ---- surface_nets and is_enclosed, and the two functions for C
 
-pub surface-nets-yes-bounded : (t : Test) (u : Run) → test_input t ≡ input (grid_of u) (dims_of u) (low_of u) (high_of u) → t.result ≡ answers 0 true → Done (served u)
+pub surface-nets-yes-bounded : (t : Test) (u : Run) → test_input t ≡ input (grid_of u) (dims_of u) (low_of u) (high_of u) → tested t ≡ answers 0 true → Done (served u)
     → Bounded (served u) (weight_of (served u))
 surface-nets-yes-bounded t u same yes' done = yes-bounded (served u) done (moved same t.learnt yes')
 

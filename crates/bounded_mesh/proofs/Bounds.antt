@@ -21,8 +21,8 @@ use Rattle.rules.specs.Call.{room}
 use Rattle.rules.proofs.Accepted.{Accepted}
 use Rattle.rules.proofs.Indexes.{index_below}
 use Rattle.rules.proofs.Edges.{index-count}
-use Rattle.volume.specs.declared.Weighed.{Weighed}
 use Rattle.volume.specs.Volume.{sixfold}
+use Rattle.volume.specs.Answers.{Weighed}
 use Rattle.volume.proofs.Weighing.{accepted, weighs}
 use Rattle.volume.proofs.Whole.{minus_plus, neg-minus}
 use Rattle.skin.specs.Enclosed.{Inner, Enclosed}

@@ -11,9 +11,8 @@ use lib.ListN.{replicate}
 use lib.Ieee.{Float, fin}
 use Rattle.rules.proofs.Cases as rules
 use Rattle.grid.specs.Values.{as_floats}
-use Rattle.skin.specs.declared.Enclosed.{Enclosed}
 use Rattle.skin.specs.Enclosed.{inner, enclosed}
-use Rattle.skin.specs.Scan.{answers, judged, layer_enclosed, judged_layer}
+use Rattle.skin.specs.Scan.{Tested, answers, judged, layer_enclosed, judged_layer}
 use Rattle.bed.proofs.Places.{
   EnclosedCall,
   EnclosedCall16,
@@ -59,7 +58,7 @@ abbrev Comes : ℕ → Bool → ℕ → Bool → Type 0
 Comes number says wanted yes' = (number ≡ wanted) × (says ≡ yes')
 
 comes : (number wanted : ℕ) (says yes' : Bool) → answers number says ≡ answers wanted yes' → Comes number says wanted yes'
-comes number wanted says yes' e = (ap (λ (x : Enclosed). x.answer) e, ap (λ (x : Enclosed). x.enclosed) e)
+comes number wanted says yes' e = (ap (λ (x : Tested). x.answer) e, ap (λ (x : Tested). x.enclosed) e)
 
 -- ---- bed_is_enclosed, bed_is_enclosed_i16, bed_is_enclosed_i8: distances, words, the yes or no
 

@@ -9,20 +9,18 @@ use lib.Count.{count_trailing_zeros}
 use lib.IntN.{pos, negsuc}
 use lib.Ieee.{Float, odd, of_fields, of_bits}
 use Rattle.lists.specs.Lists.{some}
-use Rattle.volume.specs.declared.Weighed.{Weighed}
-use Rattle.volume.specs.Steps.{outside, steps}
+use Rattle.volume.specs.Steps.{past, steps}
 use Rattle.volume.specs.Volume.{determinant, sum_over}
-use Rattle.volume.specs.Answers.{weighed, weighing}
-use Rattle.weigh.specs.declared.Weight.{Weight}
+use Rattle.volume.specs.Answers.{Weighed, weighed, weighing}
 use Rattle.weigh.specs.Sums.{shadow_of, pillar_of, sum_of}
 use Rattle.weigh.specs.Words.{high_of, low_of}
-use Rattle.weigh.specs.Answers.{beyond, some_wide, told, weight}
+use Rattle.weigh.specs.Answers.{Answer, some_wide, told, weight}
 use Rattle.bed.proofs.Places.{VolumeCall, WeighCall, volume-by-place, weigh-by-place}
 use Rattle.calls.proofs.Lists.{floats}
 
 -- what a computed fact opens
 opened : Unit {0}
-unfolding some outside beyond steps determinant sum_over weighing shadow_of pillar_of sum_of high_of low_of some_wide weight odd of_fields of_bits count_trailing_zeros
+unfolding some past steps determinant sum_over weighing shadow_of pillar_of sum_of high_of low_of some_wide weight odd of_fields of_bits count_trailing_zeros
 opened = tt
 
 -- (1.3, 2.7, 3.1), (2.2, 1.9, 9.4), (1.75, 3.6, 0.3), (2.9, 2.05, 4.45); in steps (332, 691, 793), (563, 486, 2406), (448, 921, 76), (742, 524, 1139)
@@ -70,4 +68,4 @@ weigh-called u e =
     let (_, (_, (_, (low, (high, (shadow, _)))))) = u.last in
     let w : told u.result low high shadow ≡ told 0 18446744073685924742 (negsuc 0) (pos 36762) =
     subst (λ (g : WeighLent). told u.result low high shadow ≡ weight g.0 g.1 g.2) e (weigh-by-place u) in
-    (ap (λ (x : Weight). x.answer) w, ap (λ (x : Weight). x.low) w, ap (λ (x : Weight). x.high) w, ap (λ (x : Weight). x.shadow) w)
+    (ap (λ (x : Answer). x.answer) w, ap (λ (x : Answer). x.low) w, ap (λ (x : Answer). x.high) w, ap (λ (x : Answer). x.shadow) w)

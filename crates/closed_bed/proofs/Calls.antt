@@ -4,7 +4,7 @@
 use Prim.Native.Nat.{ℕ, ◌+◌, ◌≤◌, ◌<◌}
 use mathlib.Core.Bool.{true, not}
 use mathlib.Core.List.{List}
-use mathlib.Core.Path.{◌≡◌, sym, ap, subst, ◌∙◌}
+use mathlib.Core.Path.{◌≡◌, refl, sym, ap, subst, ◌∙◌}
 use lib.Dec.{T}
 use lib.Ieee.{Float}
 use lib.ListN.{length, take}
@@ -18,13 +18,16 @@ use Rattle.rules.proofs.Accepted.{Accepted, accepted-answer}
 use Rattle.grid.specs.declared.Extent.{Extent}
 use Rattle.grid.specs.declared.EachAxis.{EachAxis}
 use Rattle.grid.specs.Block.{point}
+use Rattle.grid.specs.Values.{floats-themselves}
+use Rattle.grid.proofs.Instances.{DistanceType, float-type, sixteen-type, eight-type}
 use Rattle.surface_nets.specs.AsRules.{call_made}
 use Rattle.skin.specs.Links.{links}
 use Rattle.skin.specs.Scan.{answers, examined}
+use Rattle.closing.specs.Refused.{answer_of}
 use Rattle.closing.specs.Closed.{closed_dims, point_count, layer_count, open_field, closed_list, closed_layer}
 use Rattle.closing.specs.Answers.{layer_answer, layer_room}
 use Rattle.closing.proofs.Answers.{layer-done}
-use Rattle.closed_mesh.proofs.Outcome.{Input, Mesh, mesh_input, mesh_answer, mesh_exit, Test, test_input, BedMesh, bed_mesh_input, bed_mesh_answer, bed_mesh_exit, BedTest, bed_test_input, bed_tested}
+use Rattle.closed_mesh.proofs.Outcome.{Input, Mesh, mesh_input, mesh_answer, mesh_exit, Test, test_input, tested, BedMesh, bed_mesh_input, bed_mesh_answer, bed_mesh_exit, BedTest, bed_test_input, bed_tested}
 use Rattle.closed_mesh.proofs.Closed.{Even, mesh-closed-yes}
 use Rattle.closed_mesh.proofs.Calls.{mesh-is, bed-mesh-is}
 use Rattle.closed_bed.specs.Standing.{whole_box}
@@ -32,20 +35,20 @@ use Rattle.closed_bed.specs.Layers.{layer_of}
 use Rattle.closed_bed.proofs.Values.{Closes, call-accepted, call-closed}
 use Rattle.closed_bed.proofs.Enclosing.{closed-judged}
 use Rattle.closed_bed.proofs.Passing.{closed-passes}
-use Rattle.closed_bed.proofs.Outcome.{closed_extent, origin, far_corner, closed_input, Close, close_dims, close_exit, close-is, Close16, close_dims16, close_exit16, close-is-16, Close8, close_dims8, close_exit8, close-is-8, CloseLayer, layer_exit, BedClose, bed_close_dims, bed_close_exit, bed-close-is, BedClose16, bed_close_dims16, bed_close_exit16, bed-close-is-16, BedClose8, bed_close_dims8, bed_close_exit8, bed-close-is-8}
+use Rattle.closed_bed.proofs.Outcome.{closed_extent, origin, far_corner, closed_input, FloatsAre, CloseAt, close_dims_at, close_exit_at, close-is-at, Close, close_dims, close_exit, close-is, Close16, close_dims16, close_exit16, Close8, close_dims8, close_exit8, CloseLayer, layer_exit, BedClose, bed_close_dims, bed_close_exit, bed-close-is, BedClose16, bed_close_dims16, bed_close_exit16, bed-close-is-16, BedClose8, bed_close_dims8, bed_close_exit8, bed-close-is-8}
 use Rattle.closed_bed.proofs.Joining.{closed-layer-long, layers-joined}
 
 -- the test and the mesh of the same input
-tested : (t : Test) {i : Input} → test_input t ≡ i → examined i.sdf i.dims i.low i.high ≡ answers 0 true → t.result ≡ answers 0 true
-tested t same yes' = t.learnt ∙ subst (λ (k : Input). examined k.sdf k.dims k.low k.high ≡ answers 0 true) (sym same) yes'
+says-yes : (t : Test) {i : Input} → test_input t ≡ i → examined i.sdf i.dims i.low i.high ≡ answers 0 true → tested t ≡ answers 0 true
+says-yes t same yes' = t.learnt ∙ subst (λ (k : Input). examined k.sdf k.dims k.low k.high ≡ answers 0 true) (sym same) yes'
 
-meshed : (m : Mesh) {i : Input} → mesh_input m ≡ i → examined i.sdf i.dims i.low i.high ≡ answers 0 true → m.result.number ≡ 0
+meshed : (m : Mesh) {i : Input} → mesh_input m ≡ i → examined i.sdf i.dims i.low i.high ≡ answers 0 true → (mesh_answer m).number ≡ 0
     → Even (links (take (mesh_answer m).indices (mesh_exit m).indices))
 meshed m same yes' made =
     mesh-closed-yes (mesh-is m made) (subst (λ (k : Input). examined k.sdf k.dims k.low k.high ≡ answers 0 true) (sym same) yes')
 
-bed-tested : (t : BedTest) {i : Input} → bed_test_input t ≡ i → examined i.sdf i.dims i.low i.high ≡ answers 0 true → bed_tested t ≡ answers 0 true
-bed-tested t same yes' = t.learnt ∙ subst (λ (k : Input). examined k.sdf k.dims k.low k.high ≡ answers 0 true) (sym same) yes'
+bed-says-yes : (t : BedTest) {i : Input} → bed_test_input t ≡ i → examined i.sdf i.dims i.low i.high ≡ answers 0 true → bed_tested t ≡ answers 0 true
+bed-says-yes t same yes' = t.learnt ∙ subst (λ (k : Input). examined k.sdf k.dims k.low k.high ≡ answers 0 true) (sym same) yes'
 
 bed-meshed : (m : BedMesh) {i : Input} → bed_mesh_input m ≡ i → examined i.sdf i.dims i.low i.high ≡ answers 0 true → m.result ≡ 0
     → Even (links (take (bed_mesh_answer m).indices (bed_mesh_exit m).indices))
@@ -70,37 +73,45 @@ module _ {dims : Extent} {wall : Float} {sdf old exit : List Float} {r : ℕ} (c
       (subst (λ (l : List Float). Accepted (open_field (closed_dims d) l) (length l) room.map (whole_box (closed_dims d))) (sym (call-closed c))
       (closed-passes d sdf wall (call-accepted c).far (call-accepted c).closable fine room.map long))
 
--- ---- close, then is_enclosed or surface_nets, for each width
+-- ---- close, then is_enclosed or surface_nets, for any type of numbers and for each width
 
-module _ (o : Close) (done : o.result ≡ 0) where
-  pub is-enclosed-after-close : (t : Test) → test_input t ≡ closed_input (close_dims o) (close_exit o) → t.result ≡ answers 0 true
-  is-enclosed-after-close t same = tested t same (examined-yes (close-is o done))
+module _ (D : DistanceType) (are : FloatsAre D) (o : CloseAt D) (done : answer_of o.result ≡ 0) where
+  pub is-enclosed-after-close-at : (t : Test) → test_input t ≡ closed_input (close_dims_at D o) (close_exit_at D o) → tested t ≡ answers 0 true
+  is-enclosed-after-close-at t same = says-yes t same (examined-yes (close-is-at D o are done))
 
-  pub no-hole-after-close : (m : Mesh) → mesh_input m ≡ closed_input (close_dims o) (close_exit o) → m.result.number ≡ 0
+  pub no-hole-after-close-at : (m : Mesh) → mesh_input m ≡ closed_input (close_dims_at D o) (close_exit_at D o) → (mesh_answer m).number ≡ 0
       → Even (links (take (mesh_answer m).indices (mesh_exit m).indices))
-  no-hole-after-close m same made = meshed m same (examined-yes (close-is o done)) made
+  no-hole-after-close-at m same made = meshed m same (examined-yes (close-is-at D o are done)) made
 
-module _ (o : Close16) (done : o.result ≡ 0) where
-  pub is-enclosed-after-close-16 : (t : Test) → test_input t ≡ closed_input (close_dims16 o) (close_exit16 o) → t.result ≡ answers 0 true
-  is-enclosed-after-close-16 t same = tested t same (examined-yes (close-is-16 o done))
+module _ (o : Close) (done : answer_of o.result ≡ 0) where
+  pub is-enclosed-after-close : (t : Test) → test_input t ≡ closed_input (close_dims o) (close_exit o) → tested t ≡ answers 0 true
+  is-enclosed-after-close = is-enclosed-after-close-at float-type floats-themselves o done
 
-  pub no-hole-after-close-16 : (m : Mesh) → mesh_input m ≡ closed_input (close_dims16 o) (close_exit16 o) → m.result.number ≡ 0
+  pub no-hole-after-close : (m : Mesh) → mesh_input m ≡ closed_input (close_dims o) (close_exit o) → (mesh_answer m).number ≡ 0
       → Even (links (take (mesh_answer m).indices (mesh_exit m).indices))
-  no-hole-after-close-16 m same made = meshed m same (examined-yes (close-is-16 o done)) made
+  no-hole-after-close = no-hole-after-close-at float-type floats-themselves o done
 
-module _ (o : Close8) (done : o.result ≡ 0) where
-  pub is-enclosed-after-close-8 : (t : Test) → test_input t ≡ closed_input (close_dims8 o) (close_exit8 o) → t.result ≡ answers 0 true
-  is-enclosed-after-close-8 t same = tested t same (examined-yes (close-is-8 o done))
+module _ (o : Close16) (done : answer_of o.result ≡ 0) where
+  pub is-enclosed-after-close-16 : (t : Test) → test_input t ≡ closed_input (close_dims16 o) (close_exit16 o) → tested t ≡ answers 0 true
+  is-enclosed-after-close-16 = is-enclosed-after-close-at sixteen-type (λ l. refl) o done
 
-  pub no-hole-after-close-8 : (m : Mesh) → mesh_input m ≡ closed_input (close_dims8 o) (close_exit8 o) → m.result.number ≡ 0
+  pub no-hole-after-close-16 : (m : Mesh) → mesh_input m ≡ closed_input (close_dims16 o) (close_exit16 o) → (mesh_answer m).number ≡ 0
       → Even (links (take (mesh_answer m).indices (mesh_exit m).indices))
-  no-hole-after-close-8 m same made = meshed m same (examined-yes (close-is-8 o done)) made
+  no-hole-after-close-16 = no-hole-after-close-at sixteen-type (λ l. refl) o done
+
+module _ (o : Close8) (done : answer_of o.result ≡ 0) where
+  pub is-enclosed-after-close-8 : (t : Test) → test_input t ≡ closed_input (close_dims8 o) (close_exit8 o) → tested t ≡ answers 0 true
+  is-enclosed-after-close-8 = is-enclosed-after-close-at eight-type (λ l. refl) o done
+
+  pub no-hole-after-close-8 : (m : Mesh) → mesh_input m ≡ closed_input (close_dims8 o) (close_exit8 o) → (mesh_answer m).number ≡ 0
+      → Even (links (take (mesh_answer m).indices (mesh_exit m).indices))
+  no-hole-after-close-8 = no-hole-after-close-at eight-type (λ l. refl) o done
 
 -- ---- the same of the functions for C
 
 module _ (o : BedClose) (done : o.result ≡ 0) where
   pub bed-is-enclosed-after-close : (t : BedTest) → bed_test_input t ≡ closed_input (bed_close_dims o) (bed_close_exit o) → bed_tested t ≡ answers 0 true
-  bed-is-enclosed-after-close t same = bed-tested t same (examined-yes (bed-close-is o done))
+  bed-is-enclosed-after-close t same = bed-says-yes t same (examined-yes (bed-close-is o done))
 
   pub bed-no-hole-after-close : (m : BedMesh) → bed_mesh_input m ≡ closed_input (bed_close_dims o) (bed_close_exit o) → m.result ≡ 0
       → Even (links (take (bed_mesh_answer m).indices (bed_mesh_exit m).indices))
@@ -108,7 +119,7 @@ module _ (o : BedClose) (done : o.result ≡ 0) where
 
 module _ (o : BedClose16) (done : o.result ≡ 0) where
   pub bed-is-enclosed-after-close-16 : (t : BedTest) → bed_test_input t ≡ closed_input (bed_close_dims16 o) (bed_close_exit16 o) → bed_tested t ≡ answers 0 true
-  bed-is-enclosed-after-close-16 t same = bed-tested t same (examined-yes (bed-close-is-16 o done))
+  bed-is-enclosed-after-close-16 t same = bed-says-yes t same (examined-yes (bed-close-is-16 o done))
 
   pub bed-no-hole-after-close-16 : (m : BedMesh) → bed_mesh_input m ≡ closed_input (bed_close_dims16 o) (bed_close_exit16 o) → m.result ≡ 0
       → Even (links (take (bed_mesh_answer m).indices (bed_mesh_exit m).indices))
@@ -116,7 +127,7 @@ module _ (o : BedClose16) (done : o.result ≡ 0) where
 
 module _ (o : BedClose8) (done : o.result ≡ 0) where
   pub bed-is-enclosed-after-close-8 : (t : BedTest) → bed_test_input t ≡ closed_input (bed_close_dims8 o) (bed_close_exit8 o) → bed_tested t ≡ answers 0 true
-  bed-is-enclosed-after-close-8 t same = bed-tested t same (examined-yes (bed-close-is-8 o done))
+  bed-is-enclosed-after-close-8 t same = bed-says-yes t same (examined-yes (bed-close-is-8 o done))
 
   pub bed-no-hole-after-close-8 : (m : BedMesh) → bed_mesh_input m ≡ closed_input (bed_close_dims8 o) (bed_close_exit8 o) → m.result ≡ 0
       → Even (links (take (bed_mesh_answer m).indices (bed_mesh_exit m).indices))
@@ -128,7 +139,7 @@ module _ (o : BedClose8) (done : o.result ≡ 0) where
 pub record Layered (dims : Extent) (wall : Float) (sdf : List Float) (calls : ℕ → CloseLayer) : Type 0 where
   pub given : (z : ℕ) → z < dims.z + 3 → (let (layer, (dims', (z', (wall', _)))) = (calls z).args in
       (layer.now ≡ layer_of (point dims) sdf z) × (dims' ≡ dims) × (z' ≡ z) × (wall' ≡ wall))
-  pub done : (z : ℕ) → z < dims.z + 3 → (calls z).result ≡ 0
+  pub done : (z : ℕ) → z < dims.z + 3 → answer_of (calls z).result ≡ 0
 
 -- what one such call left
 layer-left : (d : GridPoint) (wall : Float) (z : ℕ) (layer old exit : List Float) {r : ℕ} → r ≡ layer_answer d z (length layer) wall (length old) → r ≡ 0
@@ -151,7 +162,7 @@ layers-are-closed dims wall sdf calls l =
         (left ∙ (λ j. closed_layer (point dims') (g.3 j) (g.2 j) (g.0 j)))
 
 -- the one call, and the layers
-pub layers-are-the-grid : (o : Close) → o.result ≡ 0 → (calls : ℕ → CloseLayer)
+pub layers-are-the-grid : (o : Close) → answer_of o.result ≡ 0 → (calls : ℕ → CloseLayer)
     → (let (sdf, (dims, (wall, _))) = o.args in Layered dims wall sdf.now calls
     → joined (λ z. take (layer_count (closed_dims (point dims))) (layer_exit (calls z))) (up_to 0 (dims.z + 3)) ≡ take (point_count (closed_dims (point dims))) (close_exit o))
 layers-are-the-grid o done calls l =

@@ -114,7 +114,7 @@ over : (U D n e : ℕ) → U * (D * e) ≤ (U * e + n * D) * D
 over U D n e = le_trans (le_of_eq shape) (le_trans (le-add_right (U * e * D) (n * D * D)) (le_of_eq (sym (add-mul (U * e) (n * D) D))))
   where
     shape : U * (D * e) ≡ U * e * D
-    shape = simp (mul_assoc, mul_comm, mul_left_comm)
+    shape = simp (mul_assoc, mul_comm)
 
 -- what the sum is rounded to: the wall's own value
 pub record AsFar (wall r : Float) : Type 0 where

@@ -23,15 +23,17 @@ use Rattle.grid.specs.declared.Extent.{Extent}
 use Rattle.grid.specs.declared.EachAxis.{EachAxis}
 use Rattle.grid.specs.Block.{point}
 use Rattle.surface_nets.specs.AsRules.{call_made}
+use Rattle.closing.specs.Refused.{answer_of}
 use Rattle.closing.specs.Closed.{closed_dims, point_count, open_field, closed_list}
-use Rattle.grid.specs.Values.{as_floats}
+use Rattle.grid.specs.Values.{as_floats, floats-themselves}
+use Rattle.grid.proofs.Instances.{DistanceType, float-type, sixteen-type, eight-type}
 use Rattle.closed_mesh.proofs.Outcome.{Input, Mesh, mesh_input, mesh_plane, mesh_answer, mesh_entry, mesh_exit, BedMesh, bed_mesh_input, bed_mesh_plane, bed_mesh_answer, bed_mesh_entry, bed_mesh_exit}
 use Rattle.closed_mesh.proofs.Closed.{Meshed}
 use Rattle.closed_mesh.proofs.Calls.{mesh-is, bed-mesh-is}
 use Rattle.closed_bed.specs.Standing.{whole_box, FarWall, component, Stands, axis_place, StandsAt}
 use Rattle.closed_bed.proofs.Values.{Closes, call-accepted, call-closed}
 use Rattle.closed_bed.proofs.Standing.{all-stand}
-use Rattle.closed_bed.proofs.Outcome.{closed_extent, origin, far_corner, closed_input, Close, close_dims, close_exit, close-is, Close16, close_dims16, close_exit16, close-is-16, Close8, close_dims8, close_exit8, close-is-8, BedClose, bed_close_dims, bed_close_exit, bed-close-is}
+use Rattle.closed_bed.proofs.Outcome.{closed_extent, origin, far_corner, closed_input, FloatsAre, CloseAt, close_dims_at, close_exit_at, close-is-at, Close, close_dims, close_exit, Close16, close_dims16, close_exit16, Close8, close_dims8, close_exit8, BedClose, bed_close_dims, bed_close_exit, bed-close-is}
 
 -- any cell, where a list is too short
 abbrev pub zero-point : GridPoint
@@ -115,30 +117,35 @@ module _ {dims : Extent} {wall : Float} {sdf old exit : List Float} {r : ℕ} (c
       subst (λ (b : Buffers). StandsAt (along a d) (get_or b.cells (3 * v + axis_place a) 0) (get_or b.positions (3 * v + axis_place a) nan))
       (sym (m.left ∙ when-done call entry done)) (written_stands call entry d v k' st a)
 
--- ---- close, then surface_nets, for each width
+-- ---- close, then surface_nets, for any type of numbers and for each width
 
 -- a mesh call on the closed grid, by what it was given
-meshed : (m : Mesh) (dims : Extent) (exit : List Float) → mesh_input m ≡ closed_input dims exit → m.result.number ≡ 0
+meshed : (m : Mesh) (dims : Extent) (exit : List Float) → mesh_input m ≡ closed_input dims exit → (mesh_answer m).number ≡ 0
     → Meshed (closed_input dims exit) (mesh_plane m) (mesh_answer m) (mesh_entry m) (mesh_exit m) × Binary32 (take (point_count (closed_dims (point dims))) exit)
 meshed m dims exit same made = (
   subst (λ (i : Input). Meshed i (mesh_plane m) (mesh_answer m) (mesh_entry m) (mesh_exit m)) same (mesh-is m made),
   subst (λ (i : Input). Binary32 i.sdf) same m.learnt.1.1,
 )
 
-pub far-wall-stands : (o : Close) → o.result ≡ 0 → (let (sdf, (dims, (wall, _))) = o.args in FarWall wall sdf.now
-    → (m : Mesh) → mesh_input m ≡ closed_input (close_dims o) (close_exit o) → m.result.number ≡ 0 → (v : ℕ) → v < (mesh_answer m).vertices → (a : Axis)
+pub far-wall-stands-at : (D : DistanceType) → FloatsAre D → (o : CloseAt D) → answer_of o.result ≡ 0 → (let (sdf, (dims, (wall, _))) = o.args in FarWall wall (D.distance.floats sdf.now)
+    → (m : Mesh) → mesh_input m ≡ closed_input (close_dims_at D o) (close_exit_at D o) → (mesh_answer m).number ≡ 0 → (v : ℕ) → v < (mesh_answer m).vertices → (a : Axis)
     → StandsAt (along a (point dims)) (get_or (mesh_exit m).cells (3 * v + axis_place a) 0) (get_or (mesh_exit m).positions (3 * v + axis_place a) nan))
-far-wall-stands o done far m same made = let u = meshed m (close_dims o) (close_exit o) same made in mesh-stands (close-is o done) far u.0 u.1
+far-wall-stands-at D are o done far m same made = let u = meshed m (close_dims_at D o) (close_exit_at D o) same made in mesh-stands (close-is-at D o are done) far u.0 u.1
 
-pub far-wall-stands-16 : (o : Close16) → o.result ≡ 0 → (let (sdf, (dims, (wall, _))) = o.args in FarWall wall (as_floats sdf.now)
-    → (m : Mesh) → mesh_input m ≡ closed_input (close_dims16 o) (close_exit16 o) → m.result.number ≡ 0 → (v : ℕ) → v < (mesh_answer m).vertices → (a : Axis)
+pub far-wall-stands : (o : Close) → answer_of o.result ≡ 0 → (let (sdf, (dims, (wall, _))) = o.args in FarWall wall sdf.now
+    → (m : Mesh) → mesh_input m ≡ closed_input (close_dims o) (close_exit o) → (mesh_answer m).number ≡ 0 → (v : ℕ) → v < (mesh_answer m).vertices → (a : Axis)
     → StandsAt (along a (point dims)) (get_or (mesh_exit m).cells (3 * v + axis_place a) 0) (get_or (mesh_exit m).positions (3 * v + axis_place a) nan))
-far-wall-stands-16 o done far m same made = let u = meshed m (close_dims16 o) (close_exit16 o) same made in mesh-stands (close-is-16 o done) far u.0 u.1
+far-wall-stands = far-wall-stands-at float-type floats-themselves
 
-pub far-wall-stands-8 : (o : Close8) → o.result ≡ 0 → (let (sdf, (dims, (wall, _))) = o.args in FarWall wall (as_floats sdf.now)
-    → (m : Mesh) → mesh_input m ≡ closed_input (close_dims8 o) (close_exit8 o) → m.result.number ≡ 0 → (v : ℕ) → v < (mesh_answer m).vertices → (a : Axis)
+pub far-wall-stands-16 : (o : Close16) → answer_of o.result ≡ 0 → (let (sdf, (dims, (wall, _))) = o.args in FarWall wall (as_floats sdf.now)
+    → (m : Mesh) → mesh_input m ≡ closed_input (close_dims16 o) (close_exit16 o) → (mesh_answer m).number ≡ 0 → (v : ℕ) → v < (mesh_answer m).vertices → (a : Axis)
     → StandsAt (along a (point dims)) (get_or (mesh_exit m).cells (3 * v + axis_place a) 0) (get_or (mesh_exit m).positions (3 * v + axis_place a) nan))
-far-wall-stands-8 o done far m same made = let u = meshed m (close_dims8 o) (close_exit8 o) same made in mesh-stands (close-is-8 o done) far u.0 u.1
+far-wall-stands-16 = far-wall-stands-at sixteen-type (λ l. refl)
+
+pub far-wall-stands-8 : (o : Close8) → answer_of o.result ≡ 0 → (let (sdf, (dims, (wall, _))) = o.args in FarWall wall (as_floats sdf.now)
+    → (m : Mesh) → mesh_input m ≡ closed_input (close_dims8 o) (close_exit8 o) → (mesh_answer m).number ≡ 0 → (v : ℕ) → v < (mesh_answer m).vertices → (a : Axis)
+    → StandsAt (along a (point dims)) (get_or (mesh_exit m).cells (3 * v + axis_place a) 0) (get_or (mesh_exit m).positions (3 * v + axis_place a) nan))
+far-wall-stands-8 = far-wall-stands-at eight-type (λ l. refl)
 
 -- ---- bed_close, then bed_surface_nets
 

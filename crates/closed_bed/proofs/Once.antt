@@ -1,5 +1,5 @@
--- Two outcomes of each function of closing that fit its contract, and that of its double for C, are equal: the answer, and what the lent room holds. Each
--- contract is an equation by what went in. Assumes nothing.
+-- Two outcomes of each function of closing that fit its contract, at any type of a grid's numbers, and of its doubles for C, are equal: the answer, and what the
+-- lent room holds. Each contract is an equation by what went in. Assumes nothing.
 use Prim.Native.Nat.{ℕ}
 use mathlib.Core.List.{List}
 use mathlib.Core.Path.{◌≡◌, sym, ap, ◌∙◌}
@@ -12,25 +12,14 @@ use Rattle.grid.specs.Values.{as_floats}
 use Rattle.bed.specs.Words12.{dims_asked}
 use Rattle.closing.specs.Answers.{close_answer, closed_room, layer_answer, layer_room}
 use Rattle.closing.specs.Wall.{deepest, wall_for}
+use Rattle.grid.proofs.Instances.{DistanceType, float-type, sixteen-type, eight-type}
+use Rattle.closing.proofs.Numbers.{one-answer}
 use Rattle.closed_mesh.proofs.Outcome.{Outcome}
-use Rattle.closing.proofs.close.Kinds as close-kinds
-use Rattle.closing.proofs.close.Reads as close-reads
-use Rattle.closing.proofs.close_i16.Kinds as close-i16-kinds
-use Rattle.closing.proofs.close_i16.Reads as close-i16-reads
-use Rattle.closing.proofs.close_i8.Kinds as close-i8-kinds
-use Rattle.closing.proofs.close_i8.Reads as close-i8-reads
+use Rattle.closed_bed.proofs.Outcome.{CloseAt}
 use Rattle.closing.proofs.close_layer.Kinds as close-layer-kinds
 use Rattle.closing.proofs.close_layer.Reads as close-layer-reads
-use Rattle.closing.proofs.close_layer_i16.Kinds as close-layer-i16-kinds
-use Rattle.closing.proofs.close_layer_i16.Reads as close-layer-i16-reads
-use Rattle.closing.proofs.close_layer_i8.Kinds as close-layer-i8-kinds
-use Rattle.closing.proofs.close_layer_i8.Reads as close-layer-i8-reads
 use Rattle.closing.proofs.deepest.Kinds as deepest-kinds
 use Rattle.closing.proofs.deepest.Reads as deepest-reads
-use Rattle.closing.proofs.deepest_i16.Kinds as deepest-i16-kinds
-use Rattle.closing.proofs.deepest_i16.Reads as deepest-i16-reads
-use Rattle.closing.proofs.deepest_i8.Kinds as deepest-i8-kinds
-use Rattle.closing.proofs.deepest_i8.Reads as deepest-i8-reads
 use Rattle.closing.proofs.wall_for.Kinds as wall-for-kinds
 use Rattle.closing.proofs.wall_for.Reads as wall-for-reads
 use Rattle.bed.proofs.closed.bed_close.Kinds as bed-close-kinds
@@ -65,137 +54,159 @@ pub record Given (A : Type 0) : Type 0 where
 abbrev given : {A : Type 0} → List A → Extent → ℕ → Float → List Float → Given A
 given numbers dims z wall room = record { numbers = numbers; dims = dims; z = z; wall = wall; room = room }
 
--- ---- close
+-- ---- close, close_layer and deepest, at any type of numbers
+
+module _ (D : DistanceType) where
+  module _ (o : CloseAt D) where
+    abbrev pub given-close-at : Given D.type.Denot
+    given-close-at = let (numbers, (dims, (wall, (closed, _)))) = o.args in given numbers.now (dims) 0 wall closed.now
+
+    abbrev pub exit-close-at : List Float
+    exit-close-at = let (_, (_, (_, (closed, _)))) = o.exit in closed.now
+
+  pub close-at-once : (o o' : CloseAt D) → given-close-at o ≡ given-close-at o' → (o.result ≡ o'.result) × (exit-close-at o ≡ exit-close-at o')
+  close-at-once o o' same = (
+    one-answer o.result o'.result
+        (o.learnt.0 ∙ ap (λ (g : Given D.type.Denot). close_answer (point g.dims) (length g.numbers) g.wall (length g.room)) same ∙ sym o'.learnt.0),
+    o.learnt.1 ∙ ap (λ (g : Given D.type.Denot). closed_room (point g.dims) g.wall (D.distance.floats g.numbers) g.room) same ∙ sym o'.learnt.1,
+  )
+
+  abbrev pub CloseLayerAt : Type 0
+  CloseLayerAt =
+      Outcome 3 (close-layer-kinds.ps D.type D.laws D.copy) (close-layer-kinds.r D.type D.laws D.copy)
+      (close-layer-reads.Learnt D.type D.laws D.copy D.distance D.distance_dict D.clone D.clone_dict)
+
+  module _ (o : CloseLayerAt) where
+    abbrev pub given-close-layer-at : Given D.type.Denot
+    given-close-layer-at = let (numbers, (dims, (z, (wall, (closed, _))))) = o.args in given numbers.now (dims) z wall closed.now
+
+    abbrev pub exit-close-layer-at : List Float
+    exit-close-layer-at = let (_, (_, (_, (_, (closed, _))))) = o.exit in closed.now
+
+  pub close-layer-at-once : (o o' : CloseLayerAt) → given-close-layer-at o ≡ given-close-layer-at o'
+      → (o.result ≡ o'.result) × (exit-close-layer-at o ≡ exit-close-layer-at o')
+  close-layer-at-once o o' same = (
+    one-answer o.result o'.result
+        (o.learnt.0 ∙ ap (λ (g : Given D.type.Denot). layer_answer (point g.dims) g.z (length g.numbers) g.wall (length g.room)) same ∙ sym o'.learnt.0),
+    o.learnt.1 ∙ ap (λ (g : Given D.type.Denot). layer_room (point g.dims) g.wall g.z (D.distance.floats g.numbers) g.room) same ∙ sym o'.learnt.1,
+  )
+
+  abbrev pub DeepestAt : Type 0
+  DeepestAt =
+      Outcome 2 (deepest-kinds.ps D.type D.laws D.copy) (deepest-kinds.r D.type D.laws D.copy)
+      (deepest-reads.Learnt D.type D.laws D.copy D.distance D.distance_dict D.clone D.clone_dict)
+
+  pub deepest-at-once : (o o' : DeepestAt)
+      → (let (found, (sdf, _)) = o.args in let (found', (sdf', _)) = o'.args in found ≡ found' → sdf.now ≡ sdf'.now → o.result ≡ o'.result)
+  deepest-at-once o o' e f = o.learnt ∙ (λ j. deepest (e j) (D.distance.floats (f j))) ∙ sym o'.learnt
+
+-- ---- at floats
 
 abbrev pub Close : Type 0
-Close = Outcome 2 close-kinds.ps close-kinds.r close-reads.Learnt
+Close = CloseAt float-type
 
 module _ (o : Close) where
   abbrev pub given-close : Given Float
-  given-close = let (numbers, (dims, (wall, (closed, _)))) = o.args in given numbers.now (dims) 0 wall closed.now
+  given-close = given-close-at float-type o
 
   abbrev pub exit-close : List Float
-  exit-close = let (_, (_, (_, (closed, _)))) = o.exit in closed.now
+  exit-close = exit-close-at float-type o
 
 pub close-once : (o o' : Close) → given-close o ≡ given-close o' → (o.result ≡ o'.result) × (exit-close o ≡ exit-close o')
-close-once o o' same = (
-  o.learnt.0 ∙ ap (λ (g : Given Float). close_answer (point g.dims) (length g.numbers) g.wall (length g.room)) same ∙ sym o'.learnt.0,
-  o.learnt.1 ∙ ap (λ (g : Given Float). closed_room (point g.dims) g.wall g.numbers g.room) same ∙ sym o'.learnt.1,
-)
-
--- ---- close_i16
-
-abbrev pub CloseI16 : Type 0
-CloseI16 = Outcome 2 close-i16-kinds.ps close-i16-kinds.r close-i16-reads.Learnt
-
-module _ (o : CloseI16) where
-  abbrev pub given-close-i16 : Given ℤ
-  given-close-i16 = let (numbers, (dims, (wall, (closed, _)))) = o.args in given numbers.now (dims) 0 wall closed.now
-
-  abbrev pub exit-close-i16 : List Float
-  exit-close-i16 = let (_, (_, (_, (closed, _)))) = o.exit in closed.now
-
-pub close-i16-once : (o o' : CloseI16) → given-close-i16 o ≡ given-close-i16 o' → (o.result ≡ o'.result) × (exit-close-i16 o ≡ exit-close-i16 o')
-close-i16-once o o' same = (
-  o.learnt.0 ∙ ap (λ (g : Given ℤ). close_answer (point g.dims) (length g.numbers) g.wall (length g.room)) same ∙ sym o'.learnt.0,
-  o.learnt.1 ∙ ap (λ (g : Given ℤ). closed_room (point g.dims) g.wall (as_floats g.numbers) g.room) same ∙ sym o'.learnt.1,
-)
-
--- ---- close_i8
-
-abbrev pub CloseI8 : Type 0
-CloseI8 = Outcome 2 close-i8-kinds.ps close-i8-kinds.r close-i8-reads.Learnt
-
-module _ (o : CloseI8) where
-  abbrev pub given-close-i8 : Given ℤ
-  given-close-i8 = let (numbers, (dims, (wall, (closed, _)))) = o.args in given numbers.now (dims) 0 wall closed.now
-
-  abbrev pub exit-close-i8 : List Float
-  exit-close-i8 = let (_, (_, (_, (closed, _)))) = o.exit in closed.now
-
-pub close-i8-once : (o o' : CloseI8) → given-close-i8 o ≡ given-close-i8 o' → (o.result ≡ o'.result) × (exit-close-i8 o ≡ exit-close-i8 o')
-close-i8-once o o' same = (
-  o.learnt.0 ∙ ap (λ (g : Given ℤ). close_answer (point g.dims) (length g.numbers) g.wall (length g.room)) same ∙ sym o'.learnt.0,
-  o.learnt.1 ∙ ap (λ (g : Given ℤ). closed_room (point g.dims) g.wall (as_floats g.numbers) g.room) same ∙ sym o'.learnt.1,
-)
-
--- ---- close_layer
+close-once = close-at-once float-type
 
 abbrev pub CloseLayer : Type 0
-CloseLayer = Outcome 2 close-layer-kinds.ps close-layer-kinds.r close-layer-reads.Learnt
+CloseLayer = CloseLayerAt float-type
 
 module _ (o : CloseLayer) where
   abbrev pub given-close-layer : Given Float
-  given-close-layer = let (numbers, (dims, (z, (wall, (closed, _))))) = o.args in given numbers.now (dims) z wall closed.now
+  given-close-layer = given-close-layer-at float-type o
 
   abbrev pub exit-close-layer : List Float
-  exit-close-layer = let (_, (_, (_, (_, (closed, _))))) = o.exit in closed.now
+  exit-close-layer = exit-close-layer-at float-type o
 
-pub close-layer-once : (o o' : CloseLayer) → given-close-layer o ≡ given-close-layer o' → (o.result ≡ o'.result) × (exit-close-layer o ≡ exit-close-layer o')
-close-layer-once o o' same = (
-  o.learnt.0 ∙ ap (λ (g : Given Float). layer_answer (point g.dims) g.z (length g.numbers) g.wall (length g.room)) same ∙ sym o'.learnt.0,
-  o.learnt.1 ∙ ap (λ (g : Given Float). layer_room (point g.dims) g.wall g.z g.numbers g.room) same ∙ sym o'.learnt.1,
-)
+pub close-layer-once : (o o' : CloseLayer) → given-close-layer o ≡ given-close-layer o'
+    → (o.result ≡ o'.result) × (exit-close-layer o ≡ exit-close-layer o')
+close-layer-once = close-layer-at-once float-type
 
--- ---- close_layer_i16
+abbrev pub Deepest : Type 0
+Deepest = DeepestAt float-type
+
+pub deepest-once : (o o' : Deepest)
+    → (let (found, (sdf, _)) = o.args in let (found', (sdf', _)) = o'.args in found ≡ found' → sdf.now ≡ sdf'.now → o.result ≡ o'.result)
+deepest-once = deepest-at-once float-type
+
+-- ---- at 16 bits
+
+abbrev pub CloseI16 : Type 0
+CloseI16 = CloseAt sixteen-type
+
+module _ (o : CloseI16) where
+  abbrev pub given-close-i16 : Given ℤ
+  given-close-i16 = given-close-at sixteen-type o
+
+  abbrev pub exit-close-i16 : List Float
+  exit-close-i16 = exit-close-at sixteen-type o
+
+pub close-i16-once : (o o' : CloseI16) → given-close-i16 o ≡ given-close-i16 o' → (o.result ≡ o'.result) × (exit-close-i16 o ≡ exit-close-i16 o')
+close-i16-once = close-at-once sixteen-type
 
 abbrev pub CloseLayerI16 : Type 0
-CloseLayerI16 = Outcome 2 close-layer-i16-kinds.ps close-layer-i16-kinds.r close-layer-i16-reads.Learnt
+CloseLayerI16 = CloseLayerAt sixteen-type
 
 module _ (o : CloseLayerI16) where
   abbrev pub given-close-layer-i16 : Given ℤ
-  given-close-layer-i16 = let (numbers, (dims, (z, (wall, (closed, _))))) = o.args in given numbers.now (dims) z wall closed.now
+  given-close-layer-i16 = given-close-layer-at sixteen-type o
 
   abbrev pub exit-close-layer-i16 : List Float
-  exit-close-layer-i16 = let (_, (_, (_, (_, (closed, _))))) = o.exit in closed.now
+  exit-close-layer-i16 = exit-close-layer-at sixteen-type o
 
-pub close-layer-i16-once : (o o' : CloseLayerI16) → given-close-layer-i16 o ≡ given-close-layer-i16 o' → (o.result ≡ o'.result) × (exit-close-layer-i16 o ≡ exit-close-layer-i16 o')
-close-layer-i16-once o o' same = (
-  o.learnt.0 ∙ ap (λ (g : Given ℤ). layer_answer (point g.dims) g.z (length g.numbers) g.wall (length g.room)) same ∙ sym o'.learnt.0,
-  o.learnt.1 ∙ ap (λ (g : Given ℤ). layer_room (point g.dims) g.wall g.z (as_floats g.numbers) g.room) same ∙ sym o'.learnt.1,
-)
+pub close-layer-i16-once : (o o' : CloseLayerI16) → given-close-layer-i16 o ≡ given-close-layer-i16 o'
+    → (o.result ≡ o'.result) × (exit-close-layer-i16 o ≡ exit-close-layer-i16 o')
+close-layer-i16-once = close-layer-at-once sixteen-type
 
--- ---- close_layer_i8
+abbrev pub DeepestI16 : Type 0
+DeepestI16 = DeepestAt sixteen-type
+
+pub deepest-i16-once : (o o' : DeepestI16)
+    → (let (found, (sdf, _)) = o.args in let (found', (sdf', _)) = o'.args in found ≡ found' → sdf.now ≡ sdf'.now → o.result ≡ o'.result)
+deepest-i16-once = deepest-at-once sixteen-type
+
+-- ---- at 8 bits
+
+abbrev pub CloseI8 : Type 0
+CloseI8 = CloseAt eight-type
+
+module _ (o : CloseI8) where
+  abbrev pub given-close-i8 : Given ℤ
+  given-close-i8 = given-close-at eight-type o
+
+  abbrev pub exit-close-i8 : List Float
+  exit-close-i8 = exit-close-at eight-type o
+
+pub close-i8-once : (o o' : CloseI8) → given-close-i8 o ≡ given-close-i8 o' → (o.result ≡ o'.result) × (exit-close-i8 o ≡ exit-close-i8 o')
+close-i8-once = close-at-once eight-type
 
 abbrev pub CloseLayerI8 : Type 0
-CloseLayerI8 = Outcome 2 close-layer-i8-kinds.ps close-layer-i8-kinds.r close-layer-i8-reads.Learnt
+CloseLayerI8 = CloseLayerAt eight-type
 
 module _ (o : CloseLayerI8) where
   abbrev pub given-close-layer-i8 : Given ℤ
-  given-close-layer-i8 = let (numbers, (dims, (z, (wall, (closed, _))))) = o.args in given numbers.now (dims) z wall closed.now
+  given-close-layer-i8 = given-close-layer-at eight-type o
 
   abbrev pub exit-close-layer-i8 : List Float
-  exit-close-layer-i8 = let (_, (_, (_, (_, (closed, _))))) = o.exit in closed.now
+  exit-close-layer-i8 = exit-close-layer-at eight-type o
 
-pub close-layer-i8-once : (o o' : CloseLayerI8) → given-close-layer-i8 o ≡ given-close-layer-i8 o' → (o.result ≡ o'.result) × (exit-close-layer-i8 o ≡ exit-close-layer-i8 o')
-close-layer-i8-once o o' same = (
-  o.learnt.0 ∙ ap (λ (g : Given ℤ). layer_answer (point g.dims) g.z (length g.numbers) g.wall (length g.room)) same ∙ sym o'.learnt.0,
-  o.learnt.1 ∙ ap (λ (g : Given ℤ). layer_room (point g.dims) g.wall g.z (as_floats g.numbers) g.room) same ∙ sym o'.learnt.1,
-)
-
--- ---- deepest
-
-abbrev pub Deepest : Type 0
-Deepest = Outcome 1 deepest-kinds.ps deepest-kinds.r deepest-reads.Learnt
-
-pub deepest-once : (o o' : Deepest) → (let (found, (sdf, _)) = o.args in let (found', (sdf', _)) = o'.args in found ≡ found' → sdf.now ≡ sdf'.now → o.result ≡ o'.result)
-deepest-once o o' e f = o.learnt ∙ (λ j. deepest (e j) (f j)) ∙ sym o'.learnt
-
--- ---- deepest_i16
-
-abbrev pub DeepestI16 : Type 0
-DeepestI16 = Outcome 1 deepest-i16-kinds.ps deepest-i16-kinds.r deepest-i16-reads.Learnt
-
-pub deepest-i16-once : (o o' : DeepestI16) → (let (found, (sdf, _)) = o.args in let (found', (sdf', _)) = o'.args in found ≡ found' → sdf.now ≡ sdf'.now → o.result ≡ o'.result)
-deepest-i16-once o o' e f = o.learnt ∙ (λ j. deepest (e j) (as_floats (f j))) ∙ sym o'.learnt
-
--- ---- deepest_i8
+pub close-layer-i8-once : (o o' : CloseLayerI8) → given-close-layer-i8 o ≡ given-close-layer-i8 o'
+    → (o.result ≡ o'.result) × (exit-close-layer-i8 o ≡ exit-close-layer-i8 o')
+close-layer-i8-once = close-layer-at-once eight-type
 
 abbrev pub DeepestI8 : Type 0
-DeepestI8 = Outcome 1 deepest-i8-kinds.ps deepest-i8-kinds.r deepest-i8-reads.Learnt
+DeepestI8 = DeepestAt eight-type
 
-pub deepest-i8-once : (o o' : DeepestI8) → (let (found, (sdf, _)) = o.args in let (found', (sdf', _)) = o'.args in found ≡ found' → sdf.now ≡ sdf'.now → o.result ≡ o'.result)
-deepest-i8-once o o' e f = o.learnt ∙ (λ j. deepest (e j) (as_floats (f j))) ∙ sym o'.learnt
+pub deepest-i8-once : (o o' : DeepestI8)
+    → (let (found, (sdf, _)) = o.args in let (found', (sdf', _)) = o'.args in found ≡ found' → sdf.now ≡ sdf'.now → o.result ≡ o'.result)
+deepest-i8-once = deepest-at-once eight-type
 
 -- ---- wall_for
 

@@ -3,19 +3,29 @@
 use mathlib.Core.Bool.{true}
 use mathlib.Core.Path.{◌≡◌, sym, subst, ◌∙◌}
 use lib.ListN.{take}
-use Rattle.skin.specs.declared.Enclosed.{Enclosed as Tested}
+use Rattle.grid.proofs.Instances.{DistanceType, float-type}
 use Rattle.skin.specs.Links.{links}
-use Rattle.skin.specs.Scan.{answers, examined}
+use Rattle.skin.specs.Scan.{Tested, answers, examined}
 use Rattle.closed_mesh.proofs.Outcome.{
   Input,
+  MeshOf,
+  mesh_input_of,
+  mesh_plane_of,
+  mesh_answer_of,
+  mesh_entry_of,
+  mesh_exit_of,
   Mesh,
   mesh_input,
   mesh_plane,
   mesh_answer,
   mesh_entry,
   mesh_exit,
+  TestOf,
+  test_input_of,
+  tested_of,
   Test,
   test_input,
+  tested,
   BedMesh,
   bed_mesh_input,
   bed_mesh_plane,
@@ -35,12 +45,21 @@ moved p e y = subst (λ (k : Input). examined k.sdf k.dims k.low k.high ≡ answ
 
 -- ---- surface_nets and is_enclosed
 
-pub mesh-is : (o : Mesh) → o.result.number ≡ 0 → Meshed (mesh_input o) (mesh_plane o) (mesh_answer o) (mesh_entry o) (mesh_exit o)
-mesh-is o done = record { said = o.learnt.0; left = o.learnt.1.0; done = done }
+-- on numbers of any types that mean the same floats
+module _ (D : DistanceType) (o : MeshOf D) (done : (mesh_answer_of D o).number ≡ 0) where
+  pub mesh-is-of : Meshed (mesh_input_of D o) (mesh_plane_of D o) (mesh_answer_of D o) (mesh_entry_of D o) (mesh_exit_of D o)
+  mesh-is-of = record { said = o.learnt.0; left = o.learnt.1.0; done = done }
 
-pub surface-nets-closed : (t : Test) (o : Mesh) → test_input t ≡ mesh_input o → t.result ≡ answers 0 true → o.result.number ≡ 0
+  pub mesh-closed-of : (E : DistanceType) (t : TestOf E) → test_input_of E t ≡ mesh_input_of D o → tested_of E t ≡ answers 0 true
+      → Even (links (take (mesh_answer_of D o).indices (mesh_exit_of D o).indices))
+  mesh-closed-of E t same yes' = mesh-closed-yes mesh-is-of (moved same t.learnt yes')
+
+pub mesh-is : (o : Mesh) → (mesh_answer o).number ≡ 0 → Meshed (mesh_input o) (mesh_plane o) (mesh_answer o) (mesh_entry o) (mesh_exit o)
+mesh-is = mesh-is-of float-type
+
+pub surface-nets-closed : (t : Test) (o : Mesh) → test_input t ≡ mesh_input o → tested t ≡ answers 0 true → (mesh_answer o).number ≡ 0
     → Even (links (take (mesh_answer o).indices (mesh_exit o).indices))
-surface-nets-closed t o same yes' done = mesh-closed-yes (mesh-is o done) (moved same t.learnt yes')
+surface-nets-closed t o same yes' done = mesh-closed-of float-type o done float-type t same yes'
 
 -- ---- bed_surface_nets and bed_is_enclosed
 

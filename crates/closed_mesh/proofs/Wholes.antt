@@ -1,55 +1,48 @@
 -- Document 02, requests 5 and 8 together: the test over 16-bit and over 8-bit whole numbers answers what the test over floats answers on the grid of the
 -- floats of those numbers, and two outcomes that fit its contract are equal; after its yes a mesh of the same numbers and box has no hole. The same of the
--- functions for C. By the laws of Once and Closed. Assumes nothing.
+-- functions for C. By the laws of Once and Calls, which hold for any type of distances. Assumes nothing.
 use mathlib.Core.Bool.{true}
 use mathlib.Core.Path.{◌≡◌}
 use lib.ListN.{take}
+use Rattle.grid.proofs.Instances.{float-type, sixteen-type, eight-type}
 use Rattle.rules.specs.Call.{Answer, Buffers}
 use Rattle.grid.specs.declared.EachAxis.{EachAxis}
 use Rattle.grid.specs.Values.{as_floats}
-use Rattle.judge.specs.AsRules.{answer_of}
 use Rattle.whole_box.specs.LentLists.{buffers_given}
-use Rattle.skin.specs.declared.Enclosed.{Enclosed as Tested}
 use Rattle.skin.specs.Links.{links}
-use Rattle.skin.specs.Scan.{answers}
+use Rattle.skin.specs.Scan.{Tested, answers}
 use Rattle.bed.specs.Boundary.{said}
 use Rattle.bed.specs.Words12.{dims_asked, low_asked, high_asked, planes_asked}
-use Rattle.closed_mesh.proofs.Outcome.{Outcome, Input, input, Test, test_input, BedTest, bed_test_input, bed_tested}
+use Rattle.closed_mesh.proofs.Outcome.{Outcome, Input, input, TestOf, test_input_of, tested_of, MeshOf, mesh_input_of, mesh_plane_of, mesh_answer_of, mesh_entry_of, mesh_exit_of}
+use Rattle.closed_mesh.proofs.Outcome.{Test, test_input, BedTest, bed_test_input, bed_tested}
 use Rattle.closed_mesh.proofs.Closed.{Even, Meshed, mesh-closed-yes}
-use Rattle.closed_mesh.proofs.Calls.{moved}
-use Rattle.closed_mesh.proofs.Once.{same_test}
-use Rattle.skin.proofs.is_enclosed_i16.Kinds as test-16-kinds
-use Rattle.skin.proofs.is_enclosed_i16.Reads as test-16
+use Rattle.closed_mesh.proofs.Calls.{moved, mesh-is-of, mesh-closed-of}
+use Rattle.closed_mesh.proofs.Once.{same_test, is-enclosed-alike}
 use Rattle.bed.proofs.enclosed.bed_is_enclosed_i16.Kinds as bed-test-16-kinds
 use Rattle.bed.proofs.enclosed.bed_is_enclosed_i16.Reads as bed-test-16
-use Rattle.surface_nets.proofs.surface_nets_i16.Kinds as mesh-16-kinds
-use Rattle.surface_nets.proofs.surface_nets_i16.Reads as mesh-16
 use Rattle.bed.proofs.wholes.bed_surface_nets_i16.Kinds as bed-mesh-16-kinds
 use Rattle.bed.proofs.wholes.bed_surface_nets_i16.Reads as bed-mesh-16
-use Rattle.skin.proofs.is_enclosed_i8.Kinds as test-8-kinds
-use Rattle.skin.proofs.is_enclosed_i8.Reads as test-8
 use Rattle.bed.proofs.enclosed.bed_is_enclosed_i8.Kinds as bed-test-8-kinds
 use Rattle.bed.proofs.enclosed.bed_is_enclosed_i8.Reads as bed-test-8
-use Rattle.surface_nets.proofs.surface_nets_i8.Kinds as mesh-8-kinds
-use Rattle.surface_nets.proofs.surface_nets_i8.Reads as mesh-8
 use Rattle.bed.proofs.wholes.bed_surface_nets_i8.Kinds as bed-mesh-8-kinds
 use Rattle.bed.proofs.wholes.bed_surface_nets_i8.Reads as bed-mesh-8
 
 -- ---- 16-bit numbers: the test
 
 abbrev pub Test16 : Type 0
-Test16 = Outcome 1 test-16-kinds.ps test-16-kinds.r test-16.Learnt
+Test16 = TestOf sixteen-type
 
 abbrev pub test16_input : Test16 → Input
-test16_input t =
-    let (sdf, (dims, (low, (high, _)))) = t.args in
-    input (as_floats sdf.now) dims low high
+test16_input = test_input_of sixteen-type
+
+abbrev pub tested16 : Test16 → Tested
+tested16 = tested_of sixteen-type
 
 pub is-enclosed-i16-once : (t t' : Test16) → test16_input t ≡ test16_input t' → t.result ≡ t'.result
-is-enclosed-i16-once t t' same = same_test same t.learnt t'.learnt
+is-enclosed-i16-once = is-enclosed-alike sixteen-type sixteen-type
 
 pub is-enclosed-i16-as-floats : (t : Test16) (u : Test) → test16_input t ≡ test_input u → t.result ≡ u.result
-is-enclosed-i16-as-floats t u same = same_test same t.learnt u.learnt
+is-enclosed-i16-as-floats = is-enclosed-alike sixteen-type float-type
 
 abbrev pub BedTest16 : Type 0
 BedTest16 = Outcome 3 bed-test-16-kinds.ps bed-test-16-kinds.r bed-test-16.Learnt
@@ -74,36 +67,29 @@ bed-is-enclosed-i16-as-floats t u same = same_test same t.learnt u.learnt
 -- ---- 16-bit numbers: a mesh after a yes
 
 abbrev pub Mesh16 : Type 0
-Mesh16 = Outcome 8 mesh-16-kinds.ps mesh-16-kinds.r mesh-16.Learnt
+Mesh16 = MeshOf sixteen-type
 
-module _ (o : Mesh16) where
-  abbrev pub mesh16_input : Input
-  mesh16_input =
-      let (sdf, (dims, (low, (high, _)))) = o.args in
-      input (as_floats sdf.now) dims low high
+abbrev pub mesh16_input : Mesh16 → Input
+mesh16_input = mesh_input_of sixteen-type
 
-  abbrev pub mesh16_plane : EachAxis
-  mesh16_plane = o.args.1.1.1.1.0
+abbrev pub mesh16_plane : Mesh16 → EachAxis
+mesh16_plane = mesh_plane_of sixteen-type
 
-  abbrev pub mesh16_answer : Answer
-  mesh16_answer = answer_of o.result
+abbrev pub mesh16_answer : Mesh16 → Answer
+mesh16_answer = mesh_answer_of sixteen-type
 
-  abbrev pub mesh16_entry : Buffers
-  mesh16_entry =
-      let (positions, (normals, (cells, (strides, (crossings, (map, (indices, _))))))) = o.args.1.1.1.1.1 in
-      buffers_given positions normals cells strides crossings map indices
+abbrev pub mesh16_entry : Mesh16 → Buffers
+mesh16_entry = mesh_entry_of sixteen-type
 
-  abbrev pub mesh16_exit : Buffers
-  mesh16_exit =
-      let (positions, (normals, (cells, (strides, (crossings, (map, (indices, _))))))) = o.exit.1.1.1.1.1 in
-      buffers_given positions normals cells strides crossings map indices
+abbrev pub mesh16_exit : Mesh16 → Buffers
+mesh16_exit = mesh_exit_of sixteen-type
 
-  pub mesh-16-is : o.result.number ≡ 0 → Meshed mesh16_input mesh16_plane mesh16_answer mesh16_entry mesh16_exit
-  mesh-16-is done = record { said = o.learnt.0; left = o.learnt.1.0; done = done }
+pub mesh-16-is : (o : Mesh16) → (mesh16_answer o).number ≡ 0 → Meshed (mesh16_input o) (mesh16_plane o) (mesh16_answer o) (mesh16_entry o) (mesh16_exit o)
+mesh-16-is = mesh-is-of sixteen-type
 
-pub surface-nets-i16-closed : (t : Test16) (o : Mesh16) → test16_input t ≡ mesh16_input o → t.result ≡ answers 0 true → o.result.number ≡ 0
+pub surface-nets-i16-closed : (t : Test16) (o : Mesh16) → test16_input t ≡ mesh16_input o → tested16 t ≡ answers 0 true → (mesh16_answer o).number ≡ 0
     → Even (links (take (mesh16_answer o).indices (mesh16_exit o).indices))
-surface-nets-i16-closed t o same yes' done = mesh-closed-yes (mesh-16-is o done) (moved same t.learnt yes')
+surface-nets-i16-closed t o same yes' done = mesh-closed-of sixteen-type o done sixteen-type t same yes'
 
 abbrev pub BedMesh16 : Type 0
 BedMesh16 = Outcome 11 bed-mesh-16-kinds.ps bed-mesh-16-kinds.r bed-mesh-16.Learnt
@@ -142,18 +128,19 @@ bed-surface-nets-i16-closed t o same yes' done = mesh-closed-yes (bed-mesh-16-is
 -- ---- 8-bit numbers: the test
 
 abbrev pub Test8 : Type 0
-Test8 = Outcome 1 test-8-kinds.ps test-8-kinds.r test-8.Learnt
+Test8 = TestOf eight-type
 
 abbrev pub test8_input : Test8 → Input
-test8_input t =
-    let (sdf, (dims, (low, (high, _)))) = t.args in
-    input (as_floats sdf.now) dims low high
+test8_input = test_input_of eight-type
+
+abbrev pub tested8 : Test8 → Tested
+tested8 = tested_of eight-type
 
 pub is-enclosed-i8-once : (t t' : Test8) → test8_input t ≡ test8_input t' → t.result ≡ t'.result
-is-enclosed-i8-once t t' same = same_test same t.learnt t'.learnt
+is-enclosed-i8-once = is-enclosed-alike eight-type eight-type
 
 pub is-enclosed-i8-as-floats : (t : Test8) (u : Test) → test8_input t ≡ test_input u → t.result ≡ u.result
-is-enclosed-i8-as-floats t u same = same_test same t.learnt u.learnt
+is-enclosed-i8-as-floats = is-enclosed-alike eight-type float-type
 
 abbrev pub BedTest8 : Type 0
 BedTest8 = Outcome 3 bed-test-8-kinds.ps bed-test-8-kinds.r bed-test-8.Learnt
@@ -178,36 +165,29 @@ bed-is-enclosed-i8-as-floats t u same = same_test same t.learnt u.learnt
 -- ---- 8-bit numbers: a mesh after a yes
 
 abbrev pub Mesh8 : Type 0
-Mesh8 = Outcome 8 mesh-8-kinds.ps mesh-8-kinds.r mesh-8.Learnt
+Mesh8 = MeshOf eight-type
 
-module _ (o : Mesh8) where
-  abbrev pub mesh8_input : Input
-  mesh8_input =
-      let (sdf, (dims, (low, (high, _)))) = o.args in
-      input (as_floats sdf.now) dims low high
+abbrev pub mesh8_input : Mesh8 → Input
+mesh8_input = mesh_input_of eight-type
 
-  abbrev pub mesh8_plane : EachAxis
-  mesh8_plane = o.args.1.1.1.1.0
+abbrev pub mesh8_plane : Mesh8 → EachAxis
+mesh8_plane = mesh_plane_of eight-type
 
-  abbrev pub mesh8_answer : Answer
-  mesh8_answer = answer_of o.result
+abbrev pub mesh8_answer : Mesh8 → Answer
+mesh8_answer = mesh_answer_of eight-type
 
-  abbrev pub mesh8_entry : Buffers
-  mesh8_entry =
-      let (positions, (normals, (cells, (strides, (crossings, (map, (indices, _))))))) = o.args.1.1.1.1.1 in
-      buffers_given positions normals cells strides crossings map indices
+abbrev pub mesh8_entry : Mesh8 → Buffers
+mesh8_entry = mesh_entry_of eight-type
 
-  abbrev pub mesh8_exit : Buffers
-  mesh8_exit =
-      let (positions, (normals, (cells, (strides, (crossings, (map, (indices, _))))))) = o.exit.1.1.1.1.1 in
-      buffers_given positions normals cells strides crossings map indices
+abbrev pub mesh8_exit : Mesh8 → Buffers
+mesh8_exit = mesh_exit_of eight-type
 
-  pub mesh-8-is : o.result.number ≡ 0 → Meshed mesh8_input mesh8_plane mesh8_answer mesh8_entry mesh8_exit
-  mesh-8-is done = record { said = o.learnt.0; left = o.learnt.1.0; done = done }
+pub mesh-8-is : (o : Mesh8) → (mesh8_answer o).number ≡ 0 → Meshed (mesh8_input o) (mesh8_plane o) (mesh8_answer o) (mesh8_entry o) (mesh8_exit o)
+mesh-8-is = mesh-is-of eight-type
 
-pub surface-nets-i8-closed : (t : Test8) (o : Mesh8) → test8_input t ≡ mesh8_input o → t.result ≡ answers 0 true → o.result.number ≡ 0
+pub surface-nets-i8-closed : (t : Test8) (o : Mesh8) → test8_input t ≡ mesh8_input o → tested8 t ≡ answers 0 true → (mesh8_answer o).number ≡ 0
     → Even (links (take (mesh8_answer o).indices (mesh8_exit o).indices))
-surface-nets-i8-closed t o same yes' done = mesh-closed-yes (mesh-8-is o done) (moved same t.learnt yes')
+surface-nets-i8-closed t o same yes' done = mesh-closed-of eight-type o done eight-type t same yes'
 
 abbrev pub BedMesh8 : Type 0
 BedMesh8 = Outcome 11 bed-mesh-8-kinds.ps bed-mesh-8-kinds.r bed-mesh-8.Learnt

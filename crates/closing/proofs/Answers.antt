@@ -1,9 +1,9 @@
--- The answers of the calls from what their tests found, one after the other, and what an answer says of them. Assumes nothing.
+-- What an answer says of the tests that were made one after the other, and what the lent room then holds. Assumes nothing.
 use Prim.Native.Nat.{ℕ}
 use native.Mathlib.Omega.{arith}
 use mathlib.Core.Bool.{Bool, true, false, not, cond}
 use mathlib.Core.List.{List}
-use mathlib.Core.Path.{◌≡◌, refl, sym, ap}
+use mathlib.Core.Path.{◌≡◌, refl, ap}
 use borrow.Author.Tests.{ne_eqb}
 use lib.Dec.{eqb}
 use lib.Ieee.{Float}
@@ -33,31 +33,6 @@ pub record Accepted (d : GridPoint) (size : ℕ) (wall : Float) (room : ℕ) : T
   pub roomy : bad_room (point_count (closed_dims d)) room ≡ false
 
 module _ (d : GridPoint) (size : ℕ) (wall : Float) (room : ℕ) where
-  pub close-1 : bad_dimensions d ≡ true → 1 ≡ close_answer d size wall room
-  unfolding close_answer
-  close-1 h = sym (ap (λ (a : Bool). five a (bad_length d size) (bad_wall wall) (bad_closed d) (bad_room (point_count (closed_dims d)) room)) h)
-
-  pub close-3 : bad_dimensions d ≡ false → bad_length d size ≡ true → 3 ≡ close_answer d size wall room
-  unfolding close_answer
-  close-3 h i = sym (λ j. five (h j) (i j) (bad_wall wall) (bad_closed d) (bad_room (point_count (closed_dims d)) room))
-
-  pub close-72 : bad_dimensions d ≡ false → bad_length d size ≡ false → bad_wall wall ≡ true → 72 ≡ close_answer d size wall room
-  unfolding close_answer
-  close-72 h i k = sym (λ j. five (h j) (i j) (k j) (bad_closed d) (bad_room (point_count (closed_dims d)) room))
-
-  pub close-73 : bad_dimensions d ≡ false → bad_length d size ≡ false → bad_wall wall ≡ false → bad_closed d ≡ true → 73 ≡ close_answer d size wall room
-  unfolding close_answer
-  close-73 h i k l = sym (λ j. five (h j) (i j) (k j) (l j) (bad_room (point_count (closed_dims d)) room))
-
-  pub close-74 : bad_dimensions d ≡ false → bad_length d size ≡ false → bad_wall wall ≡ false → bad_closed d ≡ false
-      → bad_room (point_count (closed_dims d)) room ≡ true → 74 ≡ close_answer d size wall room
-  unfolding close_answer
-  close-74 h i k l m = sym (λ j. five (h j) (i j) (k j) (l j) (m j))
-
-  pub close-0 : Accepted d size wall room → 0 ≡ close_answer d size wall room
-  unfolding close_answer
-  close-0 a = sym (λ j. five (a.dims j) (a.sized j) (a.far j) (a.closable j) (a.roomy j))
-
   pub accepted : close_answer d size wall room ≡ 0 → Accepted d size wall room
   unfolding close_answer
   accepted = go (bad_dimensions d) (bad_length d size) (bad_wall wall) (bad_closed d) (bad_room (point_count (closed_dims d)) room) refl refl refl refl refl
@@ -92,36 +67,6 @@ pub record LayerAccepted (d : GridPoint) (z size : ℕ) (wall : Float) (room : �
   pub roomy : bad_room (layer_count (closed_dims d)) room ≡ false
 
 module _ (d : GridPoint) (z size : ℕ) (wall : Float) (room : ℕ) where
-  pub layer-1 : bad_dimensions d ≡ true → 1 ≡ layer_answer d z size wall room
-  unfolding layer_answer
-  layer-1 h = sym (ap (λ (a : Bool). six a (bad_height d z) (not (eqb size (layer_wanted d z))) (bad_wall wall) (bad_closed d) (bad_room (layer_count (closed_dims d)) room)) h)
-
-  pub layer-71 : bad_dimensions d ≡ false → bad_height d z ≡ true → 71 ≡ layer_answer d z size wall room
-  unfolding layer_answer
-  layer-71 h i = sym (λ j. six (h j) (i j) (not (eqb size (layer_wanted d z))) (bad_wall wall) (bad_closed d) (bad_room (layer_count (closed_dims d)) room))
-
-  pub layer-3 : bad_dimensions d ≡ false → bad_height d z ≡ false → not (eqb size (layer_wanted d z)) ≡ true → 3 ≡ layer_answer d z size wall room
-  unfolding layer_answer
-  layer-3 h i k = sym (λ j. six (h j) (i j) (k j) (bad_wall wall) (bad_closed d) (bad_room (layer_count (closed_dims d)) room))
-
-  pub layer-72 : bad_dimensions d ≡ false → bad_height d z ≡ false → not (eqb size (layer_wanted d z)) ≡ false → bad_wall wall ≡ true → 72 ≡ layer_answer d z size wall room
-  unfolding layer_answer
-  layer-72 h i k l = sym (λ j. six (h j) (i j) (k j) (l j) (bad_closed d) (bad_room (layer_count (closed_dims d)) room))
-
-  pub layer-73 : bad_dimensions d ≡ false → bad_height d z ≡ false → not (eqb size (layer_wanted d z)) ≡ false → bad_wall wall ≡ false → bad_closed d ≡ true
-      → 73 ≡ layer_answer d z size wall room
-  unfolding layer_answer
-  layer-73 h i k l m = sym (λ j. six (h j) (i j) (k j) (l j) (m j) (bad_room (layer_count (closed_dims d)) room))
-
-  pub layer-74 : bad_dimensions d ≡ false → bad_height d z ≡ false → not (eqb size (layer_wanted d z)) ≡ false → bad_wall wall ≡ false → bad_closed d ≡ false
-      → bad_room (layer_count (closed_dims d)) room ≡ true → 74 ≡ layer_answer d z size wall room
-  unfolding layer_answer
-  layer-74 h i k l m n = sym (λ j. six (h j) (i j) (k j) (l j) (m j) (n j))
-
-  pub layer-0 : LayerAccepted d z size wall room → 0 ≡ layer_answer d z size wall room
-  unfolding layer_answer
-  layer-0 a = sym (λ j. six (a.dims j) (a.height j) (a.sized j) (a.far j) (a.closable j) (a.roomy j))
-
   pub layer-accepted : layer_answer d z size wall room ≡ 0 → LayerAccepted d z size wall room
   unfolding layer_answer
   layer-accepted =

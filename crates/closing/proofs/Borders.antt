@@ -1,19 +1,23 @@
 -- A border on one axis, one before and two behind, around blocks of s numbers; and the border on three axes is the closed grid. Assumes nothing.
-use Prim.Native.Nat.{ℕ, ◌+◌, ◌-◌, ◌*◌, ◌/◌, ◌%◌, ◌<◌}
-use native.Mathlib.Nat.{mul-add, mul_comm, mul_assoc, add-div_left, add-mod_left, mul-pos, mod-add-div, mul-add-div, mul-add-mod_self_left, mod-eq_of_lt, div-eq_of_lt, div-lt_iff_lt-mul, mod-lt, div-add-mod}
+use Prim.Native.Nat.{ℕ, ◌+◌, ◌-◌, ◌*◌, ◌/◌, ◌%◌, ◌<◌, ◌≤◌}
+use native.Mathlib.Nat.{mul-add, mul_comm, mul_assoc, add-div_left, add-mod_left, mul-pos, mod-add-div, mul-add-div, mul-add-mod_self_left, mod-eq_of_lt, div-eq_of_lt, div-lt_iff_lt-mul, mod-lt, div-add-mod, zero-add}
 use native.Mathlib.Omega.{arith}
 use mathlib.Core.Bool.{Bool, true, false, ◌&&◌, cond}
 use mathlib.Core.List.{List}
+use mathlib.Core.Logic.{◌⊎◌, inl, inr}
 use mathlib.Core.Path.{◌≡◌, refl, sym, ap, ap₂, ◌∙◌}
 use borrow.Author.Tests.{le-leb, lt-leb}
 use lib.Ieee.{Float, nan}
-use lib.ListN.{get_or}
+use lib.ListN.{get_or, take, drop}
 use lib.Seq.{sets}
+use Rattle.std.proofs.lemmas.List.{get_or-take, get_or-drop}
+use Rattle.lists.proofs.Tests.{less-or-not}
 use Rattle.rules.specs.Grid.{GridPoint, index, point_at, between}
 use Rattle.rules.proofs.Indexes.{point-back}
 use Rattle.closing.specs.Closed.{closed_dims, closed_value, closed_field, open_field, layer_field}
-use Rattle.closing.specs.Runs.{spread, bordered, layer_value, grid_value}
-use Rattle.closing.proofs.Spread.{stored-join}
+use Rattle.closing.specs.Runs.{spread, bordered, row_value, layer_value, grid_value}
+use Rattle.closing.proofs.Sizes.{next-block}
+use Rattle.closing.proofs.Spread.{spread_same, stored-join}
 
 -- ---- one axis
 
@@ -28,6 +32,44 @@ module _ (n : ℕ) (wall : Float) (f : ℕ → Float) where
 
   pub border-high : (k : ℕ) → n < k → wall ≡ bordered n wall f k
   border-high k h = rw (le-leb 1 k (omega arith), lt-leb k n h)
+
+-- what stands within is read at its n places alone
+pub border-same : (n : ℕ) (wall : Float) (f g : ℕ → Float) → ((x : ℕ) → x < n → f x ≡ g x) → (k : ℕ) → bordered n wall f k ≡ bordered n wall g k
+border-same n wall f g e k = go (less-or-not k 1) (less-or-not n k)
+  where
+    go : (k < 1) ⊎ (1 ≤ k) → (n < k) ⊎ (k ≤ n) → bordered n wall f k ≡ bordered n wall g k
+    go (inl low) b = sym (border-low n wall f k low) ∙ border-low n wall g k low
+    go (inr _) (inl high) = sym (border-high n wall f k high) ∙ border-high n wall g k high
+    go (inr a) (inr b) =
+        let here : 1 + (k - 1) ≡ k = omega arith in
+        let within : k - 1 < n = omega arith in
+        ap (bordered n wall f) (sym here) ∙ sym (border-in n wall f (k - 1) within) ∙ e (k - 1) within
+        ∙ border-in n wall g (k - 1) within ∙ ap (bordered n wall g) here
+
+-- a row, and a layer, that are parts of a longer list
+module _ (l : List Float) (wall : Float) (from : ℕ) where
+  read-part : {k : ℕ} {part : List Float} → part ≡ take k (drop from l) → (i : ℕ) → i < k → get_or part i nan ≡ get_or l (from + i) nan
+  read-part {k} e i h = ap (λ (a : List Float). get_or a i nan) e ∙ get_or-take k (drop from l) i nan h ∙ get_or-drop from l i nan
+
+  pub row-part : (n : ℕ) → {row : List Float} → row ≡ take n (drop from l) → {m : ℕ} → m ≡ n
+      → spread (row_value row wall m 0) (m + 3) ≡ spread (row_value l wall n from) (n + 3)
+  row-part n {row} e f =
+      ap (λ (k : ℕ). spread (row_value row wall k 0) (k + 3)) f
+      ∙ spread_same (row_value row wall n 0) (row_value l wall n from) (n + 3)
+      (λ j _. border-same n wall (λ x. get_or row (0 + x) nan) (λ x. get_or l (from + x) nan) (λ x h. ap (λ (i : ℕ). get_or row i nan) (zero-add x) ∙ read-part e x h) j)
+
+  pub layer-part : (n m c : ℕ) → {layer : List Float} → layer ≡ take (n * m) (drop from l)
+      → spread (layer_value layer wall n m 0) c ≡ spread (layer_value l wall n m from) c
+  layer-part n m c {layer} e =
+      spread_same (layer_value layer wall n m 0) (layer_value l wall n m from) c
+      (λ j _. border-same m wall (λ y. row_value layer wall n (0 + n * y) (j % (n + 3))) (λ y. row_value l wall n (from + n * y) (j % (n + 3)))
+      (λ y h. border-same n wall (λ x. get_or layer (0 + n * y + x) nan) (λ x. get_or l (from + n * y + x) nan) (λ x k. here y x h k) (j % (n + 3))) (j / (n + 3)))
+    where
+      here : (y x : ℕ) → y < m → x < n → get_or layer (0 + n * y + x) nan ≡ get_or l (from + n * y + x) nan
+      here y x h k =
+          let a : 0 + n * y + x ≡ n * y + x = omega arith in
+          let b : from + (n * y + x) ≡ from + n * y + x = omega arith in
+          ap (λ (i : ℕ). get_or layer i nan) a ∙ read-part e (n * y + x) (omega (arith, next-block n y m h)) ∙ ap (λ (i : ℕ). get_or l i nan) b
 
 -- ---- one before, n and two behind, of s numbers each
 

@@ -1,13 +1,17 @@
 -- A run of numbers given by their places, and stored: run behind run, number behind number. By induction on the length. Assumes nothing.
-use Prim.Native.Nat.{ℕ, zero, suc, ◌+◌, ◌-◌, ◌*◌, ◌/◌, ◌%◌, ◌<◌}
-use native.Mathlib.Nat.{mul-add, mul-one, mul-add-div, mul-add-mod_self_left, mod-eq_of_lt, div-eq_of_lt, add-zero}
+use Prim.Native.Nat.{ℕ, zero, suc, ◌+◌, ◌-◌, ◌*◌, ◌/◌, ◌%◌, ◌<◌, ◌≤◌}
+use native.Mathlib.Nat.{mul-add, mul-one, mul-add-div, mul-add-mod_self_left, mod-eq_of_lt, div-eq_of_lt, add-zero, zero-add}
 use native.Mathlib.Numerals.{add-one}
 use native.Mathlib.Omega.{arith}
 use mathlib.Core.List.{List, [], ◌∷◌, ◌++◌, map-append, append_assoc, append-nil}
 use mathlib.Core.Path.{◌≡◌, refl, sym, ap, ap₂, ◌∙◌}
 use lib.Ieee.{Float, nan}
-use lib.ListN.{length, get_or, set, length-map, length-append}
-use lib.Seq.{sets, length-sets, get_or-append-add}
+use lib.ListN.{length, get_or, set, take, drop, replicate, length-map, length-append}
+use lib.Seq.{sets, sets-eq, take-suc, take-length, length-sets, get_or-append-add}
+use borrow.Rule.Slice.PartMut.{put_mid}
+use Rattle.std.proofs.lemmas.List.Edits.{paste_all}
+use Rattle.std.proofs.lemmas.Slice.{put_mid-paste}
+use Rattle.std.proofs.lemmas.List.{length-drop, length-take-le}
 use Rattle.lists.specs.Lists.{run}
 use Rattle.stores.proofs.Runs.{sets-on}
 use Rattle.closing.specs.Runs.{spread}
@@ -65,7 +69,42 @@ get_d-spread f n i h =
         ap (λ (l : List Float). get_or l 0 nan)
         (ap (spread g) (sym e) ∙ sym (spread_join g 1 (suc m)) ∙ ap (λ (l : List Float). l ++ spread (λ j. g (1 + j)) (suc m)) (spread-last g 0 ∙ ap (λ (l : List Float). l ++ (g 0 ∷ [])) (spread_none g)))
 
+-- one number n times
+pub spread-one : (x : Float) (n : ℕ) → spread (λ _. x) n ≡ replicate n x
+spread-one x zero = spread_none (λ _. x)
+spread-one x (suc n) = spread-last (λ _. x) n ∙ ap (λ (l : List Float). l ++ (x ∷ [])) (spread-one x n) ∙ sym (replicate-last n)
+  where
+    replicate-last : (m : ℕ) → replicate (suc m) x ≡ replicate m x ++ (x ∷ [])
+    replicate-last zero = refl
+    replicate-last (suc m) = ap (λ (l : List Float). x ∷ l) (replicate-last m)
+
+-- a list as the numbers at its places
+pub spread-list : (l : List Float) → l ≡ spread (λ x. get_or l (0 + x) nan) (length l)
+spread-list l = sym (take-length l) ∙ first (length l) (omega arith)
+  where
+    first : (n : ℕ) → n ≤ length l → take n l ≡ spread (λ x. get_or l (0 + x) nan) n
+    first zero h = sym (spread_none (λ x. get_or l (0 + x) nan))
+    first (suc n) h =
+        take-suc l n nan h
+        ∙ ap₂ (λ (a : List Float) (x : Float). a ++ (x ∷ [])) (first n (omega arith)) (ap (λ (i : ℕ). get_or l i nan) (sym (zero-add n)))
+        ∙ sym (spread-last (λ x. get_or l (0 + x) nan) n)
+
 -- ---- stored
+
+-- a part of a list that is written over, as `&mut l[at..at + n]` leaves it
+pub put-part : (l vs new : List Float) (at k n : ℕ) → new ≡ vs → n ≡ k → n ≡ length vs → at + n ≤ length l → put_mid at k l new ≡ sets l at vs
+put-part l vs new at k n e f g h =
+    put_mid-paste at k l new vs n e f g
+    ∙ paste_all l at vs n g
+    ∙ ap (λ (i : ℕ). take at l ++ (vs ++ drop (at + i) l)) g
+    ∙ sym (append_assoc (take at l) vs (drop (at + length vs) l))
+    ∙ sym (sets-eq vs l at (omega arith))
+
+-- how long such a part is
+pub part-long : {A : Type 0} (l : List A) (at n : ℕ) → at + n ≤ length l → length (take (at + n - at) (drop at l)) ≡ n
+part-long l at n h =
+    let e : at + n - at ≡ n = omega arith in
+    ap (λ (k : ℕ). length (take k (drop at l))) e ∙ length-take-le n (drop at l) (omega (arith, length-drop at l))
 
 module _ (l : List Float) (at : ℕ) where
   pub stored-none : (f : ℕ → Float) → l ≡ sets l at (spread f 0)

@@ -2,5 +2,6 @@
 -- the wall's value. Assumes nothing.
 pub mod Closed
 pub mod Answers
+pub mod Refused
 pub mod Wall
 pub mod Runs

@@ -3,10 +3,12 @@
 #![tactic(auto)]
 
 mod layer;
+mod refusal;
 mod runs;
 mod wall;
 mod whole;
 
-pub use layer::{close_layer, close_layer_i8, close_layer_i16};
-pub use wall::{deepest, deepest_i8, deepest_i16, wall_for};
-pub use whole::{close, close_i8, close_i16};
+pub use layer::close_layer;
+pub use refusal::Refusal;
+pub use wall::{deepest, wall_for};
+pub use whole::close;

@@ -1,8 +1,9 @@
 // The wall: whether a value is one, how deep a bed lies below zero, and a value that is far enough for it.
 ghost use Rattle.std.specs.Prelude.{◌≡◌};
-ghost use Rattle.grid.specs.Values.{as_floats, grid_before};
 ghost use Rattle.closing.specs.Answers.{bad_wall};
 ghost use Rattle.closing.specs.Wall.{deeper, deepest, wall_for};
+
+use grid::values::Distance;
 
 // Not above zero, not finite, or above 2^124. No comparison holds of not-a-number, so it is no wall either.
 pub(crate) fn bad_wall(wall: f32) -> bool
@@ -20,34 +21,15 @@ fn deeper(found: f32, d: f32) -> f32
     found
 }
 
-fn deepest_of(width: u32, sdf: &[f32], sdf16: &[i16], sdf8: &[i8], so_far: f32) -> f32
-    ensures { result ≡ deepest so_far (grid_before width sdf sdf16 sdf8) }
+// How deep the distances lie below zero, and those that were looked at before: 0.0 begins.
+pub fn deepest<D: Distance>(so_far: f32, sdf: &[D]) -> f32
+    ensures { result ≡ deepest so_far (D.floats sdf.now) }
 {
-    let n = grid::values::length_of(width, sdf, sdf16, sdf8);
     let mut found = so_far;
-    for i in 0usize..n {
-        found = deeper(found, grid::values::value_at(width, sdf, sdf16, sdf8, i));
+    for d in sdf {
+        found = deeper(found, d.float());
     }
     found
-}
-
-// How deep the distances lie below zero, and those that were looked at before: 0.0 begins.
-pub fn deepest(so_far: f32, sdf: &[f32]) -> f32
-    ensures { result ≡ deepest so_far sdf.now }
-{
-    deepest_of(32, sdf, &[], &[], so_far)
-}
-
-pub fn deepest_i16(so_far: f32, sdf: &[i16]) -> f32
-    ensures { result ≡ deepest so_far (as_floats sdf.now) }
-{
-    deepest_of(16, &[], sdf, &[], so_far)
-}
-
-pub fn deepest_i8(so_far: f32, sdf: &[i8]) -> f32
-    ensures { result ≡ deepest so_far (as_floats sdf.now) }
-{
-    deepest_of(8, &[], &[], sdf, so_far)
 }
 
 // The least power of two that is at least 2^25 times as far: see crate closed_bed for what that is enough for.

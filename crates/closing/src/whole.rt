@@ -2,14 +2,16 @@
 ghost use Rattle.std.specs.Prelude.{◌≡◌, not, T, length};
 ghost use Rattle.rules.specs.Call.{bad_dimensions};
 ghost use Rattle.grid.specs.Block.{point};
-ghost use Rattle.grid.specs.Values.{as_floats, grid_before};
 ghost use Rattle.closing.specs.Closed.{closed_dims, point_count};
 ghost use Rattle.closing.specs.Answers.{bad_closed, bad_room, close_answer, closed_room};
+ghost use Rattle.closing.specs.Refused.{answer_of};
 
+use crate::refusal::Refusal;
 use crate::runs::close_grid;
 use crate::wall::bad_wall;
 use grid::Extent;
 use grid::checks::{bad_dimensions, bad_length};
+use grid::values::Distance;
 
 // Three more points on each axis.
 pub(crate) fn closed_dims(d: Extent) -> Extent
@@ -30,80 +32,48 @@ fn bad_room(d: Extent, room: usize) -> bool
     room < (d.x as usize) * (d.y as usize) * (d.z as usize)
 }
 
-// The first refusal that holds, or 0.
-fn fault(dims: Extent, size: usize, wall: f32, room: usize) -> u32
-    ensures { result ≡ close_answer (point dims) size wall room }
+// The first condition that holds.
+#[tactic(auto, unfolding(crate::specs::Answers::close_answer))]
+fn fault(dims: Extent, size: usize, wall: f32, room: usize) -> Result<(), Refusal>
+    ensures { answer_of result ≡ close_answer (point dims) size wall room }
 {
     if bad_dimensions(dims) {
-        return 1;
+        return Err(Refusal::Dimensions);
     }
     if bad_length(dims, size) {
-        return 3;
+        return Err(Refusal::Length);
     }
     if bad_wall(wall) {
-        return 72;
+        return Err(Refusal::Wall);
     }
     let closed = closed_dims(dims);
     if bad_dimensions(closed) {
-        return 73;
+        return Err(Refusal::ClosedDimensions);
     }
     if bad_room(closed, room) {
-        return 74;
+        return Err(Refusal::Room);
     }
-    0
+    Ok(())
 }
 
-fn close_all(
-    width: u32,
-    sdf: &[f32],
-    sdf16: &[i16],
-    sdf8: &[i8],
+// A grid of floats or of whole numbers of 16 or of 8 bits (document 02, request 5), into floats. Refused are 1, 3 and 72 to 74; a refusal changes nothing.
+pub fn close<D: Distance>(
+    sdf: &[D],
     dims: Extent,
     wall: f32,
     closed: &mut [f32],
-) -> u32
-    ensures value { result ≡ close_answer (point dims) (length (grid_before width sdf sdf16 sdf8)) wall (length closed.old) }
-    ensures closed_after { closed.new ≡ closed_room (point dims) wall (grid_before width sdf sdf16 sdf8) closed.old }
+) -> Result<(), Refusal>
+    ensures value { answer_of result ≡ close_answer (point dims) (length sdf.now) wall (length closed.old) }
+    ensures closed_after { closed.new ≡ closed_room (point dims) wall (D.floats sdf.now) closed.old }
 {
-    let size = grid::values::length_of(width, sdf, sdf16, sdf8);
-    let answer = fault(dims, size, wall, closed.len());
-    if answer != 0 {
-        return answer;
-    }
+    fault(dims, sdf.len(), wall, closed.len())?;
     close_grid(
-        width,
         sdf,
-        sdf16,
-        sdf8,
         dims.x as usize,
         dims.y as usize,
         dims.z as usize,
         wall,
         closed,
     );
-    0
-}
-
-// The answer number: 0, 1, 3 or 72 to 74. Every answer but 0 changes nothing.
-pub fn close(sdf: &[f32], dims: Extent, wall: f32, closed: &mut [f32]) -> u32
-    ensures value { result ≡ close_answer (point dims) (length sdf.now) wall (length closed.old) }
-    ensures closed_after { closed.new ≡ closed_room (point dims) wall sdf.now closed.old }
-{
-    close_all(32, sdf, &[], &[], dims, wall, closed)
-}
-
-// The same for signed 16-bit distances (document 02, request 5), into floats.
-pub fn close_i16(sdf: &[i16], dims: Extent, wall: f32, closed: &mut [f32]) -> u32
-    ensures value { result ≡ close_answer (point dims) (length sdf.now) wall (length closed.old) }
-    ensures closed_after { closed.new ≡ closed_room (point dims) wall (as_floats sdf.now) closed.old }
-{
-    close_all(16, &[], sdf, &[], dims, wall, closed)
-}
-
-// And for signed 8-bit ones.
-pub fn close_i8(sdf: &[i8], dims: Extent, wall: f32, closed: &mut [f32]) -> u32
-    ensures value { result ≡ close_answer (point dims) (length sdf.now) wall (length closed.old) }
-    ensures closed_after { closed.new ≡ closed_room (point dims) wall (as_floats sdf.now) closed.old }
-{
-    close_all(8, &[], &[], sdf, dims, wall, closed)
+    Ok(())
 }

@@ -19,8 +19,8 @@ use Rattle.lists.proofs.Tests.{one-most}
 use Rattle.grid.specs.declared.Block.{Block}
 use Rattle.grid.specs.Block.{point, box_of, flags_of, field_of}
 use Rattle.grid.specs.Inside.{Inside}
-use Rattle.grid.specs.Layers.{layer_dist, two_layers}
-use Rattle.grid.proofs.Parts.{part, rest, layers-agree}
+use Rattle.grid.specs.Layers.{layer_dist, two_layers, part, rest}
+use Rattle.grid.proofs.Parts.{layers-agree}
 use Rattle.grid.proofs.Slab.{slab, grid, layer-alike, edges-alike}
 use Rattle.count.specs.declared.Tally.{Tally}
 use Rattle.count.specs.Tally.{tally_of}

@@ -16,21 +16,29 @@ ghost use Rattle.row_signs.specs.Codes.{SmallFrom};
 ghost use Rattle.count.specs.Runs.{surface_run, changes_run, owned_edges};
 ghost use Rattle.count.specs.Kept.{cell_codes, counted_codes, owned_part, kept_tally, kept_where_mixed};
 ghost use Rattle.count.specs.Tally.{tally_of, counts};
-ghost use Rattle.grid.specs.Values.{grid_given, grid_before, Wholes};
 
 use grid::Block;
+use grid::lent::layers_at;
 use grid::ownership::owns;
 use grid::signs::{counted, side_negatives, surface_count};
+use grid::values::{Distance, value_at};
 
 // Vertices and indices, counted.
-#[derive(Clone, Copy)]
+#[derive(Clone, Copy, Debug, PartialEq, Eq)]
 pub struct Tally {
     pub vertices: usize,
     pub indices: usize,
 }
 
+impl Tally {
+    pub const NONE: Tally = Tally {
+        vertices: 0,
+        indices: 0,
+    };
+}
+
 // What the whole box says before anything is written: condition 5, and both counts.
-#[derive(Clone, Copy)]
+#[derive(Clone, Copy, Debug, PartialEq, Eq)]
 pub struct Findings {
     pub bad: bool,
     pub vertices: usize,
@@ -38,7 +46,7 @@ pub struct Findings {
 }
 
 // How many of a row's x, y and z edges the box owns.
-#[derive(Clone, Copy)]
+#[derive(Clone, Copy, Debug, PartialEq, Eq)]
 struct OwnedEdges {
     x: usize,
     y: usize,
@@ -46,7 +54,7 @@ struct OwnedEdges {
 }
 
 // Surface cells, and x, y and z edges with exactly one negative end, of a row's cells, each cell having the three edges at its lowest corner.
-#[derive(Clone, Copy)]
+#[derive(Clone, Copy, Debug, PartialEq, Eq)]
 struct CodeCounts {
     surface: u32,
     x: u32,
@@ -56,38 +64,15 @@ struct CodeCounts {
 
 // How many of n cells in a row are surface cells, `at` being the place of the first one's lowest corner. A cell shares its upper x side with the
 // next cell's lower one: the negatives of each side are counted once, and carried.
-fn surface_cells(
-    width: u32,
-    lower: &[f32],
-    upper: &[f32],
-    lower16: &[i16],
-    upper16: &[i16],
-    lower8: &[i8],
-    upper8: &[i8],
-    at: usize,
-    row: usize,
-    n: usize,
-) -> u32
-    requires row_in_bounds { (at + n + row < length (grid_given width lower lower16 lower8)) × (at + n + row < length (grid_given width upper upper16 upper8)) }
+fn surface_cells<D: Distance>(lower: &[D], upper: &[D], at: usize, row: usize, n: usize) -> u32
+    requires row_in_bounds { (at + n + row < length (D.floats lower.now)) × (at + n + row < length (D.floats upper.now)) }
     requires n_bound { n ≤ 16777217 }
-    ensures { result ≡ surface_run (grid_before width lower lower16 lower8) (grid_before width upper upper16 upper8) at row n }
+    ensures { result ≡ surface_run (D.floats lower.now) (D.floats upper.now) at row n }
 {
-    let mut low = side_negatives(
-        width, lower, upper, lower16, upper16, lower8, upper8, at, row,
-    );
+    let mut low = side_negatives(lower, upper, at, row);
     let mut count = 0u32;
     for j in 0usize..n {
-        let high = side_negatives(
-            width,
-            lower,
-            upper,
-            lower16,
-            upper16,
-            lower8,
-            upper8,
-            at + j + 1,
-            row,
-        );
+        let high = side_negatives(lower, upper, at + j + 1, row);
         count += surface_count(low + high);
         low = high;
     }
@@ -95,26 +80,15 @@ fn surface_cells(
 }
 
 // How many of n edges have exactly one negative end: the lower ends are n distances of a from p on, the upper ones n of b from q on.
-fn changes(
-    width: u32,
-    a: &[f32],
-    a16: &[i16],
-    a8: &[i8],
-    p: usize,
-    b: &[f32],
-    b16: &[i16],
-    b8: &[i8],
-    q: usize,
-    n: usize,
-) -> u32
-    requires n_in_bounds { (p + n ≤ length (grid_given width a a16 a8)) × (q + n ≤ length (grid_given width b b16 b8)) }
+fn changes<D: Distance>(a: &[D], p: usize, b: &[D], q: usize, n: usize) -> u32
+    requires n_in_bounds { (p + n ≤ length (D.floats a.now)) × (q + n ≤ length (D.floats b.now)) }
     requires n_bound { n ≤ 16777217 }
-    ensures { result ≡ changes_run (grid_before width a a16 a8) p (grid_before width b b16 b8) q n }
+    ensures { result ≡ changes_run (D.floats a.now) p (D.floats b.now) q n }
 {
     let mut count = 0u32;
     for j in 0usize..n {
-        let low = cube::negative(grid::values::value_at(width, a, a16, a8, p + j));
-        let high = cube::negative(grid::values::value_at(width, b, b16, b8, q + j));
+        let low = cube::negative(value_at(a, p + j));
+        let high = cube::negative(value_at(b, q + j));
         count += counted(low != high);
     }
     count
@@ -221,10 +195,7 @@ fn count_kept(codes: &[u32], here: usize, there: usize, k: Block, y: u32, z: u32
 {
     let n = (k.high.x - k.low.x) as usize;
     if n == 0 {
-        return Tally {
-            vertices: 0,
-            indices: 0,
-        };
+        return Tally::NONE;
     }
     let own = owned_edges(k, y, z);
     let all = count_codes(codes, here, there, n);
@@ -259,56 +230,25 @@ fn kept_where_mixed(
     ensures { result ≡ kept_where_mixed codes.now here there k y z negative_points }
 {
     if row_signs::one_sign(k, negative_points) {
-        return Tally {
-            vertices: 0,
-            indices: 0,
-        };
+        return Tally::NONE;
     }
     count_kept(codes, here, there, k, y, z)
 }
 
-fn count_row(
-    width: u32,
-    lower: &[f32],
-    upper: &[f32],
-    lower16: &[i16],
-    upper16: &[i16],
-    lower8: &[i8],
-    upper8: &[i8],
-    k: Block,
-    y: u32,
-    z: u32,
-) -> Tally
-    requires in_layers { InLayers (grid_given width lower lower16 lower8) (grid_given width upper upper16 upper8) k z }
+fn count_row<D: Distance>(lower: &[D], upper: &[D], k: Block, y: u32, z: u32) -> Tally
+    requires in_layers { InLayers (D.floats lower.now) (D.floats upper.now) k z }
     requires y_le_y { (k.low.y ≤ y) × (y < k.high.y) }
-    ensures { result ≡ tally_of (two_layers (grid_before width lower lower16 lower8) (grid_before width upper upper16 upper8) k z) (box_of k) (flags_of k) (row_cells (box_of k) z y) }
+    ensures { result ≡ tally_of (two_layers (D.floats lower.now) (D.floats upper.now) k z) (box_of k) (flags_of k) (row_cells (box_of k) z y) }
 {
     let row = k.dims.x as usize;
     let n = (k.high.x - k.low.x) as usize;
     let at = (k.low.x as usize) + row * (y as usize);
     let next = at + 1;
     let own = owned_edges(k, y, z);
-    let surface = surface_cells(
-        width, lower, upper, lower16, upper16, lower8, upper8, at, row, n,
-    );
-    let along_x = changes(
-        width, lower, lower16, lower8, at, lower, lower16, lower8, next, own.x,
-    );
-    let along_y = changes(
-        width,
-        lower,
-        lower16,
-        lower8,
-        next,
-        lower,
-        lower16,
-        lower8,
-        next + row,
-        own.y,
-    );
-    let along_z = changes(
-        width, lower, lower16, lower8, next, upper, upper16, upper8, next, own.z,
-    );
+    let surface = surface_cells(lower, upper, at, row, n);
+    let along_x = changes(lower, at, lower, next, own.x);
+    let along_y = changes(lower, next, lower, next + row, own.y);
+    let along_z = changes(lower, next, upper, next, own.z);
     let vertices = surface as usize;
     let x_faces = along_x as usize;
     let y_faces = along_y as usize;
@@ -320,51 +260,31 @@ fn count_row(
 }
 
 // The row counted from the distances, given how many of the points of its cells are negative.
-fn count_where_mixed(
-    width: u32,
-    lower: &[f32],
-    upper: &[f32],
-    lower16: &[i16],
-    upper16: &[i16],
-    lower8: &[i8],
-    upper8: &[i8],
+fn count_where_mixed<D: Distance>(
+    lower: &[D],
+    upper: &[D],
     k: Block,
     y: u32,
     z: u32,
     negative_points: usize,
 ) -> Tally
-    requires in_layers { InLayers (grid_given width lower lower16 lower8) (grid_given width upper upper16 upper8) k z }
+    requires in_layers { InLayers (D.floats lower.now) (D.floats upper.now) k z }
     requires y_le_y { (k.low.y ≤ y) × (y < k.high.y) }
-    requires negative_points_value { negative_points ≡ cells_negatives (grid_given width lower lower16 lower8) (grid_given width upper upper16 upper8) k y }
-    ensures { result ≡ tally_of (two_layers (grid_before width lower lower16 lower8) (grid_before width upper upper16 upper8) k z) (box_of k) (flags_of k) (row_cells (box_of k) z y) }
+    requires negative_points_value { negative_points ≡ cells_negatives (D.floats lower.now) (D.floats upper.now) k y }
+    ensures { result ≡ tally_of (two_layers (D.floats lower.now) (D.floats upper.now) k z) (box_of k) (flags_of k) (row_cells (box_of k) z y) }
 {
     if row_signs::one_sign(k, negative_points) {
-        return Tally {
-            vertices: 0,
-            indices: 0,
-        };
+        return Tally::NONE;
     }
-    count_row(
-        width, lower, upper, lower16, upper16, lower8, upper8, k, y, z,
-    )
+    count_row(lower, upper, k, y, z)
 }
 
 // The layer z of cells where a row has at most 1,024 points. The codes of two rows of points stand in the two halves of a list: a row is read to the half
 // of the one before the last.
-fn count_short(
-    width: u32,
-    lower: &[f32],
-    upper: &[f32],
-    lower16: &[i16],
-    upper16: &[i16],
-    lower8: &[i8],
-    upper8: &[i8],
-    k: Block,
-    z: u32,
-) -> Tally
-    requires in_layers { InLayers (grid_given width lower lower16 lower8) (grid_given width upper upper16 upper8) k z }
+fn count_short<D: Distance>(lower: &[D], upper: &[D], k: Block, z: u32) -> Tally
+    requires in_layers { InLayers (D.floats lower.now) (D.floats upper.now) k z }
     requires k_bound { row_points k ≤ 1024 }
-    ensures { result ≡ tally_of (two_layers (grid_before width lower lower16 lower8) (grid_before width upper upper16 upper8) k z) (box_of k) (flags_of k) (layer_cells (box_of k) z) }
+    ensures { result ≡ tally_of (two_layers (D.floats lower.now) (D.floats upper.now) k z) (box_of k) (flags_of k) (layer_cells (box_of k) z) }
 {
     let from = k.low.y;
     let end = k.high.y;
@@ -372,24 +292,10 @@ fn count_short(
     let mut indices = 0usize;
     let mut codes = [0u32; 2048];
     let mut here = 0usize;
-    let mut near = row_signs::read_row(
-        width, lower, upper, lower16, upper16, lower8, upper8, k, from, &mut codes, 0,
-    );
+    let mut near = row_signs::read_row(lower, upper, k, from, &mut codes, 0);
     for y in from..end {
         let there = 1024 - here;
-        let far = row_signs::read_row(
-            width,
-            lower,
-            upper,
-            lower16,
-            upper16,
-            lower8,
-            upper8,
-            k,
-            y + 1,
-            &mut codes,
-            there,
-        );
+        let far = row_signs::read_row(lower, upper, k, y + 1, &mut codes, there);
         let one = kept_where_mixed(&codes, here, there, k, y, z, near + far);
         vertices += one.vertices;
         indices += one.indices;
@@ -400,55 +306,19 @@ fn count_short(
 }
 
 // The same where a row has more points, of which nothing is kept.
-fn count_long(
-    width: u32,
-    lower: &[f32],
-    upper: &[f32],
-    lower16: &[i16],
-    upper16: &[i16],
-    lower8: &[i8],
-    upper8: &[i8],
-    k: Block,
-    z: u32,
-) -> Tally
-    requires { InLayers (grid_given width lower lower16 lower8) (grid_given width upper upper16 upper8) k z }
-    ensures { result ≡ tally_of (two_layers (grid_before width lower lower16 lower8) (grid_before width upper upper16 upper8) k z) (box_of k) (flags_of k) (layer_cells (box_of k) z) }
+fn count_long<D: Distance>(lower: &[D], upper: &[D], k: Block, z: u32) -> Tally
+    requires { InLayers (D.floats lower.now) (D.floats upper.now) k z }
+    ensures { result ≡ tally_of (two_layers (D.floats lower.now) (D.floats upper.now) k z) (box_of k) (flags_of k) (layer_cells (box_of k) z) }
 {
     let from = k.low.y;
     let end = k.high.y;
     let mut vertices = 0usize;
     let mut indices = 0usize;
     let mut codes = [0u32; 1024];
-    let mut near_row = row_signs::read_row(
-        width, lower, upper, lower16, upper16, lower8, upper8, k, from, &mut codes, 0,
-    );
+    let mut near_row = row_signs::read_row(lower, upper, k, from, &mut codes, 0);
     for y in from..end {
-        let far_row = row_signs::read_row(
-            width,
-            lower,
-            upper,
-            lower16,
-            upper16,
-            lower8,
-            upper8,
-            k,
-            y + 1,
-            &mut codes,
-            0,
-        );
-        let one = count_where_mixed(
-            width,
-            lower,
-            upper,
-            lower16,
-            upper16,
-            lower8,
-            upper8,
-            k,
-            y,
-            z,
-            near_row + far_row,
-        );
+        let far_row = row_signs::read_row(lower, upper, k, y + 1, &mut codes, 0);
+        let one = count_where_mixed(lower, upper, k, y, z, near_row + far_row);
         vertices += one.vertices;
         indices += one.indices;
         near_row = far_row;
@@ -457,73 +327,41 @@ fn count_long(
 }
 
 // The layer z of cells, from the distances of its lower and its upper points.
-pub fn count_layer(
-    width: u32,
-    lower: &[f32],
-    upper: &[f32],
-    lower16: &[i16],
-    upper16: &[i16],
-    lower8: &[i8],
-    upper8: &[i8],
-    k: Block,
-    z: u32,
-) -> Tally
-    requires { InLayers (grid_given width lower lower16 lower8) (grid_given width upper upper16 upper8) k z }
-    ensures { result ≡ tally_of (two_layers (grid_before width lower lower16 lower8) (grid_before width upper upper16 upper8) k z) (box_of k) (flags_of k) (layer_cells (box_of k) z) }
+pub fn count_layer<D: Distance>(lower: &[D], upper: &[D], k: Block, z: u32) -> Tally
+    requires { InLayers (D.floats lower.now) (D.floats upper.now) k z }
+    ensures { result ≡ tally_of (two_layers (D.floats lower.now) (D.floats upper.now) k z) (box_of k) (flags_of k) (layer_cells (box_of k) z) }
 {
     let points = ((k.high.x - k.low.x) as usize) + 1;
     if points <= 1024 {
-        return count_short(width, lower, upper, lower16, upper16, lower8, upper8, k, z);
+        return count_short(lower, upper, k, z);
     }
-    count_long(width, lower, upper, lower16, upper16, lower8, upper8, k, z)
+    count_long(lower, upper, k, z)
 }
 
 // The layer z of a whole grid, whose parts are lent.
-fn count_part(width: u32, sdf: &[f32], sdf16: &[i16], sdf8: &[i8], k: Block, z: u32) -> Tally
-    requires inside { Inside (grid_given width sdf sdf16 sdf8) k }
+fn count_part<D: Distance>(sdf: &[D], k: Block, z: u32) -> Tally
+    requires inside { Inside (D.floats sdf.now) k }
     requires z_le_z { (k.low.z ≤ z) × (z < k.high.z) }
-    ensures { result ≡ tally_of (field_of (grid_before width sdf sdf16 sdf8) k) (box_of k) (flags_of k) (layer_cells (box_of k) z) }
+    ensures { result ≡ tally_of (field_of (D.floats sdf.now) k) (box_of k) (flags_of k) (layer_cells (box_of k) z) }
 {
-    let plane = (k.dims.x as usize) * (k.dims.y as usize);
-    let start = plane * (z as usize);
-    let end = start + plane;
-    let fs = grid::values::float_place(width, start);
-    let fe = grid::values::float_place(width, end);
-    let ss = grid::values::sixteen_place(width, start);
-    let se = grid::values::sixteen_place(width, end);
-    let bs = grid::values::eight_place(width, start);
-    let be = grid::values::eight_place(width, end);
-    count_layer(
-        width,
-        &sdf[fs..fe],
-        &sdf[fe..],
-        &sdf16[ss..se],
-        &sdf16[se..],
-        &sdf8[bs..be],
-        &sdf8[be..],
-        k,
-        z,
-    )
+    let (lower, upper) = layers_at(sdf, k, z);
+    count_layer(lower, upper, k, z)
 }
 
 // One walk serves both: a layer of points is tried just after the cells below it are counted, while it is at hand.
-pub fn count_box(width: u32, sdf: &[f32], sdf16: &[i16], sdf8: &[i8], k: Block) -> Findings
-    requires inside { Inside (grid_given width sdf sdf16 sdf8) k }
-    requires wholes { Wholes 16 sdf16.now × Wholes 8 sdf8.now }
-    ensures bad_value { result.bad ≡ bad_distance (field_of (grid_before width sdf sdf16 sdf8) k) (box_of k) }
-    ensures result_value { counts result ≡ tally_of (field_of (grid_before width sdf sdf16 sdf8) k) (box_of k) (flags_of k) (cells (box_of k)) }
+pub fn count_box<D: Distance>(sdf: &[D], k: Block) -> Findings
+    requires { Inside (D.floats sdf.now) k }
+    ensures bad_value { result.bad ≡ bad_distance (field_of (D.floats sdf.now) k) (box_of k) }
+    ensures result_value { counts result ≡ tally_of (field_of (D.floats sdf.now) k) (box_of k) (flags_of k) (cells (box_of k)) }
 {
     let from = k.low.z;
     let end = k.high.z;
-    let mut bad = grid::scan::bad_layer(width, sdf, sdf16, sdf8, k, from);
+    let mut bad = grid::scan::bad_layer(sdf, k, from);
     let mut vertices = 0usize;
     let mut indices = 0usize;
     for z in from..end {
-        let one = count_part(width, sdf, sdf16, sdf8, k, z);
-        bad = grid::scan::either(
-            bad,
-            grid::scan::bad_layer(width, sdf, sdf16, sdf8, k, z + 1),
-        );
+        let one = count_part(sdf, k, z);
+        bad = grid::scan::either(bad, grid::scan::bad_layer(sdf, k, z + 1));
         vertices += one.vertices;
         indices += one.indices;
     }

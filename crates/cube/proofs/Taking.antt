@@ -1,9 +1,21 @@
 -- A loop over a list, told by its last turn: what the rules count and sum over the first n + 1 elements, from the first n and the next one.
 -- Assumes nothing.
 use Rattle.std.proofs.Common.{◌≡◌, ℕ, zero, suc, ◌+◌, ◌<◌, Bool, true, false, cond, List, [], ◌∷◌, map, length, get_or, take, sym, refl, ap, ◌∙◌, ap₂, le_of_suc-le-suc, not-suc-le-zero, add-zero, add-one, take-suc}
+use Rattle.std.specs.List.{count_by}
+use Rattle.std.proofs.lemmas.List.Sums.{sum_by-cons}
 use Rattle.lists.specs.Lists.{one, keep, many}
 use Rattle.rules.specs.Cell.{Vector, plus, summed}
 use Rattle.lists.proofs.Lists.{many-append}
+
+-- the library's word for it
+pub many_counted : {A : Type 0} (f : A → Bool) (l : List A) → many f l ≡ count_by f l
+unfolding many
+many_counted f [] = refl
+many_counted f (x ∷ xs) = ap₂ ◌+◌ (one-cond (f x)) (many_counted f xs) ∙ sym (sum_by-cons (λ y. cond (f y) 1 0) x xs)
+  where
+    one-cond : (b : Bool) → one b ≡ cond b 1 0
+    one-cond true = refl
+    one-cond false = refl
 
 module _ {A : Type 0} (f : A → Bool) (d : A) where
   many-next : (l : List A) (n : ℕ) → n < length l → many f (take (suc n) l) ≡ many f (take n l) + one (f (get_or l n d))

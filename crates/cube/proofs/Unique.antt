@@ -1,23 +1,22 @@
 -- Two outcomes that fit a public function's contract are equal: for each, over the contract itself (OneResult). Assumes nothing.
 use Rattle.std.proofs.Common.{◌≡◌, sym, refl, ap, ◌∙◌}
-use mathlib.Core.Option.{Option, none, some}
+use Rattle.std.specs.Prelude.{Option, Some, None}
+use mathlib.Core.Option.{Option as Maybe, none, some}
 use lib.Ieee.{Float}
 use Rattle.rules.specs.Cell.{Vector}
 use Rattle.cube.specs.AsRules.{vector, fraction_of}
 use Rattle.cube.specs.declared.point.Point.{Point}
-use Rattle.cube.specs.declared.crossing.Crossing.{Crossing}
-use Rattle.cube.specs.declared.crossing.Crossing.TheVariants.{No, At}
 use Rattle.cube.specs.declared.centroid.Crossings.{Crossings}
 use Rattle.cube.specs.declared.centroid.Average.{Average}
 use Rattle.cube.proofs.OneResult.{OneResult}
-use Rattle.cube.proofs.point.Point.add.Kinds as add-kinds
-use Rattle.cube.proofs.point.Point.add.Reads as add
-use Rattle.cube.proofs.point.Point.sub.Kinds as sub-kinds
-use Rattle.cube.proofs.point.Point.sub.Reads as sub
-use Rattle.cube.proofs.point.Point.scale.Kinds as scale-kinds
-use Rattle.cube.proofs.point.Point.scale.Reads as scale
-use Rattle.cube.proofs.point.Point.divide.Kinds as divide-kinds
-use Rattle.cube.proofs.point.Point.divide.Reads as divide
+use Rattle.cube.proofs.point.PointAdd.add.Kinds as add-kinds
+use Rattle.cube.proofs.point.PointAdd.add.Reads as add
+use Rattle.cube.proofs.point.PointSub.sub.Kinds as sub-kinds
+use Rattle.cube.proofs.point.PointSub.sub.Reads as sub
+use Rattle.cube.proofs.point.F32MulPoint.mul.Kinds as scale-kinds
+use Rattle.cube.proofs.point.F32MulPoint.mul.Reads as scale
+use Rattle.cube.proofs.point.PointDivF32.div.Kinds as divide-kinds
+use Rattle.cube.proofs.point.PointDivF32.div.Reads as divide
 use Rattle.cube.proofs.point.Point.squared_distance.Kinds as squared-distance-kinds
 use Rattle.cube.proofs.point.Point.squared_distance.Reads as squared-distance
 use Rattle.cube.proofs.point.position_in.Kinds as position-in-kinds
@@ -57,15 +56,15 @@ same-average p q = λ i. record { point = p i; crossings = q i }
 
 -- ---- an edge's answer is its fraction, or none
 
-abbrev with_fraction : Option Float → Crossing
-with_fraction none = No
-with_fraction (some f) = At f
+abbrev with_fraction : Maybe Float → Option Float
+with_fraction none = None
+with_fraction (some f) = Some f
 
-back : (c : Crossing) → with_fraction (fraction_of c) ≡ c
-back No = refl
-back (At f) = refl
+back : (c : Option Float) → with_fraction (fraction_of c) ≡ c
+back None = refl
+back (Some f) = refl
 
-pub fraction-injective : (c c' : Crossing) → fraction_of c ≡ fraction_of c' → c ≡ c'
+pub fraction-injective : (c c' : Option Float) → fraction_of c ≡ fraction_of c' → c ≡ c'
 fraction-injective c c' e = sym (back c) ∙ (ap with_fraction e ∙ back c')
 
 -- ---- the functions

@@ -1,13 +1,11 @@
 -- How the code's values are read as the rules' own: a point as a vector, an edge's answer as no crossing or its fraction. Definitions only.
 -- Assumes nothing.
-use Rattle.std.specs.Prelude.{ℕ, Bool, true, false, slice_index_or, Float}
-use Rattle.std.proofs.Math.Option.{Option, none, some}
+use Rattle.std.specs.Prelude.{ℕ, Bool, true, false, Option, Some, None, slice_index_or, Float}
+use Rattle.std.proofs.Math.Option.{Option as Maybe, none, some}
 use Rattle.std.specs.Float.Ieee.{unlike}
 use Rattle.rules.specs.Grid.{GridPoint}
 use Rattle.rules.specs.Cell.{Vector, CubeEdge, cube_edge, cube_edges, negative, fraction}
 use Rattle.cube.specs.declared.point.Point.{Point}
-use Rattle.cube.specs.declared.crossing.Crossing.{Crossing}
-use Rattle.cube.specs.declared.crossing.Crossing.TheVariants.{No, At}
 
 -- a point's three floats
 abbrev pub vector : Point → Vector
@@ -21,15 +19,15 @@ grid_point x y z = record { x = x; y = y; z = z }
 abbrev pub edge_at : ℕ → CubeEdge
 edge_at e = slice_index_or cube_edges e (cube_edge 0 0)
 
--- document 01, "an edge answers no crossing, or a crossing with its fraction": what each case of the code's enum says
-abbrev pub fraction_of : Crossing → Option Float
-fraction_of No = none
-fraction_of (At f) = some f
+-- document 01, "an edge answers no crossing, or a crossing with its fraction": what each case of the code's option says
+abbrev pub fraction_of : Option Float → Maybe Float
+fraction_of None = none
+fraction_of (Some f) = some f
 
-abbrev pub pick_fraction : Bool → Float → Option Float
+abbrev pub pick_fraction : Bool → Float → Maybe Float
 pick_fraction true f = some f
 pick_fraction false f = none
 
 -- "Edge a-b crosses if exactly one end is negative": with its fraction, and otherwise no crossing
-abbrev pub crossing_of : Float → Float → Option Float
+abbrev pub crossing_of : Float → Float → Maybe Float
 crossing_of da db = pick_fraction (unlike (negative da) (negative db)) (fraction da db)

@@ -5,16 +5,11 @@ ghost use Rattle.rules.specs.Cell.{negatives, surface};
 use crate::crossing::negative;
 
 // How many corners are negative. The values come by value: that there are eight of them is then known.
+#[tactic(auto, using(crate::proofs::Taking::many_counted))]
 pub fn negative_corners(d: [f32; 8]) -> u32
     ensures { result ≡ negatives d }
 {
-    let mut count = 0u32;
-    for i in 0usize..8 {
-        if negative(d[i]) {
-            count += 1;
-        }
-    }
-    count
+    d.iter().filter(|v| negative(**v)).count() as u32
 }
 
 // "A cell with 1 to 7 negative corners of 8 is a surface cell": by that number, however it was counted. It does not branch, so that a loop over a row need not.

@@ -17,15 +17,8 @@ fn blended(n1: f32, s1: f32, n2: f32, s2: f32, a: f32, b: f32, c: f32, d: f32) -
 pub fn sdf_gradient(d: &[f32; 8], s: Point) -> Point
     ensures { vector result ≡ normal d.now (vector s) }
 {
-    let n = Point::ONE.sub(s);
-    let d0 = d[0];
-    let d1 = d[1];
-    let d2 = d[2];
-    let d3 = d[3];
-    let d4 = d[4];
-    let d5 = d[5];
-    let d6 = d[6];
-    let d7 = d[7];
+    let n = Point::ONE - s;
+    let [d0, d1, d2, d3, d4, d5, d6, d7] = *d;
     Point {
         x: blended(n.y, s.y, n.z, s.z, d1 - d0, d5 - d4, d3 - d2, d7 - d6),
         y: blended(n.z, s.z, n.x, s.x, d2 - d0, d3 - d1, d6 - d4, d7 - d5),

@@ -12,6 +12,6 @@ mod tables;
 
 pub use centroid::{Average, Crossings, centroid_of_edge_intersections, sum_of_edge_intersections};
 pub use classing::{is_surface, negative_corners, some_of_eight};
-pub use crossing::{Crossing, estimate_surface_edge_intersection, negative};
+pub use crossing::{estimate_surface_edge_intersection, negative};
 pub use gradient::sdf_gradient;
 pub use point::{Point, position_in};

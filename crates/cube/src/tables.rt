@@ -1,5 +1,5 @@
-// The cube's corners and edges, in document 01's order: the Rust's CUBE_CORNERS and CUBE_EDGES, as functions of a corner's and of an edge's number. An
-// array that is indexed as the program runs is built anew on the stack at every use, and the twelve edges are gone through at each vertex.
+// The cube's corners and edges, in document 01's order: the Rust's CUBE_CORNERS and CUBE_EDGES, as functions of a corner's and of an edge's number. The
+// twelve edges are gone through at each vertex: with functions the compiler writes out the loop, and over a static table a cell takes three quarters longer.
 ghost use Rattle.std.specs.Prelude.{◌≡◌, ◌<◌};
 ghost use Rattle.rules.specs.Cell.{bit, corner_vector};
 ghost use Rattle.cube.specs.AsRules.{vector, edge_at};
@@ -10,10 +10,7 @@ use crate::point::Point;
 fn coordinate(n: usize) -> f32
     ensures { result ≡ bit n }
 {
-    if n == 0 {
-        return 0.0;
-    }
-    1.0
+    if n == 0 { 0.0 } else { 1.0 }
 }
 
 // "Corner i stands at (i mod 2, i/2 mod 2, i/4)."
@@ -34,7 +31,7 @@ pub(crate) fn first_end(edge: usize) -> usize
     ensures { (result ≡ (edge_at edge).a) × (result < 8) }
 {
     match edge {
-        0 | 1 | 2 => 0,
+        0..=2 => 0,
         3 | 4 => 1,
         5 | 6 => 2,
         7 => 3,

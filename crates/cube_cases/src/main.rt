@@ -2,110 +2,130 @@
 // What cannot be written is left out, and the program goes on.
 #![tactic(auto)]
 
-use cube::{Crossing, Point};
+use cube::Point;
+use printed::Bits;
+use std::fmt;
 
-fn text(rt: &impl Print, s: &[u8]) {
-    let _ = rt.write_all(s);
+// The values at the two ends of an edge.
+struct Edge {
+    label: &'static str,
+    ends: [f32; 2],
 }
 
-fn hex(rt: &impl Print, n: u32) {
-    let _ = print!(rt; "{n:08x}");
-}
+static EDGES: [Edge; 6] = [
+    Edge {
+        label: "1 -1",
+        ends: [1.0, -1.0],
+    },
+    Edge {
+        label: "0 -1",
+        ends: [0.0, -1.0],
+    },
+    Edge {
+        label: "-0 -1",
+        ends: [-0.0, -1.0],
+    },
+    Edge {
+        label: "-1 0",
+        ends: [-1.0, 0.0],
+    },
+    Edge {
+        label: "1 0",
+        ends: [1.0, 0.0],
+    },
+    Edge {
+        label: "-1 -2",
+        ends: [-1.0, -2.0],
+    },
+];
 
-// A float's bits, or a word for not-a-number, which has no one pattern.
-fn float(rt: &impl Print, x: f32) {
-    text(rt, b" ");
-    if x != x {
-        text(rt, b"nan");
-    } else {
-        hex(rt, marks::bits(x));
+impl fmt::Display for Edge {
+    fn fmt<W: fmt::Write>(&self, f: &mut fmt::Formatter<W>) -> fmt::Result {
+        let [value1, value2] = self.ends;
+        write!(f, "fraction {}: ", self.label)?;
+        match cube::estimate_surface_edge_intersection(value1, value2) {
+            Some(fraction) => write!(f, "{}", Bits(fraction)),
+            None => f.write_str("none"),
+        }
     }
 }
 
-fn point(rt: &impl Print, p: Point) {
-    float(rt, p.x);
-    float(rt, p.y);
-    float(rt, p.z);
+// The values at the corners of a cell, corner 0 first, whose lowest corner is (1, 2, 3).
+struct Cell {
+    label: &'static str,
+    corners: [f32; 8],
 }
 
-fn fraction(rt: &impl Print, label: &[u8], value1: f32, value2: f32) {
-    text(rt, b"fraction ");
-    text(rt, label);
-    text(rt, b":");
-    match cube::estimate_surface_edge_intersection(value1, value2) {
-        Crossing::No => text(rt, b" none"),
-        Crossing::At(f) => float(rt, f),
+static CELLS: [Cell; 6] = [
+    Cell {
+        label: "-1 0 0 -1 0 0 0 -1",
+        corners: [-1.0, 0.0, 0.0, -1.0, 0.0, 0.0, 0.0, -1.0],
+    },
+    Cell {
+        label: "0 -1 0 0 -2 1 0 0",
+        corners: [0.0, -1.0, 0.0, 0.0, -2.0, 1.0, 0.0, 0.0],
+    },
+    Cell {
+        label: "0 0 1 0 0 0 -1 0",
+        corners: [0.0, 0.0, 1.0, 0.0, 0.0, 0.0, -1.0, 0.0],
+    },
+    Cell {
+        label: "0 0 0 2 -1 0 0 -1",
+        corners: [0.0, 0.0, 0.0, 2.0, -1.0, 0.0, 0.0, -1.0],
+    },
+    Cell {
+        label: "1 1 1 1 1 1 1 -1",
+        corners: [1.0, 1.0, 1.0, 1.0, 1.0, 1.0, 1.0, -1.0],
+    },
+    Cell {
+        label: "1 1 1 1 1 1 1 -0",
+        corners: [1.0, 1.0, 1.0, 1.0, 1.0, 1.0, 1.0, -0.0],
+    },
+];
+
+impl fmt::Display for Cell {
+    fn fmt<W: fmt::Write>(&self, f: &mut fmt::Formatter<W>) -> fmt::Result {
+        let d = &self.corners;
+        let average = cube::centroid_of_edge_intersections(d);
+        let s = average.point;
+        let surface = if cube::is_surface(d) {
+            "surface"
+        } else {
+            "no surface"
+        };
+        write!(
+            f,
+            "corners {}: {surface}, crossings {}",
+            self.label, average.crossings
+        )?;
+        write!(f, ", s {}", Shown(s))?;
+        write!(f, ", position {}", Shown(cube::position_in(1, 2, 3, s)))?;
+        write!(f, ", normal {}", Shown(cube::sdf_gradient(d, s)))
     }
-    text(rt, b"\n");
 }
 
-// A cell with these corner values, corner 0 first, whose lowest corner is (1, 2, 3).
-fn cell(rt: &impl Print, label: &[u8], d: &[f32; 8]) {
-    let average = cube::centroid_of_edge_intersections(d);
-    let s = average.point;
-    text(rt, b"corners ");
-    text(rt, label);
-    if cube::is_surface(d) {
-        text(rt, b": surface,");
-    } else {
-        text(rt, b": no surface,");
+// A point by its floats' bits.
+#[derive(Clone, Copy)]
+struct Shown(Point);
+
+impl fmt::Display for Shown {
+    fn fmt<W: fmt::Write>(&self, f: &mut fmt::Formatter<W>) -> fmt::Result {
+        let p = self.0;
+        write!(f, "{} {} {}", Bits(p.x), Bits(p.y), Bits(p.z))
     }
-    text(rt, b" crossings ");
-    let crossings = average.crossings;
-    let _ = print!(rt; "{crossings}");
-    text(rt, b", s");
-    point(rt, s);
-    text(rt, b", position");
-    point(rt, cube::position_in(1, 2, 3, s));
-    text(rt, b", normal");
-    point(rt, cube::sdf_gradient(d, s));
-    text(rt, b"\n");
 }
 
 fn main(rt: HostRuntime) {
-    let rt = &rt;
-    text(
-        rt,
-        b"# Stored: by the published formulas of source document 000, run in Rust in plain f32, by component (oracle/cube_cases.rs);\n",
+    let _ = println!(rt;
+        "# Stored: by the published formulas of source document 000, run in Rust in plain f32, by component (oracle/cube_cases.rs);"
     );
-    text(
-        rt,
-        b"# no number is copied from this program. Floats by their bits; positions are those in the cell (1, 2, 3).\n",
+    let _ = println!(rt;
+        "# no number is copied from this program. Floats by their bits; positions are those in the cell (1, 2, 3)."
     );
-    fraction(rt, b"1 -1", 1.0, -1.0);
-    fraction(rt, b"0 -1", 0.0, -1.0);
-    fraction(rt, b"-0 -1", -0.0, -1.0);
-    fraction(rt, b"-1 0", -1.0, 0.0);
-    fraction(rt, b"1 0", 1.0, 0.0);
-    fraction(rt, b"-1 -2", -1.0, -2.0);
-    cell(
-        rt,
-        b"-1 0 0 -1 0 0 0 -1",
-        &[-1.0, 0.0, 0.0, -1.0, 0.0, 0.0, 0.0, -1.0],
-    );
-    cell(
-        rt,
-        b"0 -1 0 0 -2 1 0 0",
-        &[0.0, -1.0, 0.0, 0.0, -2.0, 1.0, 0.0, 0.0],
-    );
-    cell(
-        rt,
-        b"0 0 1 0 0 0 -1 0",
-        &[0.0, 0.0, 1.0, 0.0, 0.0, 0.0, -1.0, 0.0],
-    );
-    cell(
-        rt,
-        b"0 0 0 2 -1 0 0 -1",
-        &[0.0, 0.0, 0.0, 2.0, -1.0, 0.0, 0.0, -1.0],
-    );
-    cell(
-        rt,
-        b"1 1 1 1 1 1 1 -1",
-        &[1.0, 1.0, 1.0, 1.0, 1.0, 1.0, 1.0, -1.0],
-    );
-    cell(
-        rt,
-        b"1 1 1 1 1 1 1 -0",
-        &[1.0, 1.0, 1.0, 1.0, 1.0, 1.0, 1.0, -0.0],
-    );
+    for edge in &EDGES {
+        let _ = println!(rt; "{edge}");
+    }
+    for cell in &CELLS {
+        let _ = println!(rt; "{cell}");
+    }
 }

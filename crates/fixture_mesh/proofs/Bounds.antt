@@ -8,7 +8,7 @@ use mathlib.Core.Bool.{Bool, true, false, not, ◌||◌, cond}
 use mathlib.Core.List.{List}
 use mathlib.Core.Path.{◌≡◌, sym, subst}
 use mathlib.Core.Logic.{⊎_elim}
-use lib.Dec.{T, eqb, lit≤, lit<, nltb→le}
+use lib.Dec.{T, lit≤, lit<, nltb→le}
 use lib.IntN.{pos}
 use lib.ListN.{length, get_or}
 use lib.Ieee.{Float, nan, inf, fin, up, down, binary32, sub, of_int, lt, neg}
@@ -28,6 +28,8 @@ use Rattle.cube.specs.AsRules.{vector}
 use Rattle.cube.specs.declared.point.Point.{Point}
 use Rattle.fixtures.specs.Record.{reach, past, far_point}
 use Rattle.fixtures.specs.Solid.{greater, lesser, box_value, joins, value_at}
+use Rattle.fixtures.specs.declared.kind.Join.{Join}
+use Rattle.fixtures.specs.declared.kind.Join.TheVariants.{Union, Intersection, Difference}
 use Rattle.fixtures.specs.Cut.{floats, file_answer, cut_answer, cut_grid}
 use Rattle.fixtures.proofs.Heads.{is-not}
 use Rattle.fixtures.proofs.Placing.{Positive, positive}
@@ -53,11 +55,11 @@ lesser-within : (n : ℕ) (a b : Float) → Within n a → Within n b → Within
 unfolding lesser
 lesser-within n a b h k = either-within n (lt b a) b a k h
 
-joins-within : (kind : ℕ) (a b : Float) → Within most a → Within most b → Within most (joins kind a b)
+joins-within : (kind : Join) (a b : Float) → Within most a → Within most b → Within most (joins kind a b)
 unfolding joins
-joins-within kind a b h k =
-    either-within most (eqb kind 2) (lesser a b) (cond (eqb kind 3) (greater a b) (greater a (neg b))) (lesser-within most a b h k)
-    (either-within most (eqb kind 3) (greater a b) (greater a (neg b)) (greater-within most a b h k) (greater-within most a (neg b) h (neg-within most b k)))
+joins-within Union a b h k = lesser-within most a b h k
+joins-within Intersection a b h k = greater-within most a b h k
+joins-within Difference a b h k = greater-within most a (neg b) h (neg-within most b k)
 
 most-held : Holds binary32 (reach + reach) 1
 most-held = holds-times binary32 1 25 (lit< tt) (lit< tt)

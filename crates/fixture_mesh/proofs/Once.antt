@@ -2,16 +2,17 @@
 -- alone fits the contract: the answer, and every number of the grid afterwards, refused calls too. The same of those that cut one layer. Assumes nothing.
 use mathlib.Core.Path.{◌∙◌, sym}
 use Rattle.promises.proofs.OneOutcome.{OneOutcome}
+use Rattle.fixtures.proofs.Numbers.{one-answer}
 use Rattle.fixtures.proofs.cut.cut_fixtures.Kinds as cut-fixtures-kinds
 use Rattle.fixtures.proofs.cut.cut_fixtures.Reads as cut-fixtures
 use Rattle.fixtures.proofs.layer.layer_answer.Kinds as layer-answer-kinds
 use Rattle.fixtures.proofs.layer.layer_answer.Reads as layer-answer
 use Rattle.fixtures.proofs.layer.cut_fixtures_layer.Kinds as cut-layer-kinds
 use Rattle.fixtures.proofs.layer.cut_fixtures_layer.Reads as cut-layer
-use Rattle.fixture_widths.proofs.cut_fixtures_layer_i16.Kinds as cut-layer-i16-kinds
-use Rattle.fixture_widths.proofs.cut_fixtures_layer_i16.Reads as cut-layer-i16
-use Rattle.fixture_widths.proofs.cut_fixtures_layer_i8.Kinds as cut-layer-i8-kinds
-use Rattle.fixture_widths.proofs.cut_fixtures_layer_i8.Reads as cut-layer-i8
+use Rattle.grid.proofs.Instances.{DistanceType, sixteen-type, eight-type}
+use Rattle.fixture_widths.proofs.Numbers.{one-answer as one-answer-into}
+use Rattle.fixture_widths.proofs.cut_fixtures_layer.Kinds as cut-into-kinds
+use Rattle.fixture_widths.proofs.cut_fixtures_layer.Reads as cut-into
 use Rattle.bed.proofs.cut_layers.bed_cut_fixtures_layer.Kinds as bed-cut-layer-kinds
 use Rattle.bed.proofs.cut_layers.bed_cut_fixtures_layer.Reads as bed-cut-layer
 use Rattle.bed.proofs.cut_layers.bed_cut_fixtures_layer_i16.Kinds as bed-cut-layer-i16-kinds
@@ -23,7 +24,7 @@ use Rattle.bed.proofs.cut.bed_cut_fixtures.Reads as bed-cut-fixtures
 
 pub cut-fixtures-once : OneOutcome 2 cut-fixtures-kinds.ps cut-fixtures-kinds.r cut-fixtures.Learnt
 cut-fixtures-once κs a o o' l l' =
-    let s = l.0 ∙ sym l'.0 in
+    let s = one-answer o.result o'.result (l.0 ∙ sym l'.0) in
     let g = l.1 ∙ sym l'.1 in
     λ i. record { result = s i; last = (tt, (tt, (g i, tt))) }
 
@@ -37,12 +38,12 @@ bed-cut-fixtures-once κs a o o' l l' =
 
 pub layer-answer-once : OneOutcome 1 layer-answer-kinds.ps layer-answer-kinds.r layer-answer.Learnt
 layer-answer-once κs a o o' l l' =
-    let s = l ∙ sym l' in
+    let s = one-answer o.result o'.result (l ∙ sym l') in
     λ i. record { result = s i; last = (tt, (tt, (tt, (tt, tt)))) }
 
 pub cut-fixtures-layer-once : OneOutcome 2 cut-layer-kinds.ps cut-layer-kinds.r cut-layer.Learnt
 cut-fixtures-layer-once κs a o o' l l' =
-    let s = l.0 ∙ sym l'.0 in
+    let s = one-answer o.result o'.result (l.0 ∙ sym l'.0) in
     let g = l.1 ∙ sym l'.1 in
     λ i. record { result = s i; last = (tt, (tt, (tt, (g i, tt)))) }
 
@@ -52,17 +53,24 @@ bed-cut-fixtures-layer-once κs a o o' l l' =
     let g = l.1 ∙ sym l'.1 in
     λ i. record { result = s i; last = (tt, (tt, (tt, (g i, tt)))) }
 
-pub cut-fixtures-layer-i16-once : OneOutcome 3 cut-layer-i16-kinds.ps cut-layer-i16-kinds.r cut-layer-i16.Learnt
-cut-fixtures-layer-i16-once κs a o o' l l' =
-    let s = l.0 ∙ sym l'.0 in
-    let g = l.1 ∙ sym l'.1 in
-    λ i. record { result = s i; last = (tt, (tt, (tt, (tt, (g i, tt))))) }
+-- into floats of another list, from any type of numbers
+module _ (D : DistanceType) where
+  abbrev pub CutIntoOnce : Type 0
+  CutIntoOnce =
+      OneOutcome 4 (cut-into-kinds.ps D.type D.laws D.copy) (cut-into-kinds.r D.type D.laws D.copy)
+      (cut-into.Learnt D.type D.laws D.copy D.distance D.distance_dict D.clone D.clone_dict)
 
-pub cut-fixtures-layer-i8-once : OneOutcome 3 cut-layer-i8-kinds.ps cut-layer-i8-kinds.r cut-layer-i8.Learnt
-cut-fixtures-layer-i8-once κs a o o' l l' =
-    let s = l.0 ∙ sym l'.0 in
-    let g = l.1 ∙ sym l'.1 in
-    λ i. record { result = s i; last = (tt, (tt, (tt, (tt, (g i, tt))))) }
+  pub cut-fixtures-layer-at-once : CutIntoOnce
+  cut-fixtures-layer-at-once κs a o o' l l' =
+      let s = one-answer-into o.result o'.result (l.0 ∙ sym l'.0) in
+      let g = l.1 ∙ sym l'.1 in
+      λ i. record { result = s i; last = (tt, (tt, (tt, (tt, (g i, tt))))) }
+
+pub cut-fixtures-layer-i16-once : CutIntoOnce sixteen-type
+cut-fixtures-layer-i16-once = cut-fixtures-layer-at-once sixteen-type
+
+pub cut-fixtures-layer-i8-once : CutIntoOnce eight-type
+cut-fixtures-layer-i8-once = cut-fixtures-layer-at-once eight-type
 
 pub bed-cut-fixtures-layer-i16-once : OneOutcome 4 bed-cut-layer-i16-kinds.ps bed-cut-layer-i16-kinds.r bed-cut-layer-i16.Learnt
 bed-cut-fixtures-layer-i16-once κs a o o' l l' =

@@ -3,6 +3,7 @@
 -- with their numbers, so that no premise is one that no call meets. Assumes nothing.
 use Prim.Native.Nat.{ℕ}
 use mathlib.Core.Bool.{false}
+use Rattle.std.specs.Prelude.{Ok}
 use mathlib.Core.List.{List, []}
 use mathlib.Core.Path.{◌≡◌, sym, ap, ap₂, subst, ◌∙◌}
 use contract.Lifetimes.{Lfts}
@@ -78,7 +79,7 @@ raked =
     record {
       lifetimes = ([], ([], tt));
       args = (to (file rake), (extent 5 5 5, (lent (floats_of rake.grid), tt)));
-      outcome = record { result = 0; last = (tt, (tt, (floats_of rake.after, tt))) };
+      outcome = record { result = Ok tt; last = (tt, (tt, (floats_of rake.after, tt))) };
       fits = (sym rake-holds.0, sym rake-holds.1);
     }
 

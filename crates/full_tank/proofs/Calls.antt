@@ -16,11 +16,13 @@ use Rattle.rules.specs.Call.{Call, bad_distance}
 use Rattle.grid.specs.declared.Extent.{Extent}
 use Rattle.grid.specs.declared.EachAxis.{EachAxis}
 use Rattle.grid.specs.Block.{point}
-use Rattle.grid.specs.Values.{as_floats}
+use Rattle.grid.specs.Values.{as_floats, floats-themselves}
+use Rattle.grid.proofs.Instances.{DistanceType, float-type, sixteen-type, eight-type}
 use Rattle.surface_nets.specs.AsRules.{call_made}
 use Rattle.skin.specs.Links.{links}
 use Rattle.skin.specs.Enclosed.{Enclosed}
 use Rattle.skin.proofs.Skin.{skin-law}
+use Rattle.closing.specs.Refused.{answer_of}
 use Rattle.closing.specs.Closed.{closed_dims, point_count, open_field, closed_list}
 use Rattle.weigh.specs.Answers.{weight as answered, sum_in}
 use Rattle.promises.specs.Served.{Served, Done}
@@ -36,7 +38,7 @@ use Rattle.weighed_mesh.proofs.Mesh.{OwnMesh as OwnVolume}
 use Rattle.closed_bed.specs.Standing.{FarWall}
 use Rattle.closed_bed.proofs.Values.{Closes, call-accepted, call-closed}
 use Rattle.closed_bed.proofs.Enclosing.{closed-enclosed}
-use Rattle.closed_bed.proofs.Outcome.{closed_extent, origin, far_corner, closed_input, Close, close_dims, close_exit, close-is, Close16, close_dims16, close_exit16, close-is-16, Close8, close_dims8, close_exit8, close-is-8, BedClose, bed_close_dims, bed_close_exit, bed-close-is, BedClose16, bed_close_dims16, bed_close_exit16, bed-close-is-16, BedClose8, bed_close_dims8, bed_close_exit8, bed-close-is-8}
+use Rattle.closed_bed.proofs.Outcome.{closed_extent, origin, far_corner, closed_input, FloatsAre, CloseAt, close_dims_at, close_exit_at, close-is-at, Close, close_dims, close_exit, Close16, close_dims16, close_exit16, Close8, close_dims8, close_exit8, BedClose, bed_close_dims, bed_close_exit, bed-close-is, BedClose16, bed_close_dims16, bed_close_exit16, bed-close-is-16, BedClose8, bed_close_dims8, bed_close_exit8, bed-close-is-8}
 use Rattle.weighed_bed.specs.Told.{Told}
 use Rattle.weighed_bed.proofs.Agree.{pillars-sixfold, own-mesh-agree}
 use Rattle.weighed_bed.proofs.Fits.{OwnMesh, own-mesh-done, own-mesh-sum}
@@ -98,7 +100,7 @@ module _ {dims : Extent} {wall : Float} {sdf old exit : List Float} {r : ℕ} (c
   pub weighs-full : WeighsFull u dims
   weighs-full = record { weight = weight; weighed = weighed; volume = volume }
 
--- ---- close, then surface_nets, for each width
+-- ---- close, then surface_nets, for any type of numbers and for each width
 
 -- what a call was given
 abbrev pub run_input : Run → Input
@@ -111,17 +113,22 @@ bed_run_input u = input (bed_grid u) (bed_dims u) (bed_low u) (bed_high u)
 called : {i k : Input} (plane : EachAxis) → i ≡ k → call_made i.sdf i.dims i.low i.high plane ≡ call_made k.sdf k.dims k.low k.high plane
 called plane = ap (λ (i : Input). call_made i.sdf i.dims i.low i.high plane)
 
-pub full-tank-weighs : (o : Close) → o.result ≡ 0 → (let (sdf, (dims, (wall, _))) = o.args in FarWall wall sdf.now → Full sdf.now
+pub full-tank-weighs-at : (D : DistanceType) → FloatsAre D → (o : CloseAt D) → answer_of o.result ≡ 0
+    → (let (sdf, (dims, (wall, _))) = o.args in FarWall wall (D.distance.floats sdf.now) → Full (D.distance.floats sdf.now)
+    → (u : Run) → run_input u ≡ closed_input (close_dims_at D o) (close_exit_at D o) → Done (served u) → WeighsFull (served u) dims)
+full-tank-weighs-at D are o done far full u same made = weighs-full (close-is-at D o are done) far full (served u) made (plane_of u) (called (plane_of u) same)
+
+pub full-tank-weighs : (o : Close) → answer_of o.result ≡ 0 → (let (sdf, (dims, (wall, _))) = o.args in FarWall wall sdf.now → Full sdf.now
     → (u : Run) → run_input u ≡ closed_input (close_dims o) (close_exit o) → Done (served u) → WeighsFull (served u) dims)
-full-tank-weighs o done far full u same made = weighs-full (close-is o done) far full (served u) made (plane_of u) (called (plane_of u) same)
+full-tank-weighs = full-tank-weighs-at float-type floats-themselves
 
-pub full-tank-weighs-16 : (o : Close16) → o.result ≡ 0 → (let (sdf, (dims, (wall, _))) = o.args in FarWall wall (as_floats sdf.now) → Full (as_floats sdf.now)
+pub full-tank-weighs-16 : (o : Close16) → answer_of o.result ≡ 0 → (let (sdf, (dims, (wall, _))) = o.args in FarWall wall (as_floats sdf.now) → Full (as_floats sdf.now)
     → (u : Run) → run_input u ≡ closed_input (close_dims16 o) (close_exit16 o) → Done (served u) → WeighsFull (served u) dims)
-full-tank-weighs-16 o done far full u same made = weighs-full (close-is-16 o done) far full (served u) made (plane_of u) (called (plane_of u) same)
+full-tank-weighs-16 = full-tank-weighs-at sixteen-type (λ l. refl)
 
-pub full-tank-weighs-8 : (o : Close8) → o.result ≡ 0 → (let (sdf, (dims, (wall, _))) = o.args in FarWall wall (as_floats sdf.now) → Full (as_floats sdf.now)
+pub full-tank-weighs-8 : (o : Close8) → answer_of o.result ≡ 0 → (let (sdf, (dims, (wall, _))) = o.args in FarWall wall (as_floats sdf.now) → Full (as_floats sdf.now)
     → (u : Run) → run_input u ≡ closed_input (close_dims8 o) (close_exit8 o) → Done (served u) → WeighsFull (served u) dims)
-full-tank-weighs-8 o done far full u same made = weighs-full (close-is-8 o done) far full (served u) made (plane_of u) (called (plane_of u) same)
+full-tank-weighs-8 = full-tank-weighs-at eight-type (λ l. refl)
 
 -- ---- bed_close, then bed_surface_nets
 

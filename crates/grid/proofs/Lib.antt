@@ -17,3 +17,4 @@ pub mod Slab
 pub mod Parts
 pub mod Widths
 pub mod Places
+pub mod Instances

@@ -15,14 +15,10 @@ use Rattle.rules.proofs.Indexes.{within, in-box}
 use Rattle.grid.specs.declared.Block.{Block}
 use Rattle.grid.specs.Block.{point, box_of, field_of}
 use Rattle.grid.specs.Inside.{Inside}
-use Rattle.grid.specs.Layers.{in_layer, two_layers, InLayers}
+use Rattle.grid.specs.Layers.{in_layer, two_layers, part, rest, InLayers}
 use Rattle.grid.proofs.Bounds.{few, fits, below_length}
 use Rattle.grid.proofs.Layers.{in-plane, value-lower, value-upper}
 use Rattle.grid.proofs.Slab.{slab}
-
--- a part from a place on, so long as the code works it out
-abbrev pub part : {A : Type 0} → ℕ → ℕ → List A → List A
-part start n l = take (start + n - start) (drop start l)
 
 pub length_part : {A : Type 0} (start n : ℕ) (l : List A) → start + n ≤ length l → length (part start n l) ≡ n
 length_part start n l h =
@@ -31,10 +27,6 @@ length_part start n l h =
 
 pub part_at : {A : Type 0} (start n : ℕ) (l : List A) (j : ℕ) (d : A) → j < n → get_or (part start n l) j d ≡ get_or l (start + j) d
 part_at start n l j d h = get_or-take (start + n - start) (drop start l) j d (omega arith) ∙ get_or-drop start l j d
-
--- all that is left from a place on
-abbrev pub rest : {A : Type 0} → ℕ → List A → List A
-rest start l = take (length l - start) (drop start l)
 
 pub rest_at : {A : Type 0} (start : ℕ) (l : List A) (j : ℕ) (d : A) → get_or (rest start l) j d ≡ get_or l (start + j) d
 rest_at start l j d = ap (λ (s : List _). get_or s j d) (take_all (length l - start) (drop start l) (omega (arith, length-drop start l))) ∙ get_or-drop start l j d

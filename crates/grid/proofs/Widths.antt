@@ -2,23 +2,23 @@
 -- number. By the conversion law of crate rounding, at 16 bits and at 8, no distance is beyond the cap: "Answer 5 cannot occur there." Assumes nothing.
 use Prim.Native.Nat.{ℕ, ◌*◌, ◌≤◌, ◌<◌}
 use mathlib.Core.Bool.{Bool, true, false, not, cond}
-use mathlib.Core.List.{List, [], ◌∷◌}
-use mathlib.Core.Path.{◌≡◌, refl, sym, ap, ◌∙◌}
+use mathlib.Core.List.{List}
+use mathlib.Core.Path.{◌≡◌, sym, ap, ◌∙◌}
 use native.Mathlib.Nat.{le_trans, le_of_eq}
 use native.Mathlib.Omega.{arith}
-use borrow.Author.Tests.{ne_eqb}
 use mir.Syntax.{Width}
 use mir.Val.{SFits, to_z, of_z}
 use mir.Facts.{to_z-of_z}
-use lib.Dec.{T, lit≤}
+use lib.Dec.{T, lit≤, T_not}
 use lib.Arith.{le→nltb}
-use lib.IntN.{ℤ, pos, negsuc, nat_abs}
+use lib.IntN.{ℤ, pos, nat_abs}
 use lib.ListN.{length, get_or, length-map}
 use lib.Ieee.{Float, nan, inf, fin, binary32, up, down, of_int}
 use lib.Ieee.Fits.{of_int-fits}
 use Rattle.lists.specs.Floats.{Binary32}
+use Rattle.lists.proofs.Tests.{is_false}
 use Rattle.rounding.specs.Values.{Within}
-use Rattle.rounding.specs.Signed.{SameValue}
+use Rattle.rounding.specs.Signed.{InBits, SameValue}
 use Rattle.rounding.proofs.Bounds.{wider}
 use Rattle.rounding.proofs.Signed.{few_bits, converted, same-within}
 use Rattle.rules.specs.Grid.{index}
@@ -45,42 +45,8 @@ use Rattle.rules.proofs.Accepted.{ok-distances}
 use Rattle.grid.specs.declared.Block.{Block}
 use Rattle.grid.specs.Block.{point, box_of, field_of, call_of}
 use Rattle.grid.specs.Inside.{Inside}
-use Rattle.grid.specs.Values.{as_floats, grid_of, Wholes}
+use Rattle.grid.specs.Values.{as_floats, Wholes}
 use Rattle.grid.proofs.Bounds.{below_length}
-
--- ---- which list a width means
-
-module _ (floats : List Float) (sixteens eights : List ℤ) {width : ℕ} where
-  pub grid-16 : width ≡ 16 → grid_of width floats sixteens eights ≡ as_floats sixteens
-  unfolding grid_of
-  grid-16 e = rw e
-
-  pub grid-8 : width ≡ 8 → grid_of width floats sixteens eights ≡ as_floats eights
-  unfolding grid_of
-  grid-8 e = rw e
-
-  pub grid-else : (width ≡ 16 → ⊥) → (width ≡ 8 → ⊥) → grid_of width floats sixteens eights ≡ floats
-  unfolding grid_of
-  grid-else h k = rw (ne_eqb width 16 h, ne_eqb width 8 k)
-
-  pub length-16 : width ≡ 16 → length (grid_of width floats sixteens eights) ≡ length sixteens
-  length-16 e = ap length (grid-16 e) ∙ length-map sixteens (of_int binary32)
-
-  pub length-8 : width ≡ 8 → length (grid_of width floats sixteens eights) ≡ length eights
-  length-8 e = ap length (grid-8 e) ∙ length-map eights (of_int binary32)
-
--- at 32, and at both ends of 16 and of 8 bits
-pub grid-32 : (floats : List Float) (sixteens eights : List ℤ) → grid_of 32 floats sixteens eights ≡ floats
-unfolding grid_of
-grid-32 floats sixteens eights = refl
-
-pub ends-16 : grid_of 16 [] (negsuc 32767 ∷ pos 0 ∷ pos 32767 ∷ []) [] ≡ fin true 1 (pos 15) ∷ fin false 0 (pos 0) ∷ fin false 32767 (pos 0) ∷ []
-unfolding grid_of of_int
-ends-16 = refl
-
-pub ends-8 : grid_of 8 [] [] (negsuc 127 ∷ pos 0 ∷ pos 127 ∷ []) ≡ fin true 1 (pos 7) ∷ fin false 0 (pos 0) ∷ fin false 127 (pos 0) ∷ []
-unfolding grid_of of_int
-ends-8 = refl
 
 -- ---- the floats of whole numbers
 
@@ -116,6 +82,12 @@ within_cap (fin s m e) h = le→nltb (cap * down e) (m * up e) h.1
 pub whole-fine : (x : Float) (z : ℤ) → SameValue x z → nat_abs z ≤ cap → T (not (beyond x))
 whole-fine x z v h = within_cap x (wider (nat_abs z) cap x h (same-within x z v))
 
+-- one of so few bits
+pub fine-whole : (w : ℕ) (z : ℤ) → w ≤ 24 → InBits w z → false ≡ beyond (of_int binary32 z)
+fine-whole w z narrow b =
+    let x = of_int binary32 z in
+    sym (is_false (beyond x) (T_not (beyond x) (whole-fine x z (converted binary32 w z narrow b) (few_bits w 124 z (le_trans narrow (lit≤ tt)) b))))
+
 -- no distance of the list is beyond the cap
 abbrev pub NoneBeyond : List Float → Type 0
 NoneBeyond l = (i : ℕ) → i < length l → T (not (beyond (get_or l i nan)))
@@ -125,15 +97,6 @@ wholes-within w l narrow whole i h =
     let at : i < length l = le_trans h (le_of_eq (length-map l (of_int binary32))) in
     let z = get_or l i (pos 0) in
     whole-fine (get_or (as_floats l) i nan) z (wholes-exact w l narrow whole i at) (few_bits w 124 z (le_trans narrow (lit≤ tt)) (whole i at))
-
-module _ (floats : List Float) (sixteens eights : List ℤ) where
-  pub within-16 : Wholes 16 sixteens → NoneBeyond (grid_of 16 floats sixteens eights)
-  unfolding grid_of
-  within-16 = wholes-within 16 sixteens (lit≤ tt)
-
-  pub within-8 : Wholes 8 eights → NoneBeyond (grid_of 8 floats sixteens eights)
-  unfolding grid_of
-  within-8 = wholes-within 8 eights (lit≤ tt)
 
 -- ---- "Answer 5 cannot occur there."
 

@@ -2,7 +2,7 @@
 ghost use Rattle.std.specs.Prelude.{◌≡◌};
 ghost use Rattle.rules.specs.Call.{bad_dimension, bad_dimensions, bad_side, bad_box, bad_length};
 ghost use Rattle.grid.specs.Block.{point, box_of};
-ghost use Rattle.grid.specs.Faults.{first_fault};
+ghost use Rattle.grid.specs.Faults.{number_of, fault_of, first_fault};
 
 use crate::{Block, Extent};
 
@@ -74,18 +74,38 @@ pub fn bad_length(d: Extent, length: usize) -> bool
     length / plane != d.z as usize
 }
 
-// Conditions 1 to 3 in their order: the number of the first that holds, or 0. Every call that reads a grid begins here.
-pub fn first_fault(k: Block, length: usize) -> u32
-    ensures { result ≡ first_fault (point k.dims) (box_of k) length }
+// Which of the conditions 1 to 3 holds, the first of them where several do. Its number is the answer of every call that reads a grid.
+#[derive(Clone, Copy, Debug, PartialEq, Eq)]
+pub enum Fault {
+    Dimensions,
+    Box,
+    Length,
+}
+
+impl From<Fault> for u32 {
+    ghost from_gives = { λ fault number. number ≡ number_of fault };
+
+    fn from(fault: Fault) -> u32 {
+        match fault {
+            Fault::Dimensions => 1,
+            Fault::Box => 2,
+            Fault::Length => 3,
+        }
+    }
+}
+
+// Conditions 1 to 3 in their order. Every call that reads a grid begins here.
+pub fn first_fault(k: Block, length: usize) -> Result<(), Fault>
+    ensures { fault_of result ≡ first_fault (point k.dims) (box_of k) length }
 {
     if bad_dimensions(k.dims) {
-        return 1;
+        return Err(Fault::Dimensions);
     }
     if bad_box(k) {
-        return 2;
+        return Err(Fault::Box);
     }
     if bad_length(k.dims, length) {
-        return 3;
+        return Err(Fault::Length);
     }
-    0
+    Ok(())
 }

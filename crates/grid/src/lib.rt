@@ -4,6 +4,7 @@
 
 pub mod checks;
 pub mod corners;
+pub mod lent;
 pub mod ownership;
 pub mod place;
 pub mod scan;
@@ -11,7 +12,7 @@ pub mod signs;
 pub mod values;
 
 // Three numbers, one for each axis: dimensions, or a corner of a box.
-#[derive(Clone, Copy)]
+#[derive(Clone, Copy, Debug, PartialEq, Eq)]
 pub struct Extent {
     pub x: u32,
     pub y: u32,
@@ -20,7 +21,7 @@ pub struct Extent {
 
 // A yes or no for each axis: the max plane, for each axis apart (document 02, request 4; document 01's yes/no is all three, or none), and which of a
 // cell's three edges, those from its lowest corner, the box owns.
-#[derive(Clone, Copy)]
+#[derive(Clone, Copy, Debug, PartialEq, Eq)]
 pub struct EachAxis {
     pub x: bool,
     pub y: bool,
@@ -42,7 +43,7 @@ impl EachAxis {
 }
 
 // A box with its max plane in a grid of these dimensions.
-#[derive(Clone, Copy)]
+#[derive(Clone, Copy, Debug, PartialEq, Eq)]
 pub struct Block {
     pub dims: Extent,
     pub low: Extent,

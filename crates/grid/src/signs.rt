@@ -4,7 +4,9 @@ ghost use Rattle.std.specs.Prelude.{◌≡◌, ◌&&◌, ◌+◌, ◌<◌, ◌�
 ghost use Rattle.lists.specs.Lists.{one};
 ghost use Rattle.grid.specs.Corners.{side_between};
 ghost use Rattle.grid.specs.Signs.{side_negatives};
-ghost use Rattle.grid.specs.Values.{grid_given, grid_before};
+
+use crate::corners::side_between;
+use crate::values::Distance;
 
 pub fn counted(yes: bool) -> u32
     ensures value { result ≡ one yes }
@@ -14,24 +16,12 @@ pub fn counted(yes: bool) -> u32
 }
 
 // How many corners of a side are negative.
-pub fn side_negatives(
-    width: u32,
-    lower: &[f32],
-    upper: &[f32],
-    lower16: &[i16],
-    upper16: &[i16],
-    lower8: &[i8],
-    upper8: &[i8],
-    at: usize,
-    row: usize,
-) -> u32
-    requires { (at + row < length (grid_given width lower lower16 lower8)) × (at + row < length (grid_given width upper upper16 upper8)) }
-    ensures value { result ≡ side_negatives (side_between (grid_before width lower lower16 lower8) (grid_before width upper upper16 upper8) at row) }
+pub fn side_negatives<D: Distance>(lower: &[D], upper: &[D], at: usize, row: usize) -> u32
+    requires { (at + row < length (D.floats lower.now)) × (at + row < length (D.floats upper.now)) }
+    ensures value { result ≡ side_negatives (side_between (D.floats lower.now) (D.floats upper.now) at row) }
     ensures upper_bound { result ≤ 4 }
 {
-    let s = crate::corners::side_between(
-        width, lower, upper, lower16, upper16, lower8, upper8, at, row,
-    );
+    let s = side_between(lower, upper, at, row);
     let a = counted(cube::negative(s.a));
     let b = counted(cube::negative(s.b));
     let c = counted(cube::negative(s.c));

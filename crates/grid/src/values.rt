@@ -1,91 +1,101 @@
-// The distances of a grid of floats, of 16-bit or of 8-bit whole numbers (document 02, request 5). Three lists are lent, and the width says which of
-// them is the grid; the two others may be empty. One function reads a distance, as a float, so that no converted copy of the grid is made.
-ghost use Rattle.std.specs.Prelude.{◌≡◌, ◌<◌, length, get_or};
-ghost use Rattle.std.specs.Float.{nan};
+// The distances of a grid: floats, or whole numbers of 16 or of 8 bits that each mean the float of the same value (document 02, request 5). All that reads a
+// grid is written once, for every type that is a `Distance`; a distance is read as a float where it stands, so that no converted copy of the grid is made.
+ghost use Rattle.std.specs.Prelude.{◌≡◌, refl, ◌<◌, map, length, get_or, List, Float};
+ghost use Rattle.std.specs.Float.{nan, binary32};
+ghost use Rattle.std.specs.Float.Ieee.{of_int};
 ghost use Rattle.lists.specs.Floats.{Binary32};
-ghost use Rattle.grid.specs.Block.{point, box_of};
-ghost use Rattle.grid.specs.Faults.{first_fault};
-ghost use Rattle.grid.specs.Values.{grid_of, Wholes, float_place, sixteen_place, eight_place};
+ghost use Rattle.rules.specs.Call.{beyond};
+ghost use Rattle.grid.specs.Values.{as_floats, floats-themselves, Wholes};
 
-use crate::Block;
+// What a number of a grid is: the float that it means, and whether that is let in. A type says the second too, since no whole number of 16 or of 8 bits is
+// beyond the cap, and nothing need be asked of one.
+pub trait Distance: Copy {
+    ghost value: { Self → Float };
 
-// How many distances the grid has.
-pub fn length_of(width: u32, f: &[f32], s: &[i16], b: &[i8]) -> usize
-    ensures { result ≡ length (grid_of width f.now s.now b.now) }
-{
-    if width == 16 {
-        return s.len();
+    // The distances that a list of them means.
+    ghost floats: { List Self → List Float };
+
+    fn float(self) -> f32
+        ensures { result ≡ value self };
+
+    fn is_beyond(self) -> bool
+        ensures { result ≡ beyond (value self) };
+
+    // What is known of the numbers of any list of this type. The lists themselves tell it: nothing is done, and it is handed on.
+    ghost held: { List Self → Type 0 };
+
+    fn told(list: &[Self])
+        ensures { held list.now };
+
+    ghost floats_are: { (l : List Self) → floats l ≡ map value l };
+}
+
+impl Distance for f32 {
+    ghost value = { λ x. x };
+
+    ghost floats = { λ l. l };
+
+    fn float(self) -> f32 {
+        self
     }
-    if width == 8 {
-        return b.len();
+
+    // No comparison holds of not-a-number, so it is beyond too; and there is no branch, since every distance of the box is asked.
+    fn is_beyond(self) -> bool {
+        !((-crate::scan::CAP <= self) & (self <= crate::scan::CAP))
     }
-    f.len()
+
+    ghost held = { Binary32 };
+
+    fn told(list: &[f32]) {}
+
+    ghost floats_are = { floats-themselves };
+}
+
+impl Distance for i16 {
+    ghost value = { of_int binary32 };
+
+    ghost floats = { as_floats };
+
+    fn float(self) -> f32 {
+        self as f32
+    }
+
+    fn is_beyond(self) -> bool {
+        false
+    }
+
+    ghost held = { Wholes 16 };
+
+    fn told(list: &[i16]) {}
+
+    ghost floats_are = { λ l. refl };
+}
+
+impl Distance for i8 {
+    ghost value = { of_int binary32 };
+
+    ghost floats = { as_floats };
+
+    // As a number of 16 bits it is the same.
+    fn float(self) -> f32 {
+        (self as i16).float()
+    }
+
+    fn is_beyond(self) -> bool {
+        false
+    }
+
+    ghost held = { Wholes 8 };
+
+    fn told(list: &[i8]) {}
+
+    ghost floats_are = { λ l. refl };
 }
 
 // The distance at place i.
-pub fn value_at(width: u32, f: &[f32], s: &[i16], b: &[i8], i: usize) -> f32
-    requires { i < length (grid_of width f.now s.now b.now) }
-    ensures { result ≡ get_or (grid_of width f.now s.now b.now) i nan }
+pub fn value_at<D: Distance>(list: &[D], i: usize) -> f32
+    requires { i < length (D.floats list.now) }
+    ensures { result ≡ get_or (D.floats list.now) i nan }
 {
-    if width == 16 {
-        return s[i] as f32;
-    }
-    if width == 8 {
-        return b[i] as f32;
-    }
-    f[i]
-}
-
-// Every number of a list of i16 is one of 16 bits, and of a list of i8 one of 8. Nothing is done here: the lists themselves tell it, and it is handed on.
-pub fn wholes(s: &[i16], b: &[i8])
-    ensures wholes { Wholes 16 s.now }
-    ensures wholes_2 { Wholes 8 b.now }
-{}
-
-// Conditions 1 to 3 for the grid of this width. What is known of the numbers of each list, that they are of its type, is handed on.
-pub fn first_fault_of(k: Block, width: u32, f: &[f32], s: &[i16], b: &[i8]) -> u32
-    ensures value { result ≡ first_fault (point k.dims) (box_of k) (length (grid_of width f.now s.now b.now)) }
-    ensures binary32 { Binary32 f.now }
-    ensures wholes { Wholes 16 s.now }
-    ensures wholes_2 { Wholes 8 b.now }
-{
-    wholes(s, b);
-    let n = length_of(width, f, s, b);
-    crate::checks::first_fault(k, n)
-}
-
-// ---- Where a place of the grid stands in each of the three lists: in the one that is the grid at that place, in the others at 0, so that a part of the
-// grid is a part of each.
-
-pub fn float_place(width: u32, i: usize) -> usize
-    ensures { result ≡ float_place width i }
-{
-    if width == 16 {
-        return 0;
-    }
-    if width == 8 {
-        return 0;
-    }
-    i
-}
-
-pub fn sixteen_place(width: u32, i: usize) -> usize
-    ensures { result ≡ sixteen_place width i }
-{
-    if width == 16 {
-        return i;
-    }
-    0
-}
-
-pub fn eight_place(width: u32, i: usize) -> usize
-    ensures { result ≡ eight_place width i }
-{
-    if width == 16 {
-        return 0;
-    }
-    if width == 8 {
-        return i;
-    }
-    0
+    list[i].float()
 }

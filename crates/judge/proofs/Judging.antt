@@ -3,10 +3,11 @@ use Prim.Native.Nat.{ℕ, ◌*◌, ◌^◌, ◌≤◌, ◌<◌}
 use native.Mathlib.Omega.{arith}
 use mathlib.Core.Bool.{Bool, true, false, not, ◌||◌, cond}
 use mathlib.Core.List.{List}
-use mathlib.Core.Path.{◌≡◌, sym, ap, ◌∙◌}
+use mathlib.Core.Path.{◌≡◌, refl, sym, ap, ◌∙◌}
 use borrow.Author.Tests.{lt-ltb, le-ltb}
-use lib.Dec.{T, ltb, nltb→le}
+use lib.Dec.{T, eqb, ltb, nltb→le}
 use lib.ListN.{length}
+use Rattle.std.proofs.Common.{Result, Ok, Err}
 use lib.Ieee.{Float}
 use Rattle.lists.specs.Lists.{keep, joined}
 use Rattle.rules.specs.Grid.{GridPoint, Box, Field}
@@ -21,9 +22,13 @@ use Rattle.grid.specs.declared.Block.{Block}
 use Rattle.count.specs.declared.Tally.{Tally}
 use Rattle.grid.specs.Block.{box_of, flags_of, field_of}
 use Rattle.grid.specs.Inside.{Inside}
+use Rattle.grid.specs.declared.checks.Fault.TheVariants.{Dimensions, Box as BoxFault, Length}
 use Rattle.grid.specs.Faults.{first_fault}
 use Rattle.count.specs.Tally.{tally_of}
-use Rattle.grid.proofs.Faults.{Faultless, first-answers}
+use Rattle.judge.specs.AsRules.{answer_of}
+use Rattle.judge.specs.declared.Refusal.{Refusal}
+use Rattle.judge.specs.declared.Refusal.TheVariants.{Grid, Map, Distance, VertexRoom, IndexRoom}
+use Rattle.grid.proofs.Faults.{Faultless, first-answers, fault-some}
 use Rattle.grid.proofs.Order.{box-ends}
 use Rattle.grid.proofs.Rows.{box-short}
 use Rattle.count.proofs.Tallies.{vertices-few}
@@ -159,3 +164,38 @@ room-done r v i e =
 
 pub done-enough : (c : Call) (r : Room) → (answer c r).number ≡ 0 → Enough r (vertex_count c) (index_count c)
 done-enough c r e = room-done r (vertex_count c) (index_count c) (ap (λ (a : Answer). a.number) (sym (accepted-answer c r (done-accepted c r e))) ∙ e)
+
+-- a refusal's number is not that of none
+pub refused-some : (r : Refusal) → (answer_of (Err r)).number ≡ 0 → ⊥
+refused-some (Grid f) e = fault-some f refl e
+refused-some Map e = omega arith
+refused-some Distance e = omega arith
+refused-some (VertexRoom t) e = omega arith
+refused-some (IndexRoom t) e = omega arith
+
+-- an answer says of which result it is, so that two results with one answer are the same
+result_of : Answer → Result Tally Refusal
+result_of a =
+    let counts : Tally = record { vertices = a.vertices; indices = a.indices } in
+    cond (eqb a.number 0) (Ok counts)
+    (cond (eqb a.number 1) (Err (Grid Dimensions))
+    (cond (eqb a.number 2) (Err (Grid BoxFault))
+    (cond (eqb a.number 3) (Err (Grid Length))
+    (cond (eqb a.number 4) (Err Map)
+    (cond (eqb a.number 5) (Err Distance)
+    (cond (eqb a.number 6) (Err (VertexRoom counts))
+    (Err (IndexRoom counts))))))))
+
+result-back : (r : Result Tally Refusal) → result_of (answer_of r) ≡ r
+unfolding result_of
+result-back (Ok t) = refl
+result-back (Err (Grid Dimensions)) = refl
+result-back (Err (Grid BoxFault)) = refl
+result-back (Err (Grid Length)) = refl
+result-back (Err Map) = refl
+result-back (Err Distance) = refl
+result-back (Err (VertexRoom t)) = refl
+result-back (Err (IndexRoom t)) = refl
+
+pub answer-once : (r s : Result Tally Refusal) → answer_of r ≡ answer_of s → r ≡ s
+answer-once r s e = sym (result-back r) ∙ ap result_of e ∙ result-back s

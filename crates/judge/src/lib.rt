@@ -2,23 +2,75 @@
 #![tactic(auto)]
 
 ghost use Rattle.std.specs.Prelude.{◌≡◌, ◌^◌, ◌<◌};
-ghost use Rattle.rules.specs.Call.{answer, room_answer};
+ghost use Rattle.rules.specs.Call.{answers, answer, room_answer};
 ghost use Rattle.grid.specs.Block.{call_of};
-ghost use Rattle.judge.specs.AsRules.{answer_of, room_of};
-ghost use Rattle.grid.specs.Values.{as_floats, grid_before};
+ghost use Rattle.judge.specs.AsRules.{number_of, counts_of, answer_of, room_of};
 
+pub use count::Tally;
 use grid::Block;
+use grid::checks::{Fault, first_fault};
+use grid::values::Distance;
 
-// Document 01's answer number with V and I.
-#[derive(Clone, Copy)]
-pub struct Answer {
-    pub number: u32,
-    pub vertex_count: u64,
-    pub index_count: u64,
+// Why a call is refused: which of document 01's conditions 1 to 7 is the first that holds. Where there is too little room, V and I are said, so that the
+// caller knows how much to lend.
+#[derive(Clone, Copy, Debug, PartialEq, Eq)]
+pub enum Refusal {
+    Grid(Fault),
+    Map,
+    Distance,
+    VertexRoom(Tally),
+    IndexRoom(Tally),
+}
+
+impl From<Fault> for Refusal {
+    ghost use Rattle.judge.specs.declared.Refusal.TheVariants.{Grid};
+
+    ghost from_gives = { λ fault refusal. refusal ≡ Grid fault };
+
+    fn from(fault: Fault) -> Refusal {
+        Refusal::Grid(fault)
+    }
+}
+
+// Document 01's number.
+impl From<Refusal> for u32 {
+    ghost from_gives = { λ refusal number. number ≡ number_of refusal };
+
+    fn from(refusal: Refusal) -> u32 {
+        match refusal {
+            Refusal::Grid(fault) => u32::from(fault),
+            Refusal::Map => 4,
+            Refusal::Distance => 5,
+            Refusal::VertexRoom(_) => 6,
+            Refusal::IndexRoom(_) => 7,
+        }
+    }
+}
+
+impl Refusal {
+    // V and I as they are said with a refusal: those for which there is too little room, and else none.
+    pub fn counts(self) -> Tally
+        ensures { result ≡ counts_of self }
+    {
+        match self {
+            Refusal::VertexRoom(counts) | Refusal::IndexRoom(counts) => counts,
+            _ => Tally::NONE,
+        }
+    }
+}
+
+// An answer as document 01 says it: its number, with V and I.
+pub fn numbers(answer: Result<Tally, Refusal>) -> (u32, Tally)
+    ensures { answers result.0 result.1.vertices result.1.indices ≡ answer_of answer }
+{
+    match answer {
+        Ok(counts) => (0, counts),
+        Err(refusal) => (u32::from(refusal), refusal.counts()),
+    }
 }
 
 // How long the lent lists are.
-#[derive(Clone, Copy)]
+#[derive(Clone, Copy, Debug, PartialEq, Eq)]
 pub struct Lengths {
     pub positions: usize,
     pub normals: usize,
@@ -29,96 +81,50 @@ pub struct Lengths {
     pub indices: usize,
 }
 
-// An answer of 1 to 5: nothing was counted.
-pub fn refused(number: u32) -> Answer
-    ensures { answer_of result ≡ record { number = number; vertices = 0; indices = 0 } }
+// Conditions 6 and 7, or V and I.
+pub fn room_answer(t: Tally, room: Lengths) -> Result<Tally, Refusal>
+    requires { t.vertices < 2 ^ 60 }
+    ensures { answer_of result ≡ room_answer (room_of room) t.vertices t.indices }
 {
-    Answer {
-        number,
-        vertex_count: 0,
-        index_count: 0,
-    }
-}
-
-// Conditions 6 and 7, or 0: V and I are said in each case.
-pub fn room_answer(vertices: usize, indices: usize, room: Lengths) -> Answer
-    requires { vertices < 2 ^ 60 }
-    ensures { answer_of result ≡ room_answer (room_of room) vertices indices }
-{
-    let three = 3 * vertices;
+    let three = 3 * t.vertices;
     if room.positions < three {
-        return counted(6, vertices, indices);
+        return Err(Refusal::VertexRoom(t));
     }
     if room.normals < three {
-        return counted(6, vertices, indices);
+        return Err(Refusal::VertexRoom(t));
     }
     if room.cells < three {
-        return counted(6, vertices, indices);
+        return Err(Refusal::VertexRoom(t));
     }
-    if room.strides < vertices {
-        return counted(6, vertices, indices);
+    if room.strides < t.vertices {
+        return Err(Refusal::VertexRoom(t));
     }
-    if room.crossings < vertices {
-        return counted(6, vertices, indices);
+    if room.crossings < t.vertices {
+        return Err(Refusal::VertexRoom(t));
     }
-    if room.indices < indices {
-        return counted(7, vertices, indices);
+    if room.indices < t.indices {
+        return Err(Refusal::IndexRoom(t));
     }
-    counted(0, vertices, indices)
+    Ok(t)
 }
 
-fn counted(number: u32, vertices: usize, indices: usize) -> Answer
-    ensures { answer_of result ≡ record { number = number; vertices = vertices; indices = indices } }
+// The answer to a call on a grid of any of the types, with lists of these lengths. Any numbers may come.
+pub fn answer_for<D: Distance>(sdf: &[D], k: Block, room: Lengths) -> Result<Tally, Refusal>
+    ensures { answer_of result ≡ answer (call_of (D.floats sdf.now) k) (room_of room) }
 {
-    Answer {
-        number,
-        vertex_count: vertices as u64,
-        index_count: indices as u64,
+    first_fault(k, sdf.len())?;
+    if room.map < sdf.len() {
+        return Err(Refusal::Map);
     }
-}
-
-// The answer to a call on the grid of this width with lists of these lengths. Any numbers may come.
-pub fn answer_at(
-    width: u32,
-    sdf: &[f32],
-    sdf16: &[i16],
-    sdf8: &[i8],
-    k: Block,
-    room: Lengths,
-) -> Answer
-    ensures { answer_of result ≡ answer (call_of (grid_before width sdf sdf16 sdf8) k) (room_of room) }
-{
-    let fault = grid::values::first_fault_of(k, width, sdf, sdf16, sdf8);
-    if fault != 0 {
-        return refused(fault);
+    let found = count::count_box(sdf, k);
+    if found.bad {
+        return Err(Refusal::Distance);
     }
-    if room.map < grid::values::length_of(width, sdf, sdf16, sdf8) {
-        return refused(4);
-    }
-    let t = count::count_box(width, sdf, sdf16, sdf8, k);
-    if t.bad {
-        return refused(5);
-    }
-    room_answer(t.vertices, t.indices, room)
-}
-
-// On a grid of floats.
-pub fn answer_for(sdf: &[f32], k: Block, room: Lengths) -> Answer
-    ensures { answer_of result ≡ answer (call_of sdf.now k) (room_of room) }
-{
-    answer_at(32, sdf, &[], &[], k, room)
-}
-
-// On a grid of 16-bit numbers.
-pub fn answer_for_i16(sdf: &[i16], k: Block, room: Lengths) -> Answer
-    ensures { answer_of result ≡ answer (call_of (as_floats sdf.now) k) (room_of room) }
-{
-    answer_at(16, &[], sdf, &[], k, room)
-}
-
-// On a grid of 8-bit numbers.
-pub fn answer_for_i8(sdf: &[i8], k: Block, room: Lengths) -> Answer
-    ensures { answer_of result ≡ answer (call_of (as_floats sdf.now) k) (room_of room) }
-{
-    answer_at(8, &[], &[], sdf, k, room)
+    room_answer(
+        Tally {
+            vertices: found.vertices,
+            indices: found.indices,
+        },
+        room,
+    )
 }

@@ -1,13 +1,19 @@
 -- The laws of Filed of the functions themselves: calls of mesh_file's and of the C ones with outcomes that fit their generated contracts, by the places of
 -- their arguments. The bytes that one call left are the bytes that the other is passed; nothing else is asked of them. Assumes nothing.
 use Prim.Native.Nat.{ℕ, ◌<◌, ◌≤◌}
-use mathlib.Core.Path.{◌≡◌}
-use mathlib.Core.List.{List, map}
+use mathlib.Core.Path.{◌≡◌, ap, ◌∙◌, sym, subst}
+use mathlib.Core.List.{List, [], ◌∷◌, map}
+use Rattle.std.proofs.Common.{Ok}
 use lib.ListN.{length, take}
 use Rattle.lists.specs.Lists.{joined, over}
-use Rattle.lists.proofs.Lists.{All}
+use Rattle.lists.proofs.Lists.{All, all_then}
 use Rattle.mesh_file.specs.Mesh.{Mesh, mesh, vertex_count, triangle_count, file_of, file_length, mesh_words}
-use Rattle.mesh_file.specs.Writing.{wrote}
+use Rattle.mesh_file.specs.Reading.{read_result}
+use Rattle.mesh_file.specs.Writing.{wrote, wrote_result}
+use Rattle.mesh_file.proofs.Results.{read-injective, wrote-injective}
+use Rattle.mesh_record.specs.Refusal.{answer_of}
+use Rattle.mesh_record.proofs.OneStep.{done-of-answer}
+use Rattle.mesh_record.specs.declared.Counts.{Counts}
 use Rattle.mesh_record.proofs.put_record.Kinds as put-record-kinds
 use Rattle.mesh_record.proofs.put_record.Reads as put_record
 use Rattle.mesh_file.proofs.check_file.Kinds as check-file-kinds
@@ -31,18 +37,12 @@ PutRun = Called 1 put-record-kinds.ps put-record-kinds.r put_record.Learnt
 
 abbrev pub put_of : PutRun → Puts
 put_of u =
-    let (file, (at, (kind, (a, (b, (c, (d, (e, (f, _))))))))) = u.args in
+    let (file, (at, (words, _))) = u.args in
     record {
-      kind = kind;
-      a = a;
-      b = b;
-      c = c;
-      d = d;
-      e = e;
-      f = f;
+      words = words;
       at = at;
       lent = file.now;
-      says = u.result;
+      says = answer_of u.result;
       left = u.last.0;
       answered = u.fits.0;
       kept = u.fits.1;
@@ -59,7 +59,7 @@ write_of u =
     record {
       given = mesh positions.now normals.now indices.now;
       lent = file.now;
-      says = u.result;
+      says = wrote_result u.result;
       left = u.last.1.1.1.0;
       answered = u.fits.0;
       kept = u.fits.1.0;
@@ -76,7 +76,7 @@ read_of u =
     record {
       file = file.now;
       lent = mesh positions.now normals.now indices.now;
-      says = u.result;
+      says = read_result u.result;
       left = mesh positions' normals' indices';
       answered = u.fits.0;
       filled = u.fits.1.0;
@@ -87,7 +87,7 @@ abbrev pub CheckRun : Type 0
 CheckRun = Called 1 check-file-kinds.ps check-file-kinds.r check-file.Learnt
 
 abbrev pub check_of : CheckRun → Checks
-check_of u = record { file = u.args.0.now; says = u.result; answered = u.fits }
+check_of u = record { file = u.args.0.now; says = read_result u.result; answered = u.fits }
 
 -- ---- bed: the same for C, with the counts behind the last parameters
 
@@ -108,13 +108,7 @@ abbrev pub bed_put_of : RecordCall → Puts
 bed_put_of u =
     let (_, (_, (kind, (a, (b, (c, (d, (e, (f, _))))))))) = u.args in
     record {
-      kind = kind;
-      a = a;
-      b = b;
-      c = c;
-      d = d;
-      e = e;
-      f = f;
+      words = kind ∷ a ∷ b ∷ c ∷ d ∷ e ∷ f ∷ [];
       at = place_given u;
       lent = room_lent u;
       says = u.result;
@@ -145,11 +139,22 @@ bed_check_of u =
       answered = λ i. record { answer = p.0 i; vertices = p.1.0 i; triangles = p.1.1.0 i };
     }
 
+-- ---- a result that is no refusal: the answer 0, and its value
+
+wrote-answer : (w : WriteRun) (n : ℕ) → w.result ≡ Ok n → (write_of w).says.answer ≡ 0
+wrote-answer w n e = ap (λ x. (wrote_result x).answer) e
+
+wrote-bytes : (w : WriteRun) (n : ℕ) → w.result ≡ Ok n → (write_of w).says.bytes ≡ n
+wrote-bytes w n e = ap (λ x. (wrote_result x).bytes) e
+
+read-answer : (r : ReadRun) (n : Counts) → r.result ≡ Ok n → (read_of r).says.answer ≡ 0
+read-answer r n e = ap (λ x. (read_result x).answer) e
+
 -- ---- "Read after write returns the same bits"
 
-pub write-mesh-read-back : (w : WriteRun) (r : ReadRun) → w.result.answer ≡ 0 → (read_of r).file ≡ take w.result.bytes (write_of w).left
+pub write-mesh-read-back : (w : WriteRun) (r : ReadRun) (n : ℕ) → w.result ≡ Ok n → (read_of r).file ≡ take n (write_of w).left
     → Room (vertex_count (write_of w).given) (triangle_count (write_of w).given) (read_of r).lent → ReadBack (write_of w).given (read_of r)
-write-mesh-read-back w r done same room = write-then-read (write_of w) done (read_of r) same room
+write-mesh-read-back w r n done same room = write-then-read (write_of w) (wrote-answer w n done) (read_of r) (same ∙ ap (λ k. take k (write_of w).left) (sym (wrote-bytes w n done))) room
 
 pub bed-write-mesh-read-back : (w : WriteCall) (r : ReadCall) → w.result ≡ 0 → file_read r ≡ take (bytes_counted w) (file_left w)
     → Room (vertex_count (mesh_given w)) (triangle_count (mesh_given w)) (lists_lent r) → ReadBack (mesh_given w) (bed_read_of r)
@@ -157,30 +162,32 @@ bed-write-mesh-read-back w r done same room = write-then-read (bed_write_of w) d
 
 -- ---- "Any shorter beginning of a written file, the empty one too, is refused"
 
-pub write-mesh-cut : (w : WriteRun) (r : ReadRun) (n : ℕ) → w.result.answer ≡ 0 → n < w.result.bytes → (read_of r).file ≡ take n (write_of w).left → RefusedCut (read_of r)
-write-mesh-cut w r n done shorter cut = write-then-cut (write_of w) done (read_of r) n shorter cut
+pub write-mesh-cut : (w : WriteRun) (r : ReadRun) (b n : ℕ) → w.result ≡ Ok b → n < b → (read_of r).file ≡ take n (write_of w).left → RefusedCut (read_of r)
+write-mesh-cut w r b n done shorter cut = write-then-cut (write_of w) (wrote-answer w b done) (read_of r) n (subst (λ k. n < k) (sym (wrote-bytes w b done)) shorter) cut
 
 pub bed-write-mesh-cut : (w : WriteCall) (r : ReadCall) (n : ℕ) → w.result ≡ 0 → n < bytes_counted w → file_read r ≡ take n (file_left w) → RefusedCut (bed_read_of r)
 bed-write-mesh-cut w r n done shorter cut = write-then-cut (bed_write_of w) done (bed_read_of r) n shorter cut
 
 -- ---- one file a mesh
 
-pub read-mesh-one-file : (r : ReadRun) → r.result.answer ≡ 0 → file_of (mesh_read (read_of r)) ≡ (read_of r).file
-read-mesh-one-file r done = read-is-written (read_of r) done
+pub read-mesh-one-file : (r : ReadRun) (n : Counts) → r.result ≡ Ok n → file_of (mesh_read (read_of r)) ≡ (read_of r).file
+read-mesh-one-file r n done = read-is-written (read_of r) (read-answer r n done)
 
 pub bed-read-mesh-one-file : (r : ReadCall) → r.result ≡ 0 → file_of (mesh_read (bed_read_of r)) ≡ file_read r
 bed-read-mesh-one-file r done = read-is-written (bed_read_of r) done
 
-pub read-mesh-same-file : (r r' : ReadRun) → r.result.answer ≡ 0 → r'.result.answer ≡ 0 → mesh_read (read_of r) ≡ mesh_read (read_of r') → (read_of r).file ≡ (read_of r').file
-read-mesh-same-file r r' done done' same = same-read-same-file (read_of r) (read_of r') done done' same
+pub read-mesh-same-file : (r r' : ReadRun) (n n' : Counts) → r.result ≡ Ok n → r'.result ≡ Ok n' → mesh_read (read_of r) ≡ mesh_read (read_of r') → (read_of r).file ≡ (read_of r').file
+read-mesh-same-file r r' n n' done done' same = same-read-same-file (read_of r) (read_of r') (read-answer r n done) (read-answer r' n' done') same
 
 pub bed-read-mesh-same-file : (r r' : ReadCall) → r.result ≡ 0 → r'.result ≡ 0 → mesh_read (bed_read_of r) ≡ mesh_read (bed_read_of r') → file_read r ≡ file_read r'
 bed-read-mesh-same-file r r' done done' same = same-read-same-file (bed_read_of r) (bed_read_of r') done done' same
 
 -- what was read, written again into room enough, gives the same bytes
-pub read-mesh-rewritten : (r : ReadRun) (w : WriteRun) → r.result.answer ≡ 0 → (write_of w).given ≡ mesh_read (read_of r) → length (read_of r).file ≤ length (write_of w).lent
-    → (w.result ≡ wrote 0 (length (read_of r).file)) × (take (length (read_of r).file) (write_of w).left ≡ (read_of r).file)
-read-mesh-rewritten r w done same room = read-then-write (read_of r) done (write_of w) same room
+pub read-mesh-rewritten : (r : ReadRun) (w : WriteRun) (n : Counts) → r.result ≡ Ok n → (write_of w).given ≡ mesh_read (read_of r) → length (read_of r).file ≤ length (write_of w).lent
+    → (w.result ≡ Ok (length (read_of r).file)) × (take (length (read_of r).file) (write_of w).left ≡ (read_of r).file)
+read-mesh-rewritten r w n done same room =
+    let p = read-then-write (read_of r) (read-answer r n done) (write_of w) same room in
+    (wrote-injective w.result (Ok (length (read_of r).file)) p.0, p.1)
 
 pub bed-read-mesh-rewritten : (r : ReadCall) (w : WriteCall) → r.result ≡ 0 → mesh_given w ≡ mesh_read (bed_read_of r) → length (file_read r) ≤ length (file_lent w)
     → (wrote w.result (bytes_counted w) ≡ wrote 0 (length (file_read r))) × (take (length (file_read r)) (file_left w) ≡ file_read r)
@@ -188,9 +195,9 @@ bed-read-mesh-rewritten r w done same room = read-then-write (bed_read_of r) don
 
 -- ---- a check tells what a read will answer, and how much to lend
 
-pub check-file-read-mesh : (c : CheckRun) (r : ReadRun) → (check_of c).file ≡ (read_of r).file → Room c.result.vertices c.result.triangles (read_of r).lent
+pub check-file-read-mesh : (c : CheckRun) (r : ReadRun) → (check_of c).file ≡ (read_of r).file → Room (check_of c).says.vertices (check_of c).says.triangles (read_of r).lent
     → r.result ≡ c.result
-check-file-read-mesh c r same room = check-then-read (check_of c) (read_of r) same room
+check-file-read-mesh c r same room = read-injective r.result c.result (check-then-read (check_of c) (read_of r) same room)
 
 pub bed-check-mesh-read-mesh : (c : CheckCall) (r : ReadCall) → file_checked c ≡ file_read r → Room (counts_checked c).vertices (counts_checked c).triangles (lists_lent r)
     → (bed_read_of r).says ≡ counts_checked c
@@ -219,9 +226,11 @@ bed-row-is-write us w g done words r = row-is-write bed_put_of (bed_write_of w) 
 
 -- the same of mesh_record's own function
 pub put-records-apart : (us : List PutRun) (m : Mesh) → map (λ u. words_put (put_of u)) us ≡ mesh_words m → All (λ u. Apart (put_of u)) us
-    → All (λ u. u.result ≡ 0) us × (joined (λ u. (put_of u).left) us ≡ file_of m)
-put-records-apart us m words h = records-apart put_of m us words h
+    → All (λ u. u.result ≡ Ok tt) us × (joined (λ u. (put_of u).left) us ≡ file_of m)
+put-records-apart us m words h =
+    let p = records-apart put_of m us words h in (all_then (λ u. done-of-answer u.result) p.0, p.1)
 
 pub put-records-in-a-row : (us : List PutRun) (m : Mesh) (f g : List ℕ) → map (λ u. words_put (put_of u)) us ≡ mesh_words m → InARow put_of us 0 f g → file_length m ≤ length f
-    → All (λ u. u.result ≡ 0) us × (g ≡ over (file_of m) f)
-put-records-in-a-row us m f g words r h = records-in-a-row put_of m us words f g r h
+    → All (λ u. u.result ≡ Ok tt) us × (g ≡ over (file_of m) f)
+put-records-in-a-row us m f g words r h =
+    let p = records-in-a-row put_of m us words f g r h in (all_then (λ u. done-of-answer u.result) p.0, p.1)

@@ -12,8 +12,8 @@ use Rattle.mesh_file.specs.Mesh.{Mesh, mesh, vertex_count, triangle_count, file_
 use Rattle.mesh_file.specs.Reading.{Progress, reading, whole, refused, read_of, read_answer, checked, short_room, reading_in}
 use Rattle.mesh_file.specs.Reading.{floats_at, numbers_at, floats_of, indices_of, mesh_in, over_mesh, filled_in}
 use Rattle.mesh_file.specs.Writing.{wrote, write_answer, written}
-use Rattle.mesh_file.specs.declared.Read.{Read}
-use Rattle.mesh_file.specs.declared.Wrote.{Wrote}
+use Rattle.mesh_file.specs.Reading.{Read}
+use Rattle.mesh_file.specs.Writing.{Wrote}
 use Rattle.mesh_record.proofs.Laying.{each-length}
 use Rattle.mesh_file.proofs.RoundTrip.{Writable, file-length, written-reads, written_same, positions-length, normals-length, indices-length}
 use Rattle.mesh_file.proofs.Prefixes.{shorter-refused}

@@ -2,6 +2,7 @@
 -- one outcome alone fits the contract: the result, and every list behind a `&mut` afterwards, refused calls too. Assumes nothing.
 use mathlib.Core.Path.{◌∙◌, sym}
 use Rattle.promises.proofs.OneOutcome.{OneOutcome}
+use Rattle.mesh_file.proofs.Results.{read-injective, wrote-injective}
 use Rattle.mesh_file.proofs.check_file.Kinds as check-file-kinds
 use Rattle.mesh_file.proofs.check_file.Reads as check-file
 use Rattle.mesh_file.proofs.write_mesh.Kinds as write-mesh-kinds
@@ -19,19 +20,19 @@ use Rattle.bed.proofs.files.bed_check_mesh.Reads as bed-check-mesh
 
 -- the answer and the counts of a whole file
 pub check-file-once : OneOutcome 1 check-file-kinds.ps check-file-kinds.r check-file.Learnt
-check-file-once κs a o o' l l' = let s = l ∙ sym l' in λ i. record { result = s i; last = o.last }
+check-file-once κs a o o' l l' = let s = read-injective o.result o'.result (l ∙ sym l') in λ i. record { result = s i; last = o.last }
 
 -- the answer and the number of bytes, and the lent file
 pub write-mesh-once : OneOutcome 4 write-mesh-kinds.ps write-mesh-kinds.r write-mesh.Learnt
 write-mesh-once κs a o o' l l' =
-    let s = l.0 ∙ sym l'.0 in
+    let s = wrote-injective o.result o'.result (l.0 ∙ sym l'.0) in
     let f = l.1.0 ∙ sym l'.1.0 in
     λ i. record { result = s i; last = (tt, (tt, (tt, (f i, tt)))) }
 
 -- the answer and the counts, and the three lent lists
 pub read-mesh-once : OneOutcome 4 read-mesh-kinds.ps read-mesh-kinds.r read-mesh.Learnt
 read-mesh-once κs a o o' l l' =
-    let s = l.0 ∙ sym l'.0 in
+    let s = read-injective o.result o'.result (l.0 ∙ sym l'.0) in
     let m = l.1.0 ∙ sym l'.1.0 in
     λ i. record { result = s i; last = (tt, ((m i).positions, ((m i).normals, ((m i).indices, tt)))) }
 

@@ -6,7 +6,7 @@ use Rattle.mesh_record.proofs.word_at.Kinds as word-at-kinds
 use Rattle.mesh_record.proofs.word_at.Reads as word_at
 use Rattle.mesh_record.proofs.finite_bits.Kinds as finite-bits-kinds
 use Rattle.mesh_record.proofs.finite_bits.Reads as finite-bits
-use Rattle.mesh_record.proofs.OneStep.{numbers-injective}
+use Rattle.mesh_record.proofs.OneStep.{numbers-injective, answer-injective}
 use Rattle.mesh_record.proofs.step_at.Kinds as step-at-kinds
 use Rattle.mesh_record.proofs.step_at.Reads as step-at
 use Rattle.mesh_record.proofs.write_record.Kinds as write-record-kinds
@@ -25,11 +25,11 @@ step-at-once κs a o o' l l' = let s = numbers-injective o.result o'.result (l �
 
 -- the lent file
 pub write-record-once : OneOutcome 1 write-record-kinds.ps write-record-kinds.r write-record.Learnt
-write-record-once κs a o o' l l' = let f = l ∙ sym l' in λ i. record { result = o.result; last = (f i, (tt, (tt, (tt, (tt, (tt, (tt, (tt, (tt, tt))))))))) }
+write-record-once κs a o o' l l' = let f = l ∙ sym l' in λ i. record { result = o.result; last = (f i, (tt, (tt, tt))) }
 
 -- the answer and the lent file
 pub put-record-once : OneOutcome 1 put-record-kinds.ps put-record-kinds.r put_record.Learnt
 put-record-once κs a o o' l l' =
-    let s = l.0 ∙ sym l'.0 in
+    let s = answer-injective o.result o'.result (l.0 ∙ sym l'.0) in
     let f = l.1 ∙ sym l'.1 in
-    λ i. record { result = s i; last = (f i, (tt, (tt, (tt, (tt, (tt, (tt, (tt, (tt, tt))))))))) }
+    λ i. record { result = s i; last = (f i, (tt, (tt, tt))) }

@@ -11,6 +11,7 @@ use contract.Monad.{Fun, fact, fact_i, fact_use}
 use denote.Triple.Entry.{Args, Res}
 use denote.Triple.Clauses.{Ended, Clauses, Lasts, at_exit}
 use Rattle.mesh_record.proofs.OneStep.{numbers-injective}
+use Rattle.mesh_file.proofs.Results.{read-injective}
 use Rattle.mesh_file.specs.contracts.Reader.new as new
 use Rattle.mesh_file.specs.contracts.Reader.moved as moved
 use Rattle.mesh_file.specs.contracts.Reader.next as next
@@ -50,4 +51,4 @@ module _ {M : Type 1} {𝓤 : Ura M} (𝓛 : Logic 𝓤) (mem : Memory → SProp
 
   -- the answer and the counts of all records from the place on
   pub check-once : OneOutcome 𝓤 check.ended (check.clauses 𝓛 mem run)
-  check-once κs a g o o' = both 𝓤 _ _ _ (λ l l'. let s = l ∙ sym l' in λ i. record { result = s i; last = o.last })
+  check-once κs a g o o' = both 𝓤 _ _ _ (λ l l'. let s = read-injective o.result o'.result (l ∙ sym l') in λ i. record { result = s i; last = o.last })

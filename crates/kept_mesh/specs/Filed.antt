@@ -5,8 +5,8 @@ use Rattle.mesh_file.specs.Mesh.{Mesh, mesh, vertex_count, triangle_count, Held}
 use Rattle.mesh_file.specs.Reading.{Bytes, read_of, checked, reading_in, over_mesh, filled_in}
 use Rattle.mesh_file.specs.Writing.{writing, written}
 use Rattle.mesh_record.specs.Written.{record_answer, record_written}
-use Rattle.mesh_file.specs.declared.Read.{Read}
-use Rattle.mesh_file.specs.declared.Wrote.{Wrote}
+use Rattle.mesh_file.specs.Reading.{Read}
+use Rattle.mesh_file.specs.Writing.{Wrote}
 
 -- the mesh that was passed, the lent file as it was, the answer with its number of bytes, and the lent file afterwards
 pub record Writes : Type 0 where
@@ -36,22 +36,16 @@ pub record Checks : Type 0 where
 
 -- the seven words of one record, its place, the lent bytes as they were, the answer, and the lent bytes afterwards
 pub record Puts : Type 0 where
-  pub kind : ℕ
-  pub a : ℕ
-  pub b : ℕ
-  pub c : ℕ
-  pub d : ℕ
-  pub e : ℕ
-  pub f : ℕ
+  pub words : List ℕ
   pub at : ℕ
   pub lent : List ℕ
   pub says : ℕ
   pub left : List ℕ
   pub answered : says ≡ record_answer at lent
-  pub kept : left ≡ record_written (kind ∷ a ∷ b ∷ c ∷ d ∷ e ∷ f ∷ []) at lent
+  pub kept : left ≡ record_written words at lent
 
 abbrev pub words_put : Puts → List ℕ
-words_put p = p.kind ∷ p.a ∷ p.b ∷ p.c ∷ p.d ∷ p.e ∷ p.f ∷ []
+words_put p = p.words
 
 -- into 32 bytes of its own
 pub record Apart (p : Puts) : Type 0 where

@@ -13,12 +13,13 @@ ghost use Rattle.cube.specs.AsRules.{vector, grid_point};
 ghost use Rattle.grid.specs.Block.{box_of};
 ghost use Rattle.grid.specs.Corners.{eight_of};
 ghost use Rattle.grid.specs.Layers.{InLayers};
-ghost use Rattle.grid.specs.Values.{grid_given, grid_before, layers_given, layers_before};
+ghost use Rattle.grid.specs.Values.{between};
 ghost use Rattle.layer_estimates.specs.Estimates.{RoomFor, lists, written, estimated, Batch, Gathered, Solved, vector_at, eight_at, vertex_at, stored, eight_places, three_places};
 
 use cube::Point;
 use grid::Block;
 use grid::corners::Side;
+use grid::values::Distance;
 
 // The corner values of a cell, by its two sides in x, put into the lane j: corner i stands at 32 i + j.
 fn put_corners(corners: &mut [f32; 256], j: usize, low: Side, high: Side)
@@ -36,41 +37,24 @@ fn put_corners(corners: &mut [f32; 256], j: usize, low: Side, high: Side)
 }
 
 // The eight corner values of the cells `from` to `from + n` of the list, corner by corner: corner i of the j-th stands at 32 i + j.
-fn gather(
-    width: u32,
-    lower: &[f32],
-    upper: &[f32],
-    lower16: &[i16],
-    upper16: &[i16],
-    lower8: &[i8],
-    upper8: &[i8],
+fn gather<D: Distance>(
+    lower: &[D],
+    upper: &[D],
     row: usize,
     cells: &[u32],
     from: usize,
     n: usize,
     corners: &mut [f32; 256],
 )
-    requires batch { Batch (grid_given width lower lower16 lower8) (grid_given width upper upper16 upper8) row cells.now from n }
+    requires batch { Batch (D.floats lower.now) (D.floats upper.now) row cells.now from n }
     requires corners_len { length corners.old ≡ 256 }
-    ensures { Gathered (grid_before width lower lower16 lower8) (grid_before width upper upper16 upper8) row cells.now from corners.new n }
+    ensures { Gathered (D.floats lower.now) (D.floats upper.now) row cells.now from corners.new n }
 {
     for j in 0usize..n {
         let c = 3 * (from + j);
         let at = (cells[c] as usize) + row * (cells[c + 1] as usize);
-        let low = grid::corners::side_between(
-            width, lower, upper, lower16, upper16, lower8, upper8, at, row,
-        );
-        let high = grid::corners::side_between(
-            width,
-            lower,
-            upper,
-            lower16,
-            upper16,
-            lower8,
-            upper8,
-            at + 1,
-            row,
-        );
+        let low = grid::corners::side_between(lower, upper, at, row);
+        let high = grid::corners::side_between(lower, upper, at + 1, row);
         put_corners(corners, j, low, high);
     }
 }
@@ -171,14 +155,9 @@ fn put(
 }
 
 // n cells, at most 32.
-fn estimate_some(
-    width: u32,
-    lower: &[f32],
-    upper: &[f32],
-    lower16: &[i16],
-    upper16: &[i16],
-    lower8: &[i8],
-    upper8: &[i8],
+fn estimate_some<D: Distance>(
+    lower: &[D],
+    upper: &[D],
     row: usize,
     cells: &[u32],
     from: usize,
@@ -188,54 +167,27 @@ fn estimate_some(
     normals: &mut [f32],
     crossings: &mut [u8],
 )
-    requires batch { Batch (grid_given width lower lower16 lower8) (grid_given width upper upper16 upper8) row cells.now from n }
+    requires batch { Batch (D.floats lower.now) (D.floats upper.now) row cells.now from n }
     requires room_for { RoomFor (place + n) positions.old normals.old crossings.old }
     ensures { lists positions.new normals.new crossings.new
-        ≡ written place (map (estimated (grid_before width lower lower16 lower8) (grid_before width upper upper16 upper8) row cells.now) (up_to from (from + n)))
+        ≡ written place (map (estimated (D.floats lower.now) (D.floats upper.now) row cells.now) (up_to from (from + n)))
         (lists positions.old normals.old crossings.old) }
 {
     let mut corners = [0.0f32; 256];
     let mut centroids = [0.0f32; 96];
     let mut gradients = [0.0f32; 96];
     let mut counts = [0u8; 32];
-    gather(
-        width,
-        lower,
-        upper,
-        lower16,
-        upper16,
-        lower8,
-        upper8,
-        row,
-        cells,
-        from,
-        n,
-        &mut corners,
-    );
+    gather(lower, upper, row, cells, from, n, &mut corners);
     solve(&corners, &mut centroids, &mut gradients, &mut counts);
     put(
         cells, from, n, &centroids, &gradients, &counts, place, positions, normals, crossings,
     );
 }
 
-fn lesser(a: usize, b: usize) -> usize
-    ensures { result ≡ min a b }
-{
-    if a < b {
-        return a;
-    }
-    b
-}
-
 // All cells of the layer z, which `cells` holds in their order and nothing else: their vertices to the lists from a place on.
-pub fn estimate_layer(
-    width: u32,
-    lower: &[f32],
-    upper: &[f32],
-    lower16: &[i16],
-    upper16: &[i16],
-    lower8: &[i8],
-    upper8: &[i8],
+pub fn estimate_layer<D: Distance>(
+    lower: &[D],
+    upper: &[D],
     k: Block,
     z: u32,
     cells: &[u32],
@@ -244,30 +196,25 @@ pub fn estimate_layer(
     normals: &mut [f32],
     crossings: &mut [u8],
 )
-    requires in_layers { InLayers (grid_given width lower lower16 lower8) (grid_given width upper upper16 upper8) k z }
-    requires cells_value { cells.now ≡ flat_points (layer_vertices (layers_given width lower upper lower16 upper16 lower8 upper8 k z) (box_of k) z) }
-    requires room_for { RoomFor (place + length (layer_vertices (layers_given width lower upper lower16 upper16 lower8 upper8 k z) (box_of k) z))
+    requires in_layers { InLayers (D.floats lower.now) (D.floats upper.now) k z }
+    requires cells_value { cells.now ≡ flat_points (layer_vertices (between D.floats lower.now upper.now k z) (box_of k) z) }
+    requires room_for { RoomFor (place + length (layer_vertices (between D.floats lower.now upper.now k z) (box_of k) z))
         positions.old normals.old crossings.old }
-    ensures positions_after { let g = layers_before width lower upper lower16 upper16 lower8 upper8 k z in
+    ensures positions_after { let g = between D.floats lower.now upper.now k z in
         positions.new ≡ sets positions.old (3 * place) (flat_vectors (map (vertex_position g) (layer_vertices g (box_of k) z))) }
-    ensures normals_after { let g = layers_before width lower upper lower16 upper16 lower8 upper8 k z in
+    ensures normals_after { let g = between D.floats lower.now upper.now k z in
         normals.new ≡ sets normals.old (3 * place) (flat_vectors (map (vertex_normal g) (layer_vertices g (box_of k) z))) }
-    ensures crossings_after { let g = layers_before width lower upper lower16 upper16 lower8 upper8 k z in
+    ensures crossings_after { let g = between D.floats lower.now upper.now k z in
         crossings.new ≡ sets crossings.old place (map (vertex_crossings g) (layer_vertices g (box_of k) z)) }
 {
     let row = k.dims.x as usize;
     let count = cells.len() / 3;
     let mut done = 0usize;
     while done < count {
-        let n = lesser(32, count - done);
+        let n = (count - done).min(32);
         estimate_some(
-            width,
             lower,
             upper,
-            lower16,
-            upper16,
-            lower8,
-            upper8,
             row,
             cells,
             done,

@@ -1,13 +1,13 @@
 -- What the code chooses without a branch: the order of a quad's numbers, the cells round an edge by its axis, and how many vertices a batch has.
 -- Assumes nothing.
-use Rattle.std.proofs.Common.{◌≡◌, ℕ, zero, suc, ◌<◌, Bool, true, false, cond, not, eqb, ltb, List, [], ◌∷◌, length, get_or, sym, refl, ap, ◌∙◌, subst, ap₂, arith, ltb-false, ltb-true}
+use Rattle.std.proofs.Common.{◌≡◌, ℕ, zero, suc, ◌<◌, Bool, true, false, cond, not, eqb, List, [], ◌∷◌, length, get_or, sym, refl, ap, ◌∙◌, subst, ap₂, arith}
 use lib.Ieee.{Float, nan, lt}
 use Rattle.rules.specs.Grid.{Axis, axis_x, axis_y, axis_z}
 use Rattle.rules.specs.Cell.{negative, squared_distance}
 use Rattle.rules.specs.Faces.{six}
 use Rattle.layer_faces.specs.declared.Firsts.{Firsts}
 use Rattle.layer_faces.specs.declared.Way.{Way}
-use Rattle.layer_faces.specs.Quads.{Seen, quad_of, axis_of, way2, way3, way4, place_at, own, looked, quad_at, Reaches, Lesser}
+use Rattle.layer_faces.specs.Quads.{Seen, quad_of, axis_of, way2, way3, way4, place_at, own, looked, quad_at, Reaches}
 
 pub chosen-first : {A : Type 0} {first : Bool} (x y : A) → first ≡ true → cond first x y ≡ x
 chosen-first x y e = rw e
@@ -99,10 +99,3 @@ module _ (first : Firsts) (map : List ℕ) (positions : List Float) (under : Lis
   length-quad_at = length-quad _ _ _ _ _
 
 -- ---- the vertices of a batch
-
-pub lesser : (a b : ℕ) {n : ℕ} → n ≡ cond (ltb a b) a b → Lesser a b n
-lesser a b {n} e = go (ltb a b) refl e
-  where
-    go : (t : Bool) → ltb a b ≡ t → n ≡ cond t a b → Lesser a b n
-    go true f k = let h = ltb-true a b f in record { is = e; first = omega arith; second = omega arith; some = λ i j. omega arith }
-    go false f k = let h = ltb-false a b f in record { is = e; first = omega arith; second = omega arith; some = λ i j. omega arith }

@@ -1,7 +1,7 @@
 -- What the code does for a batch of the layer's vertices: it lists the edges that give a face by their numbers in the batch, and puts a quad for each,
 -- whose vertices are looked up so many entries before the edge's own cell, in this layer's part of the map or in that of the layer below. These follow
 -- the code and stand in no contract that another crate sees. Definitions only. Assumes nothing.
-use Rattle.std.specs.Prelude.{◌≡◌, ℕ, zero, suc, ◌+◌, ◌-◌, ◌*◌, ◌/◌, ◌%◌, ◌<◌, ◌≤◌, Bool, true, false, cond, T, List, length, get_or, take, drop, nat_lt, slice_index, slice_index_or, Float}
+use Rattle.std.specs.Prelude.{ℕ, zero, suc, ◌+◌, ◌-◌, ◌*◌, ◌/◌, ◌%◌, ◌<◌, ◌≤◌, Bool, true, false, cond, T, List, length, get_or, take, drop, slice_index, slice_index_or, Float}
 use Rattle.std.specs.Float.{nan}
 use Rattle.std.specs.Float.Ieee.{lt}
 use Rattle.lists.specs.Lists.{run, keep, joined}
@@ -122,13 +122,6 @@ pub record Ready (lower : List Float) (row first : ℕ) (cs map : List ℕ) (pos
 -- the edges that give a face, of n vertices from `from` on
 abbrev pub some_edges : Field → Box → Flags → ℕ → ℕ → ℕ → List Edge
 some_edges g b m z from n = joined (cell_edges g b m) (take n (drop from (layer_vertices g b z)))
-
--- n is the lesser of two numbers
-pub record Lesser (a b n : ℕ) : Type 0 where
-  pub is : n ≡ cond (nat_lt a b) a b
-  pub first : n ≤ a
-  pub second : n ≤ b
-  pub some : 0 < a → 0 < b → 0 < n
 
 -- the layer has these vertices, they are few, and there is room for their faces
 pub record Batch (g : Field) (b : Box) (m : Flags) (z from n indices at : ℕ) : Type 0 where

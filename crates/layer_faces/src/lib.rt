@@ -20,13 +20,14 @@ ghost use Rattle.rules.specs.Faces.{edge, gives, layer_edges};
 ghost use Rattle.cube.specs.AsRules.{vector};
 ghost use Rattle.grid.specs.Block.{point, box_of, flags_of};
 ghost use Rattle.grid.specs.Layers.{in_layer, InLayers};
-ghost use Rattle.grid.specs.Values.{grid_given, grid_before, layers_given, layers_before};
+ghost use Rattle.grid.specs.Values.{between};
 ghost use Rattle.layer_faces.specs.Below.{nowhere, position_at, face_over, indices_over, Standing};
-ghost use Rattle.layer_faces.specs.Quads.{seen, quad_of, Reaches, looked, Cells, listed, place_at, own, axis_of, way2, way3, way4, quad_at, some_edges, Lesser, Batch};
+ghost use Rattle.layer_faces.specs.Quads.{seen, quad_of, Reaches, looked, Cells, listed, place_at, own, axis_of, way2, way3, way4, quad_at, some_edges, Batch};
 ghost use Rattle.layer_faces.specs.Filing.{AllFiled, AllReady, faces_put};
 
 use cube::Point;
 use grid::signs::counted;
+use grid::values::{Distance, value_at};
 use grid::{Block, EachAxis, Extent};
 
 // The number of the layer's first vertex, and of the first of the layer below.
@@ -179,30 +180,20 @@ fn make_quad(
 // own, each with its place among all of them, so that the faces along one axis are made in one loop, which asks for the axis once.
 
 // Which of the three edges from the lowest corner of the cell c give a face.
-fn giving(
-    width: u32,
-    lower: &[f32],
-    upper: &[f32],
-    lower16: &[i16],
-    upper16: &[i16],
-    lower8: &[i8],
-    upper8: &[i8],
-    k: Block,
-    c: Extent,
-) -> EachAxis
-    requires in_layers { InLayers (grid_given width lower lower16 lower8) (grid_given width upper upper16 upper8) k c.z }
+fn giving<D: Distance>(lower: &[D], upper: &[D], k: Block, c: Extent) -> EachAxis
+    requires in_layers { InLayers (D.floats lower.now) (D.floats upper.now) k c.z }
     requires t { T (is_cell (box_of k) (point c)) }
-    ensures x_value { result.x ≡ gives (layers_before width lower upper lower16 upper16 lower8 upper8 k c.z) (box_of k) (flags_of k) (edge axis_x (point c)) }
-    ensures y_value { result.y ≡ gives (layers_before width lower upper lower16 upper16 lower8 upper8 k c.z) (box_of k) (flags_of k) (edge axis_y (point c)) }
-    ensures z_value { result.z ≡ gives (layers_before width lower upper lower16 upper16 lower8 upper8 k c.z) (box_of k) (flags_of k) (edge axis_z (point c)) }
+    ensures x_value { result.x ≡ gives (between D.floats lower.now upper.now k c.z) (box_of k) (flags_of k) (edge axis_x (point c)) }
+    ensures y_value { result.y ≡ gives (between D.floats lower.now upper.now k c.z) (box_of k) (flags_of k) (edge axis_y (point c)) }
+    ensures z_value { result.z ≡ gives (between D.floats lower.now upper.now k c.z) (box_of k) (flags_of k) (edge axis_z (point c)) }
 {
     let row = k.dims.x as usize;
     let cell = (c.x as usize) + row * (c.y as usize);
     let own = grid::ownership::owned_at(k, c);
-    let n = cube::negative(grid::values::value_at(width, lower, lower16, lower8, cell));
-    let nx = cube::negative(grid::values::value_at(width, lower, lower16, lower8, cell + 1));
-    let ny = cube::negative(grid::values::value_at(width, lower, lower16, lower8, cell + row));
-    let nz = cube::negative(grid::values::value_at(width, upper, upper16, upper8, cell));
+    let n = cube::negative(value_at(lower, cell));
+    let nx = cube::negative(value_at(lower, cell + 1));
+    let ny = cube::negative(value_at(lower, cell + row));
+    let nz = cube::negative(value_at(upper, cell));
     EachAxis {
         x: own.x & (n != nx),
         y: own.y & (n != ny),
@@ -230,14 +221,9 @@ fn list_edge(who: &mut [u32; 96], rank: &mut [u32; 96], entry: usize, j: u32, pl
 }
 
 // Of the vertices `from` to `from + n` of the layer, at most 32: the edges that give a face, those along the axis a (0, 1, 2) from the entry 32 a on.
-fn list_edges(
-    width: u32,
-    lower: &[f32],
-    upper: &[f32],
-    lower16: &[i16],
-    upper16: &[i16],
-    lower8: &[i8],
-    upper8: &[i8],
+fn list_edges<D: Distance>(
+    lower: &[D],
+    upper: &[D],
     k: Block,
     z: u32,
     cells: &[u32],
@@ -246,11 +232,11 @@ fn list_edges(
     who: &mut [u32; 96],
     rank: &mut [u32; 96],
 ) -> Listed
-    requires in_layers { InLayers (grid_given width lower lower16 lower8) (grid_given width upper upper16 upper8) k z }
+    requires in_layers { InLayers (D.floats lower.now) (D.floats upper.now) k z }
     requires cells { Cells (box_of k) z cells.now (from + n) }
     requires n_bound { n ≤ 32 }
     requires who_len { (length who.old ≡ 96) × (length rank.old ≡ 96) }
-    ensures { AllFiled (listed (layers_before width lower upper lower16 upper16 lower8 upper8 k z) (box_of k) (flags_of k) cells.now z from (3 * n))
+    ensures { AllFiled (listed (between D.floats lower.now upper.now k z) (box_of k) (flags_of k) cells.now z from (3 * n))
         who.new rank.new result.x result.y result.z result.all }
 {
     let mut x = 0usize;
@@ -264,7 +250,7 @@ fn list_edges(
             y: cells[i + 1],
             z,
         };
-        let t = giving(width, lower, upper, lower16, upper16, lower8, upper8, k, c);
+        let t = giving(lower, upper, k, c);
         let one_x = counted(t.x);
         let one_y = counted(t.y);
         let one_z = counted(t.z);
@@ -346,11 +332,8 @@ fn fourth_way(row: usize, axis: u32) -> Way
 }
 
 // The first vertex is the edge's own; the other three are so many entries before it in the one map or the other, as the axis says.
-fn put_faces(
-    width: u32,
-    lower: &[f32],
-    lower16: &[i16],
-    lower8: &[i8],
+fn put_faces<D: Distance>(
+    lower: &[D],
     row: usize,
     first: Firsts,
     cells: &[u32],
@@ -366,10 +349,10 @@ fn put_faces(
     indices: &mut [u32],
     at: usize,
 )
-    requires { AllReady (grid_given width lower lower16 lower8) row first.here cells.now map.now positions.now map_below.now who.now rank.now
+    requires { AllReady (D.floats lower.now) row first.here cells.now map.now positions.now map_below.now who.now rank.now
         from axis count at (length indices.old) }
     ensures { indices.new ≡ faces_put (λ v. quad_at first map.now positions.now map_below.now positions_below.now
-        (grid_before width lower lower16 lower8) row cells.now v (axis_of axis)) who.now rank.now (32 * axis) from at count
+        (D.floats lower.now) row cells.now v (axis_of axis)) who.now rank.now (32 * axis) from at count
         indices.old }
 {
     let second = second_way(row, axis);
@@ -412,7 +395,7 @@ fn put_faces(
             v2,
             v3,
             v4,
-            cube::negative(grid::values::value_at(width, lower, lower16, lower8, cell)),
+            cube::negative(value_at(lower, cell)),
             indices,
             at + 6 * (rank[start + q] as usize),
         );
@@ -420,14 +403,9 @@ fn put_faces(
 }
 
 // The faces of n vertices, at most 32, and where the next one goes.
-fn face_some(
-    width: u32,
-    lower: &[f32],
-    upper: &[f32],
-    lower16: &[i16],
-    upper16: &[i16],
-    lower8: &[i8],
-    upper8: &[i8],
+fn face_some<D: Distance>(
+    lower: &[D],
+    upper: &[D],
     k: Block,
     z: u32,
     first: Firsts,
@@ -441,28 +419,22 @@ fn face_some(
     indices: &mut [u32],
     at: usize,
 ) -> usize
-    requires in_layers { InLayers (grid_given width lower lower16 lower8) (grid_given width upper upper16 upper8) k z }
-    requires standing { Standing (layers_given width lower upper lower16 upper16 lower8 upper8 k z) (box_of k) first.here z cells.now map.now positions.now }
+    requires in_layers { InLayers (D.floats lower.now) (D.floats upper.now) k z }
+    requires standing { Standing (between D.floats lower.now upper.now k z) (box_of k) first.here z cells.now map.now positions.now }
     requires high_in_bounds { k.low.z < z → in_layer (point k.dims) (point k.high) < length map_below.now }
-    requires batch { Batch (layers_given width lower upper lower16 upper16 lower8 upper8 k z) (box_of k) (flags_of k) z from n (length indices.old) at }
+    requires batch { Batch (between D.floats lower.now upper.now k z) (box_of k) (flags_of k) z from n (length indices.old) at }
     ensures indices_after { indices.new ≡ sets indices.old at
-        (joined (face_over (layers_before width lower upper lower16 upper16 lower8 upper8 k z) (box_of k) first.here z
+        (joined (face_over (between D.floats lower.now upper.now k z) (box_of k) first.here z
         (record { map = map_below.now; positions = positions_below.now; first = first.below }))
-        (some_edges (layers_before width lower upper lower16 upper16 lower8 upper8 k z) (box_of k) (flags_of k) z from n)) }
-    ensures value { result ≡ at + 6 * length (some_edges (layers_before width lower upper lower16 upper16 lower8 upper8 k z) (box_of k) (flags_of k) z from n) }
+        (some_edges (between D.floats lower.now upper.now k z) (box_of k) (flags_of k) z from n)) }
+    ensures value { result ≡ at + 6 * length (some_edges (between D.floats lower.now upper.now k z) (box_of k) (flags_of k) z from n) }
 {
     let row = k.dims.x as usize;
     let mut who = [0u32; 96];
     let mut rank = [0u32; 96];
-    let m = list_edges(
-        width, lower, upper, lower16, upper16, lower8, upper8, k, z, cells, from, n, &mut who,
-        &mut rank,
-    );
+    let m = list_edges(lower, upper, k, z, cells, from, n, &mut who, &mut rank);
     put_faces(
-        width,
         lower,
-        lower16,
-        lower8,
         row,
         first,
         cells,
@@ -479,10 +451,7 @@ fn face_some(
         at,
     );
     put_faces(
-        width,
         lower,
-        lower16,
-        lower8,
         row,
         first,
         cells,
@@ -499,10 +468,7 @@ fn face_some(
         at,
     );
     put_faces(
-        width,
         lower,
-        lower16,
-        lower8,
         row,
         first,
         cells,
@@ -521,24 +487,10 @@ fn face_some(
     at + 6 * (m.all as usize)
 }
 
-fn lesser(a: usize, b: usize) -> usize
-    ensures { Lesser a b result }
-{
-    if a < b {
-        return a;
-    }
-    b
-}
-
 // The layer z: the faces of its vertices, in their order, from a place of the indices on, and how many numbers they are.
-pub fn face_layer(
-    width: u32,
-    lower: &[f32],
-    upper: &[f32],
-    lower16: &[i16],
-    upper16: &[i16],
-    lower8: &[i8],
-    upper8: &[i8],
+pub fn face_layer<D: Distance>(
+    lower: &[D],
+    upper: &[D],
     k: Block,
     z: u32,
     first: Firsts,
@@ -550,28 +502,23 @@ pub fn face_layer(
     indices: &mut [u32],
     at: usize,
 ) -> usize
-    requires in_layers { InLayers (grid_given width lower lower16 lower8) (grid_given width upper upper16 upper8) k z }
-    requires standing { Standing (layers_given width lower upper lower16 upper16 lower8 upper8 k z) (box_of k) first.here z cells.now map.now positions.now }
+    requires in_layers { InLayers (D.floats lower.now) (D.floats upper.now) k z }
+    requires standing { Standing (between D.floats lower.now upper.now k z) (box_of k) first.here z cells.now map.now positions.now }
     requires high_in_bounds { k.low.z < z → in_layer (point k.dims) (point k.high) < length map_below.now }
-    requires z_in_bounds { at + 6 * length (layer_edges (layers_given width lower upper lower16 upper16 lower8 upper8 k z) (box_of k) (flags_of k) z) ≤ length indices.old }
+    requires z_in_bounds { at + 6 * length (layer_edges (between D.floats lower.now upper.now k z) (box_of k) (flags_of k) z) ≤ length indices.old }
     ensures indices_after { indices.new ≡ sets indices.old at
-        (indices_over (layers_before width lower upper lower16 upper16 lower8 upper8 k z) (box_of k) (flags_of k) first.here z
+        (indices_over (between D.floats lower.now upper.now k z) (box_of k) (flags_of k) first.here z
         (record { map = map_below.now; positions = positions_below.now; first = first.below })) }
-    ensures value { result ≡ 6 * length (layer_edges (layers_before width lower upper lower16 upper16 lower8 upper8 k z) (box_of k) (flags_of k) z) }
+    ensures value { result ≡ 6 * length (layer_edges (between D.floats lower.now upper.now k z) (box_of k) (flags_of k) z) }
 {
     let count = cells.len() / 3;
     let mut used = at;
     let mut done = 0usize;
     while done < count {
-        let n = lesser(32, count - done);
+        let n = (count - done).min(32);
         used = face_some(
-            width,
             lower,
             upper,
-            lower16,
-            upper16,
-            lower8,
-            upper8,
             k,
             z,
             first,

@@ -12,7 +12,7 @@ ghost use Rattle.rules.specs.Call.{flat_vectors, flat_points};
 ghost use Rattle.grid.specs.Block.{point, box_of};
 ghost use Rattle.grid.specs.Inside.{PointInside};
 ghost use Rattle.grid.specs.Layers.{in_layer, InLayers};
-ghost use Rattle.grid.specs.Values.{grid_given, grid_before, layers_given, layers_before};
+ghost use Rattle.grid.specs.Values.{between};
 ghost use Rattle.row_signs.specs.Signs.{row_length, row_start, cells_negatives};
 ghost use Rattle.row_signs.specs.Codes.{Kept, SmallFrom, mixed_code};
 ghost use Rattle.layer_estimates.specs.Estimates.{RoomFor};
@@ -20,6 +20,7 @@ ghost use Rattle.layer_vertices.specs.Marked.{marked, last_entry, Room, InPart};
 ghost use Rattle.layer_vertices.specs.Cells.{points_of, has_vertex, blanked, found, Passes, RoomToFind, layer_found, class_of, classes, code_classes, none_marked, Numbering, Numbered};
 ghost use Rattle.layer_vertices.specs.Lent.{lists_given, lists_before, lists_after, finds_given, finds_before, finds_after};
 
+use grid::values::Distance;
 use grid::{Block, Extent};
 
 // The map's entry of a cell without a vertex, and of a point of the box that is no cell.
@@ -62,39 +63,22 @@ fn class_entry(surface: bool) -> u32
 }
 
 // n cells in a row, `at` being the place of the first one's lowest corner. A cell's upper x side is the next one's lower one: its negatives are counted once, and carried.
-fn class_row(
-    width: u32,
-    lower: &[f32],
-    upper: &[f32],
-    lower16: &[i16],
-    upper16: &[i16],
-    lower8: &[i8],
-    upper8: &[i8],
+fn class_row<D: Distance>(
+    lower: &[D],
+    upper: &[D],
     at: usize,
     row: usize,
     n: usize,
     map: &mut [u32],
 )
-    requires row_in_bounds { (at + n + row < length (grid_given width lower lower16 lower8)) × (at + n + row < length (grid_given width upper upper16 upper8)) }
+    requires row_in_bounds { (at + n + row < length (D.floats lower.now)) × (at + n + row < length (D.floats upper.now)) }
     requires n_in_bounds { at + n ≤ length map.old }
     ensures { map.new
-        ≡ sets map.old at (classes (grid_before width lower lower16 lower8) (grid_before width upper upper16 upper8) at row n) }
+        ≡ sets map.old at (classes (D.floats lower.now) (D.floats upper.now) at row n) }
 {
-    let mut low = grid::signs::side_negatives(
-        width, lower, upper, lower16, upper16, lower8, upper8, at, row,
-    );
+    let mut low = grid::signs::side_negatives(lower, upper, at, row);
     for j in 0usize..n {
-        let high = grid::signs::side_negatives(
-            width,
-            lower,
-            upper,
-            lower16,
-            upper16,
-            lower8,
-            upper8,
-            at + j + 1,
-            row,
-        );
+        let high = grid::signs::side_negatives(lower, upper, at + j + 1, row);
         map[at + j] = class_entry(cube::some_of_eight(low + high));
         low = high;
     }
@@ -114,14 +98,9 @@ fn class_codes(codes: &[u32], here: usize, there: usize, at: usize, n: usize, ma
 }
 
 // The row y of cells, by the codes of its two rows of points where these are kept.
-fn class_points(
-    width: u32,
-    lower: &[f32],
-    upper: &[f32],
-    lower16: &[i16],
-    upper16: &[i16],
-    lower8: &[i8],
-    upper8: &[i8],
+fn class_points<D: Distance>(
+    lower: &[D],
+    upper: &[D],
     k: Block,
     y: u32,
     codes: &[u32],
@@ -130,14 +109,14 @@ fn class_points(
     map: &mut [u32],
 )
     requires x_le_x { (k.low.x ≤ k.high.x) × (row_start k y + row_length (box_of k) ≤ length map.old) }
-    requires x_in_bounds { (row_start k y + row_length (box_of k) + k.dims.x < length (grid_given width lower lower16 lower8))
-        × (row_start k y + row_length (box_of k) + k.dims.x < length (grid_given width upper upper16 upper8)) }
+    requires x_in_bounds { (row_start k y + row_length (box_of k) + k.dims.x < length (D.floats lower.now))
+        × (row_start k y + row_length (box_of k) + k.dims.x < length (D.floats upper.now)) }
     requires here_in_bounds { (here + 1024 ≤ length codes.now) × (there + 1024 ≤ length codes.now) }
-    requires kept { Kept (grid_given width lower lower16 lower8) (grid_given width upper upper16 upper8) k y here codes.now }
-    requires kept_2 { Kept (grid_given width lower lower16 lower8) (grid_given width upper upper16 upper8) k (y + 1) there codes.now }
+    requires kept { Kept (D.floats lower.now) (D.floats upper.now) k y here codes.now }
+    requires kept_2 { Kept (D.floats lower.now) (D.floats upper.now) k (y + 1) there codes.now }
     ensures { map.new
         ≡ sets map.old (row_start k y)
-        (classes (grid_before width lower lower16 lower8) (grid_before width upper upper16 upper8) (row_start k y) k.dims.x (row_length (box_of k))) }
+        (classes (D.floats lower.now) (D.floats upper.now) (row_start k y) k.dims.x (row_length (box_of k))) }
 {
     let row = k.dims.x as usize;
     let at = (k.low.x as usize) + row * (y as usize);
@@ -146,9 +125,7 @@ fn class_points(
         class_codes(codes, here, there, at, n, map);
         return;
     }
-    class_row(
-        width, lower, upper, lower16, upper16, lower8, upper8, at, row, n, map,
-    );
+    class_row(lower, upper, at, row, n, map);
 }
 
 // A cell that is marked gets the next number.
@@ -246,15 +223,6 @@ fn number_eight(
     number_some(dims, c, at, n, next, cells, strides, map)
 }
 
-fn lesser(a: u32, b: u32) -> u32
-    ensures { result ≡ min a b }
-{
-    if a < b {
-        return a;
-    }
-    b
-}
-
 // The marked ones of a row's n cells, eight at a time.
 fn number_row(
     dims: Extent,
@@ -272,7 +240,7 @@ fn number_row(
     let mut state = next;
     let mut j = 0u32;
     while j < n {
-        let m = lesser(8, n - j);
+        let m = (n - j).min(8);
         let p = Extent {
             x: c.x + j,
             y: c.y,
@@ -285,14 +253,9 @@ fn number_row(
 }
 
 // The row y of the layer z. The row's last point is no cell.
-fn find_row(
-    width: u32,
-    lower: &[f32],
-    upper: &[f32],
-    lower16: &[i16],
-    upper16: &[i16],
-    lower8: &[i8],
-    upper8: &[i8],
+fn find_row<D: Distance>(
+    lower: &[D],
+    upper: &[D],
     k: Block,
     y: u32,
     z: u32,
@@ -304,15 +267,15 @@ fn find_row(
     strides: &mut [u32],
     map: &mut [u32],
 ) -> Next
-    requires in_layers { InLayers (grid_given width lower lower16 lower8) (grid_given width upper upper16 upper8) k z }
+    requires in_layers { InLayers (D.floats lower.now) (D.floats upper.now) k z }
     requires y_le_y { (k.low.y ≤ y) × (y < k.high.y) }
     requires here_in_bounds { (here + 1024 ≤ length codes.now) × (there + 1024 ≤ length codes.now) }
-    requires kept { Kept (grid_given width lower lower16 lower8) (grid_given width upper upper16 upper8) k y here codes.now }
-    requires kept_2 { Kept (grid_given width lower lower16 lower8) (grid_given width upper upper16 upper8) k (y + 1) there codes.now }
+    requires kept { Kept (D.floats lower.now) (D.floats upper.now) k y here codes.now }
+    requires kept_2 { Kept (D.floats lower.now) (D.floats upper.now) k (y + 1) there codes.now }
     requires high_in_bounds { in_layer (point k.dims) (point k.high) < length map.old }
-    requires room_to_find { RoomToFind next (found (has_vertex (layers_given width lower upper lower16 upper16 lower8 upper8 k z) (box_of k)) (row_cells (points_of (box_of k)) z y))
+    requires room_to_find { RoomToFind next (found (has_vertex (between D.floats lower.now upper.now k z) (box_of k)) (row_cells (points_of (box_of k)) z y))
         (finds_given cells strides map) }
-    ensures { Passes (point k.dims) (has_vertex (layers_before width lower upper lower16 upper16 lower8 upper8 k z) (box_of k)) next
+    ensures { Passes (point k.dims) (has_vertex (between D.floats lower.now upper.now k z) (box_of k)) next
         (finds_before cells strides map) (row_cells (points_of (box_of k)) z y) result (finds_after cells strides map) }
 {
     let from = k.low.x;
@@ -320,9 +283,7 @@ fn find_row(
     let row = k.dims.x as usize;
     let at = (from as usize) + row * (y as usize);
     let last = at + (n as usize);
-    class_points(
-        width, lower, upper, lower16, upper16, lower8, upper8, k, y, codes, here, there, map,
-    );
+    class_points(lower, upper, k, y, codes, here, there, map);
     map[last] = NULL_VERTEX;
     number_row(
         k.dims,
@@ -353,14 +314,9 @@ fn clear_row(k: Block, y: u32, map: &mut [u32])
 }
 
 // The same, given how many of the points of the row's cells are negative: where none are, or all, there is no vertex.
-fn find_where_mixed(
-    width: u32,
-    lower: &[f32],
-    upper: &[f32],
-    lower16: &[i16],
-    upper16: &[i16],
-    lower8: &[i8],
-    upper8: &[i8],
+fn find_where_mixed<D: Distance>(
+    lower: &[D],
+    upper: &[D],
     k: Block,
     y: u32,
     z: u32,
@@ -373,16 +329,16 @@ fn find_where_mixed(
     strides: &mut [u32],
     map: &mut [u32],
 ) -> Next
-    requires in_layers { InLayers (grid_given width lower lower16 lower8) (grid_given width upper upper16 upper8) k z }
+    requires in_layers { InLayers (D.floats lower.now) (D.floats upper.now) k z }
     requires y_le_y { (k.low.y ≤ y) × (y < k.high.y) }
-    requires negative_points_value { negative_points ≡ cells_negatives (grid_given width lower lower16 lower8) (grid_given width upper upper16 upper8) k y }
+    requires negative_points_value { negative_points ≡ cells_negatives (D.floats lower.now) (D.floats upper.now) k y }
     requires here_in_bounds { (here + 1024 ≤ length codes.now) × (there + 1024 ≤ length codes.now) }
-    requires kept { Kept (grid_given width lower lower16 lower8) (grid_given width upper upper16 upper8) k y here codes.now }
-    requires kept_2 { Kept (grid_given width lower lower16 lower8) (grid_given width upper upper16 upper8) k (y + 1) there codes.now }
+    requires kept { Kept (D.floats lower.now) (D.floats upper.now) k y here codes.now }
+    requires kept_2 { Kept (D.floats lower.now) (D.floats upper.now) k (y + 1) there codes.now }
     requires high_in_bounds { in_layer (point k.dims) (point k.high) < length map.old }
-    requires room_to_find { RoomToFind next (found (has_vertex (layers_given width lower upper lower16 upper16 lower8 upper8 k z) (box_of k)) (row_cells (points_of (box_of k)) z y))
+    requires room_to_find { RoomToFind next (found (has_vertex (between D.floats lower.now upper.now k z) (box_of k)) (row_cells (points_of (box_of k)) z y))
         (finds_given cells strides map) }
-    ensures { Passes (point k.dims) (has_vertex (layers_before width lower upper lower16 upper16 lower8 upper8 k z) (box_of k)) next
+    ensures { Passes (point k.dims) (has_vertex (between D.floats lower.now upper.now k z) (box_of k)) next
         (finds_before cells strides map) (row_cells (points_of (box_of k)) z y) result (finds_after cells strides map) }
 {
     if row_signs::one_sign(k, negative_points) {
@@ -390,20 +346,14 @@ fn find_where_mixed(
         return next;
     }
     find_row(
-        width, lower, upper, lower16, upper16, lower8, upper8, k, y, z, codes, here, there, next,
-        cells, strides, map,
+        lower, upper, k, y, z, codes, here, there, next, cells, strides, map,
     )
 }
 
 // The layer z of cells: its surface cells, and the entries of its points. The layer's last row has no cells.
-fn find_layer(
-    width: u32,
-    lower: &[f32],
-    upper: &[f32],
-    lower16: &[i16],
-    upper16: &[i16],
-    lower8: &[i8],
-    upper8: &[i8],
+fn find_layer<D: Distance>(
+    lower: &[D],
+    upper: &[D],
     k: Block,
     z: u32,
     next: Next,
@@ -411,45 +361,26 @@ fn find_layer(
     strides: &mut [u32],
     map: &mut [u32],
 ) -> usize
-    requires in_layers { InLayers (grid_given width lower lower16 lower8) (grid_given width upper upper16 upper8) k z }
+    requires in_layers { InLayers (D.floats lower.now) (D.floats upper.now) k z }
     requires high_in_bounds { in_layer (point k.dims) (point k.high) < length map.old }
-    requires room_to_find { RoomToFind next (length (layer_vertices (layers_given width lower upper lower16 upper16 lower8 upper8 k z) (box_of k) z)) (finds_given cells strides map) }
+    requires room_to_find { RoomToFind next (length (layer_vertices (between D.floats lower.now upper.now k z) (box_of k) z)) (finds_given cells strides map) }
     ensures map_value { finds_after cells strides map
-        ≡ layer_found (layers_before width lower upper lower16 upper16 lower8 upper8 k z) (box_of k) z next (finds_before cells strides map) }
-    ensures value { result ≡ length (layer_vertices (layers_before width lower upper lower16 upper16 lower8 upper8 k z) (box_of k) z) }
+        ≡ layer_found (between D.floats lower.now upper.now k z) (box_of k) z next (finds_before cells strides map) }
+    ensures value { result ≡ length (layer_vertices (between D.floats lower.now upper.now k z) (box_of k) z) }
 {
     let from = k.low.y;
     let end = k.high.y;
     let first = next.place;
     let mut codes = [0u32; 2048];
     let mut here = 0usize;
-    let mut near = row_signs::read_row(
-        width, lower, upper, lower16, upper16, lower8, upper8, k, from, &mut codes, 0,
-    );
+    let mut near = row_signs::read_row(lower, upper, k, from, &mut codes, 0);
     let mut state = next;
     for y in from..end {
         let there = 1024 - here;
-        let far = row_signs::read_row(
-            width,
-            lower,
-            upper,
-            lower16,
-            upper16,
-            lower8,
-            upper8,
-            k,
-            y + 1,
-            &mut codes,
-            there,
-        );
+        let far = row_signs::read_row(lower, upper, k, y + 1, &mut codes, there);
         state = find_where_mixed(
-            width,
             lower,
             upper,
-            lower16,
-            upper16,
-            lower8,
-            upper8,
             k,
             y,
             z,
@@ -470,14 +401,9 @@ fn find_layer(
 }
 
 // The vertices of `count` surface cells that the list holds from a place on, at the same place of their lists.
-fn estimate_part(
-    width: u32,
-    lower: &[f32],
-    upper: &[f32],
-    lower16: &[i16],
-    upper16: &[i16],
-    lower8: &[i8],
-    upper8: &[i8],
+fn estimate_part<D: Distance>(
+    lower: &[D],
+    upper: &[D],
     k: Block,
     z: u32,
     place: usize,
@@ -487,28 +413,23 @@ fn estimate_part(
     normals: &mut [f32],
     crossings: &mut [u8],
 )
-    requires in_layers { InLayers (grid_given width lower lower16 lower8) (grid_given width upper upper16 upper8) k z }
-    requires count_value { count ≡ length (layer_vertices (layers_given width lower upper lower16 upper16 lower8 upper8 k z) (box_of k) z) }
+    requires in_layers { InLayers (D.floats lower.now) (D.floats upper.now) k z }
+    requires count_value { count ≡ length (layer_vertices (between D.floats lower.now upper.now k z) (box_of k) z) }
     requires count_in_bounds { 3 * (place + count) ≤ length cells.now }
-    requires cells_value { take (3 * count) (drop (3 * place) cells.now) ≡ flat_points (layer_vertices (layers_given width lower upper lower16 upper16 lower8 upper8 k z) (box_of k) z) }
+    requires cells_value { take (3 * count) (drop (3 * place) cells.now) ≡ flat_points (layer_vertices (between D.floats lower.now upper.now k z) (box_of k) z) }
     requires room_for { RoomFor (place + count) positions.old normals.old crossings.old }
-    ensures positions_after { let g = layers_before width lower upper lower16 upper16 lower8 upper8 k z in
+    ensures positions_after { let g = between D.floats lower.now upper.now k z in
         positions.new ≡ sets positions.old (3 * place) (flat_vectors (each (vertex_position g) (layer_vertices g (box_of k) z))) }
-    ensures normals_after { let g = layers_before width lower upper lower16 upper16 lower8 upper8 k z in
+    ensures normals_after { let g = between D.floats lower.now upper.now k z in
         normals.new ≡ sets normals.old (3 * place) (flat_vectors (each (vertex_normal g) (layer_vertices g (box_of k) z))) }
-    ensures crossings_after { let g = layers_before width lower upper lower16 upper16 lower8 upper8 k z in
+    ensures crossings_after { let g = between D.floats lower.now upper.now k z in
         crossings.new ≡ sets crossings.old place (each (vertex_crossings g) (layer_vertices g (box_of k) z)) }
 {
     let here = 3 * place;
     let end = here + 3 * count;
     layer_estimates::estimate_layer(
-        width,
         lower,
         upper,
-        lower16,
-        upper16,
-        lower8,
-        upper8,
         k,
         z,
         &cells[here..end],
@@ -520,14 +441,9 @@ fn estimate_part(
 }
 
 // The layer z of cells: how many vertices it has, all of them in the lists and their numbers in the layer's part of the map.
-pub fn mark_layer(
-    width: u32,
-    lower: &[f32],
-    upper: &[f32],
-    lower16: &[i16],
-    upper16: &[i16],
-    lower8: &[i8],
-    upper8: &[i8],
+pub fn mark_layer<D: Distance>(
+    lower: &[D],
+    upper: &[D],
     k: Block,
     z: u32,
     next: Next,
@@ -538,20 +454,17 @@ pub fn mark_layer(
     crossings: &mut [u8],
     map: &mut [u32],
 ) -> usize
-    requires in_layers { InLayers (grid_given width lower lower16 lower8) (grid_given width upper upper16 upper8) k z }
+    requires in_layers { InLayers (D.floats lower.now) (D.floats upper.now) k z }
     requires high_in_bounds { in_layer (point k.dims) (point k.high) < length map.old }
-    requires room { Room next (length (layer_vertices (layers_given width lower upper lower16 upper16 lower8 upper8 k z) (box_of k) z))
+    requires room { Room next (length (layer_vertices (between D.floats lower.now upper.now k z) (box_of k) z))
         (lists_given positions normals cells strides crossings map) }
     ensures map_value { lists_after positions normals cells strides crossings map
-        ≡ marked (layers_before width lower upper lower16 upper16 lower8 upper8 k z) (box_of k) z next (lists_before positions normals cells strides crossings map) }
-    ensures value { result ≡ length (layer_vertices (layers_before width lower upper lower16 upper16 lower8 upper8 k z) (box_of k) z) }
+        ≡ marked (between D.floats lower.now upper.now k z) (box_of k) z next (lists_before positions normals cells strides crossings map) }
+    ensures value { result ≡ length (layer_vertices (between D.floats lower.now upper.now k z) (box_of k) z) }
 {
-    let count = find_layer(
-        width, lower, upper, lower16, upper16, lower8, upper8, k, z, next, cells, strides, map,
-    );
+    let count = find_layer(lower, upper, k, z, next, cells, strides, map);
     estimate_part(
-        width, lower, upper, lower16, upper16, lower8, upper8, k, z, next.place, count, cells,
-        positions, normals, crossings,
+        lower, upper, k, z, next.place, count, cells, positions, normals, crossings,
     );
     count
 }

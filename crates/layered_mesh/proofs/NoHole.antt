@@ -7,6 +7,7 @@ use mathlib.Core.List.{List}
 use mathlib.Core.Path.{◌≡◌, sym, ap, subst, ◌∙◌}
 use lib.Ieee.{Float}
 use lib.ListN.{length}
+use Rattle.grid.proofs.Instances.{DistanceType, float-type, sixteen-type, eight-type}
 use Rattle.lists.specs.Lists.{many}
 use Rattle.grid.specs.declared.Block.{Block}
 use Rattle.grid.specs.Block.{box_of, flags_of, field_of}
@@ -14,13 +15,10 @@ use Rattle.grid.specs.Inside.{Inside}
 use Rattle.skin.specs.Links.{link, same_link, links}
 use Rattle.skin.specs.Scan.{answers, examined_layer}
 use Rattle.skin.proofs.Judged.{yes-closed}
+use Rattle.skin.proofs.Said.{same-said}
 use Rattle.skin.proofs.LayerByLayer.{every-yes}
 use Rattle.skin.proofs.layer.is_enclosed_layer.Kinds as layer-kinds
 use Rattle.skin.proofs.layer.is_enclosed_layer.Reads as layer-reads
-use Rattle.skin.proofs.layer.is_enclosed_layer_i16.Kinds as layer-i16-kinds
-use Rattle.skin.proofs.layer.is_enclosed_layer_i16.Reads as layer-i16-reads
-use Rattle.skin.proofs.layer.is_enclosed_layer_i8.Kinds as layer-i8-kinds
-use Rattle.skin.proofs.layer.is_enclosed_layer_i8.Reads as layer-i8-reads
 use Rattle.bed.specs.Words12.{dims_asked, low_asked, high_asked}
 use Rattle.bed.proofs.Places.{EnclosedLayerCall, is-enclosed-layer-by-place}
 use Rattle.bed.proofs.enclosed.bed_is_enclosed_layer.Kinds as bed-layer-kinds
@@ -68,14 +66,23 @@ module _ (sdf : List Float) (k : Block) (inside : Inside sdf k) {n : ℕ} {s : S
 
 -- ---- two outcomes that fit are equal
 
-pub is-enclosed-layer-once : OneOutcome 1 layer-kinds.ps layer-kinds.r layer-reads.Learnt
-is-enclosed-layer-once κs a o o' l l' = let s = l ∙ sym l' in λ i. record { result = s i; last = o.last }
+-- on numbers of a type
+abbrev pub OneLayerTest : DistanceType → Type 0
+OneLayerTest D =
+    OneOutcome 2 (layer-kinds.ps D.type D.laws D.copy) (layer-kinds.r D.type D.laws D.copy)
+    (layer-reads.Learnt D.type D.laws D.copy D.distance D.distance_dict D.clone D.clone_dict)
 
-pub is-enclosed-layer-i16-once : OneOutcome 1 layer-i16-kinds.ps layer-i16-kinds.r layer-i16-reads.Learnt
-is-enclosed-layer-i16-once κs a o o' l l' = let s = l ∙ sym l' in λ i. record { result = s i; last = o.last }
+pub one-layer-test : (D : DistanceType) → OneLayerTest D
+one-layer-test D κs a o o' l l' = let s = same-said _ _ (l ∙ sym l') in λ i. record { result = s i; last = o.last }
 
-pub is-enclosed-layer-i8-once : OneOutcome 1 layer-i8-kinds.ps layer-i8-kinds.r layer-i8-reads.Learnt
-is-enclosed-layer-i8-once κs a o o' l l' = let s = l ∙ sym l' in λ i. record { result = s i; last = o.last }
+pub is-enclosed-layer-once : OneLayerTest float-type
+is-enclosed-layer-once = one-layer-test float-type
+
+pub is-enclosed-layer-i16-once : OneLayerTest sixteen-type
+is-enclosed-layer-i16-once = one-layer-test sixteen-type
+
+pub is-enclosed-layer-i8-once : OneLayerTest eight-type
+is-enclosed-layer-i8-once = one-layer-test eight-type
 
 pub bed-is-enclosed-layer-once : OneOutcome 3 bed-layer-kinds.ps bed-layer-kinds.r bed-layer-reads.Learnt
 bed-is-enclosed-layer-once κs a o o' l l' = let s = l ∙ sym l' in λ i. record { result = (s i).answer; last = (tt, (tt, (tt, ((s i).enclosed, tt)))) }

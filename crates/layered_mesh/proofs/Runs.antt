@@ -1,4 +1,4 @@
--- The calls of `layers::offer`, and of bed_layers_offer, with an outcome that fits the contract: each is an offer with what came of it. So the theorems over offers are
+-- The calls of `State::offer`, and of bed_layers_offer, with an outcome that fits the contract: each is an offer with what came of it. So the theorems over offers are
 -- theorems over the generated contracts. Last, all layers of a grid offered in turn by calls, of either: each is answered 0, and what came out is the whole call's mesh.
 -- Assumes nothing.
 use Prim.Native.Nat.{ℕ, suc, ◌+◌, ◌<◌}
@@ -11,12 +11,12 @@ use borrow.Fn.Kinds.{Dens}
 use Rattle.rules.specs.Call.{Buffers, answers, answer, room, afterwards}
 use Rattle.grid.specs.declared.Block.{Block}
 use Rattle.grid.specs.Block.{call_of}
-use Rattle.judge.specs.AsRules.{answer_of}
+use Rattle.layers.specs.Answer.{answer_of}
 use Rattle.layers.specs.Memory.{Memory, memory, lengths, start_answer}
 use Rattle.layers.specs.Offer.{begun, output, left}
 use Rattle.layers.specs.Words.{state_of, words_of}
-use Rattle.layers.proofs.offer.Kinds as offer-kinds
-use Rattle.layers.proofs.offer.Reads as offer
+use Rattle.layers.proofs.State.offer.Kinds as offer-kinds
+use Rattle.layers.proofs.State.offer.Reads as offer
 use Rattle.bed.specs.Boundary.{said}
 use Rattle.bed.proofs.Places.{OfferCall}
 use Rattle.promises.proofs.OneOutcome.{Outcome, FitsContract}
@@ -24,26 +24,26 @@ use Rattle.layered_mesh.specs.Fed.{Offered, first_of, map_apart, layer_of, verti
 use Rattle.layered_mesh.proofs.Words.{words-read, offered-for-c}
 use Rattle.layered_mesh.proofs.Taken.{AsLong, InTurn, out_at, all-taken, all-out}
 
--- ---- layers::offer
+-- ---- State::offer
 
 -- arguments, an outcome, and that it fits the contract
 pub record Run : Type 0 where
-  pub lifetimes : Lfts 10
+  pub lifetimes : Lfts 11
   pub args : Dens lifetimes offer-kinds.ps
-  pub outcome : Outcome 10 offer-kinds.ps offer-kinds.r lifetimes args
-  pub fits : FitsContract 10 offer-kinds.ps offer-kinds.r offer.Learnt lifetimes args outcome
+  pub outcome : Outcome 11 offer-kinds.ps offer-kinds.r lifetimes args
+  pub fits : FitsContract 11 offer-kinds.ps offer-kinds.r offer.Learnt lifetimes args outcome
 
 abbrev pub offered : Run → Offered
 offered u =
     let (s, (layer, (distances, (map, (kept, (positions, (normals, (cells, (strides, (crossings, (indices, _))))))))))) = u.args in
-    let (_, (_, (distances', (map', (kept', (positions', (normals', (cells', (strides', (crossings', (indices', _))))))))))) = u.outcome.last in
+    let (s', (_, (distances', (map', (kept', (positions', (normals', (cells', (strides', (crossings', (indices', _))))))))))) = u.outcome.last in
     record {
-      state = s;
+      state = s.now;
       layer = layer.now;
       memory = memory distances.now map.now kept.now;
       lent = output positions.now normals.now cells.now strides.now crossings.now indices.now;
-      says = answer_of u.outcome.result.answer;
-      next = u.outcome.result.state;
+      says = answer_of u.outcome.result;
+      next = s';
       after = left (memory distances' map' kept') (output positions' normals' cells' strides' crossings' indices');
       answered = u.fits.0;
       moved = u.fits.1.0;
@@ -72,7 +72,7 @@ bed_offered u long =
 module _ (sdf : List Float) (k : Block) (t : Buffers) (done : (answer (call_of sdf k) (room t)).number ≡ 0) (m : Memory) where
   -- by calls of `offer`
   module _ (runs : ℕ → Run) (in-turn : InTurn sdf k t done m (λ n. offered (runs n))) where
-    pub offers-taken : (n : ℕ) → n < points_in_z k → answer_of (runs n).outcome.result.answer ≡ answers 0 (length (vertices_with sdf k n)) (length (indices_with sdf k n))
+    pub offers-taken : (n : ℕ) → n < points_in_z k → answer_of (runs n).outcome.result ≡ answers 0 (length (vertices_with sdf k n)) (length (indices_with sdf k n))
     offers-taken = all-taken sdf k t done m (λ n. offered (runs n)) in-turn
 
     pub offers-out : out_at sdf k t done m (λ n. offered (runs n)) in-turn (points_in_z k)

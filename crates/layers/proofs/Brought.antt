@@ -4,7 +4,7 @@ use native.Mathlib.Nat.{zero-add}
 use native.Mathlib.Omega.{arith}
 use mathlib.Core.Bool.{Bool, cond}
 use mathlib.Core.List.{List, ◌++◌, map}
-use mathlib.Core.Path.{◌≡◌, sym, ap, ap₂, subst, ◌∙◌}
+use mathlib.Core.Path.{◌≡◌, refl, sym, ap, ap₂, subst, ◌∙◌}
 use borrow.Author.Tests.{eq-eqb, ne_eqb}
 use lib.Dec.{T}
 use lib.Ieee.{Float}
@@ -112,16 +112,6 @@ module _ {s : State} {layer distances : List Float} (r : Ready s layer distances
         ap (λ (l : Lists). lists l.positions l.normals l.cells l.strides l.crossings (take at mp ++ (l.map ++ drop (at + length layer - at) (drop at mp)))) same
         ∙ ap (λ (l : List ℕ). lists L.positions L.normals L.cells L.strides L.crossings l) stored
 
-    -- and the map is as long as it was
-    pub back_long : (p₀ n₀ : List Float) (c₀ st₀ cr₀ mp : List ℕ) {number : ℕ} → number ≡ new_first s layer distances → 2 * plane s.block ≤ length mp
-        → {p n : List Float} {c st cr q : List ℕ}
-        → lists p n c st cr q ≡ marked (two_layers lower layer s.block (cells_at s)) (box_of s.block) (cells_at s) (record { place = 0; number = number })
-        (lists p₀ n₀ c₀ st₀ cr₀ (take (at + length layer - at) (drop at mp)))
-        → length (take at mp ++ (q ++ drop (at + length layer - at) (drop at mp))) ≡ length mp
-    back_long p₀ n₀ c₀ st₀ cr₀ mp en long e =
-        ap (λ (l : Lists). length l.map) (marked-put p₀ n₀ c₀ st₀ cr₀ mp en long e)
-        ∙ length-sets mp _ (new_lists s layer distances (lists p₀ n₀ c₀ st₀ cr₀ (half_of s.block (before s) mp))).map
-
   -- ---- what the faces are lent, and leave
 
   pub standing-lent : (mp : List ℕ) {mp' : List ℕ} → mp' ≡ half_of s.block (before s) mp → {first : ℕ} {cs : List ℕ} {ps : List Float}
@@ -143,9 +133,6 @@ module _ {s : State} {layer distances : List Float} (r : Ready s layer distances
 
   -- the half below
   module _ (mp : List ℕ) {mu : List ℕ} (eu : mu ≡ half_of s.block s.taken mp) where
-    pub under-corner : 2 * plane s.block ≤ length mp → in_layer (point s.block.dims) (point s.block.high) < length mu
-    under-corner long = omega (arith, corner-low r, ap length eu ∙ half_length k s.taken mp long)
-
     pub faces-put : (first below : ℕ) (kept : List Float) (ix₀ : List ℕ) {ix : List ℕ}
         → ix ≡ sets ix₀ 0 (indices_over (two_layers lower layer s.block (cells_at s)) (box_of s.block) (flags_of s.block) first (cells_at s)
         (record { map = mu; positions = kept; first = below }))
@@ -176,6 +163,16 @@ module _ {s : State} {layer distances : List Float} (r : Ready s layer distances
       let size : length q ≡ length layer = ap length same ∙ length-placed entry 0 (half_of k s.taken mp) ∙ half_length k s.taken mp long ∙ sym r.offered.long in
       part-stored mp q at (omega (arith, half-end k s.taken r.offered.long ea)) (at + length layer) (omega arith)
       ∙ ap₂ (λ (a : ℕ) (l : List ℕ). sets mp a l) (half_is k s.taken r.offered.long ea) same
+
+-- ---- and in its half of the kept distances
+
+pub layer-put : {s : State} {layer distances : List Float} (r : Ready s layer distances) {at : ℕ} → at ≡ length layer * (s.taken % 2) → {new : List Float} → new ≡ layer
+    → take at distances ++ (new ++ drop (at + length layer - at) (drop at distances)) ≡ put_half s.block s.taken layer distances
+layer-put {s} {layer} {distances} r {at} ea e =
+    let k = s.block in
+    ap (λ (l : List Float). take at distances ++ (l ++ drop (at + length layer - at) (drop at distances))) e
+    ∙ part-stored distances layer at (omega (arith, half-end k s.taken r.offered.long ea, r.kept)) (at + length layer) refl
+    ∙ ap (λ (a : ℕ). sets distances a layer) (half_is k s.taken r.offered.long ea)
 
 -- ---- what a layer after the first brings out
 
@@ -228,10 +225,6 @@ module _ {s : State} {layer distances : List Float} {o : Output} {mp₀ : List �
 
   pub map-long : 2 * plane s.block ≤ length mp
   map-long = omega (arith, ap length map_is ∙ length-sets mp₀ _ new)
-
-  pub cells-hold : {m : ℕ} → m ≡ length (new_vertices s layer distances) → 3 * m ≤ length c
-  unfolding marked
-  cells-hold h = omega (arith, w.cells, ap (λ (l : Lists). length l.cells) e ∙ length-sets o.cells _ (flat_points vs))
 
   pub positions-hold : {m : ℕ} → m ≡ length (new_vertices s layer distances) → 3 * m ≤ length p
   unfolding marked

@@ -1,16 +1,14 @@
 -- A layer that is about to be taken: the cells below it lie between two layers of distances, they are few, and their count is that of what is brought
 -- out. Assumes nothing.
 use Prim.Native.Nat.{ℕ, ◌+◌, ◌-◌, ◌*◌, ◌%◌, ◌≤◌, ◌<◌}
-use native.Mathlib.Nat.{mul-le-mul, mul-le-mul_left, mul-one, mod-lt, le_refl, le_trans, le_of_eq}
+use native.Mathlib.Nat.{mul-le-mul, le_trans, le_of_eq}
 use native.Mathlib.Omega.{arith}
 use mathlib.Core.Bool.{cond}
 use mathlib.Core.List.{List, []}
 use mathlib.Core.Logic.{◌⊎◌, inl, inr}
 use mathlib.Core.Path.{◌≡◌, sym, ap, ap₂, ◌∙◌}
 use borrow.Author.Tests.{eq-eqb, ne_eqb, lt-ltb, le-ltb}
-use mir.Syntax.{w32, w64}
-use mir.Val.{Fits}
-use lib.Dec.{eqb, lit<}
+use lib.Dec.{eqb}
 use lib.ListN.{length, take, drop}
 use lib.Ieee.{Float}
 use Rattle.lists.specs.Lists.{keep}
@@ -19,7 +17,7 @@ use Rattle.rules.specs.Vertices.{layer_cells, surface_cell, layer_vertices, null
 use Rattle.rules.specs.Faces.{Flags, layer_edges}
 use Rattle.lists.proofs.Tests.{less-or-not}
 use Rattle.lists.proofs.Lists.{length-keep, many-most, joined_length}
-use Rattle.rules.proofs.Indexes.{BoxFits, box-fits, small}
+use Rattle.rules.proofs.Indexes.{BoxFits, box-fits}
 use Rattle.grid.specs.declared.Block.{Block}
 use Rattle.grid.specs.Block.{point, box_of, flags_of}
 use Rattle.grid.specs.Layers.{in_layer, InLayers}
@@ -190,34 +188,10 @@ half-read k t l {n} en ea = kept_read k t l en (kept-part n t l ea)
 pub half-end : (k : Block) (t : ℕ) {n at : ℕ} → n ≡ plane k → at ≡ n * (t % 2) → at + n ≤ 2 * plane k
 half-end k t en ea = let e = half_is k t en ea in omega (arith, half-ends k t)
 
--- it ends within two layers, which are few
-pub record Within (size at n : ℕ) : Type 0 where
-  pub ordered : at ≤ at + n
-  pub inside : at + n ≤ size
-  pub end_fits : Fits w64 (at + n)
-  pub bytes_fit : Fits w64 (at * 4)
-
-pub kept_half : (n t : ℕ) {at size : ℕ} → at ≡ n * (t % 2) → 2 * n ≤ size → n ≤ 1073741824 → Within size at n
-kept_half n t {at} ea long few =
-    let one : t % 2 ≤ 1 = omega (arith, mod-lt t (lit< {m = 0} {n = 2} tt)) in
-    let low : at ≤ n = omega (arith, mul-le-mul_left n one, mul-one n) in
-    record { ordered = omega arith; inside = omega arith; end_fits = record { fits = omega arith }; bytes_fit = record { fits = omega arith } }
-
 -- two layers as long as the one offered are there, where two of the state's are
 pub two-layers : {s : State} {layer distances : List Float} → Ready s layer distances → {size : ℕ} → 2 * plane s.block ≤ size
     → (2 * length layer ≤ size) × (length layer ≤ 1073741824)
 two-layers r h = let p = plane-small r in (omega (arith, r.offered.long), omega (arith, r.offered.long))
-
-pub within-half : {s : State} {layer distances : List Float} → Ready s layer distances → (t : ℕ) {at : ℕ} → at ≡ length layer * (t % 2)
-    → Within (2 * plane s.block) at (length layer)
-within-half {s} {layer} r t ea = let h = two-layers r (le_refl (2 * plane s.block)) in kept_half (length layer) t ea h.0 h.1
-
--- the layer of cells below the layer offered has a number that fits a word
-pub cells-word : {s : State} {layer distances : List Float} → Ready s layer distances → Fits w32 (s.block.low.z + (s.taken - 1))
-cells-word {s} r =
-    let f = box-fits (point s.block.dims) (box_of s.block) r.offered.box in
-    let d = small (point s.block.dims) r.offered.dims in
-    record { fits = omega (arith, r.more) }
 
 -- room for what is brought out, as the vertices ask for it
 pub new-room : {s : State} {layer : List Float} {m : Memory} {o : Output} → Roomy s layer m o → {number : ℕ} → number ≡ new_first s layer m.distances

@@ -49,6 +49,9 @@ module _ {A : Type 0} (l new : List A) (a : ℕ) (fits : a + length new ≤ leng
       ∙ sym (sets-eq new l a fits)
 
 -- from the first place on
+pub front-stored : {A : Type 0} (l new : List A) → length new ≤ length l → (n : ℕ) → n ≡ length new → new ++ drop n l ≡ sets l 0 new
+front-stored l new fits n e = ap (λ (m : ℕ). new ++ drop m l) (omega arith) ∙ sym (sets-eq new l 0 (omega arith))
+
 pub sets-front : {A : Type 0} (l new : List A) → length new ≤ length l → (n : ℕ) → length new ≡ n → take n (sets l 0 new) ≡ new
 sets-front l new h n e = sets-part l new 0 (omega arith) n e
 
@@ -100,6 +103,3 @@ module _ {A : Type 0} (k : Block) (t : ℕ) (l : List A) (long : 2 * plane k ≤
         go : Sides k t → half_of k (t + 1) (put_half k t new l) ≡ half_of k (t + 1) l
         go (lower h u) = ap (take (plane k)) (sets-after l new (half k t) fits (half k (t + 1)) (omega arith))
         go (upper h u) = sets-before l new (half k t) fits (half k (t + 1)) (plane k) (omega arith)
-
-    pub half-stored : (end : ℕ) → end ≡ half k t + plane k → take (half k t) l ++ (new ++ drop (end - half k t) (drop (half k t) l)) ≡ put_half k t new l
-    half-stored end h = part-stored l new (half k t) fits end (omega arith)

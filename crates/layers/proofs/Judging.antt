@@ -1,13 +1,14 @@
 -- The answers by the tests that led to them, and condition 5 of one layer. Assumes nothing.
-use Prim.Native.Nat.{ℕ, ◌+◌, ◌-◌, ◌*◌, ◌≤◌, ◌<◌}
+use Prim.Native.Nat.{◌+◌, ◌-◌, ◌*◌, ◌≤◌, ◌<◌}
 use native.Mathlib.Nat.{mul-one, mul-le-mul_left, le_trans, le_of_eq}
 use native.Mathlib.Omega.{arith}
 use mathlib.Core.Bool.{Bool, true, false, not, ◌||◌}
-use mathlib.Core.List.{List, []}
+use mathlib.Core.List.{List}
 use mathlib.Core.Path.{◌≡◌, refl, sym, ◌∙◌}
 use borrow.Author.Tests.{le-ltb, le-leb, lt-leb, eq-eqb, ne_eqb}
 use lib.Dec.{T, ltb, nltb→le}
 use lib.ListN.{length}
+use Rattle.std.proofs.Common.{Err}
 use lib.Ieee.{Float}
 use Rattle.lists.specs.Lists.{run, some, up_to}
 use Rattle.rules.specs.Faces.{layer_points}
@@ -17,9 +18,12 @@ use Rattle.rules.proofs.Indexes.{BoxFits, box-fits}
 use Rattle.grid.specs.declared.Block.{Block}
 use Rattle.grid.specs.Block.{point, box_of, field_of}
 use Rattle.grid.specs.Inside.{Inside}
-use Rattle.grid.specs.Values.{Wholes}
 use Rattle.grid.proofs.Bounds.{few}
+use Rattle.judge.proofs.Judging.{refused-some as call-refused}
+use Rattle.layers.specs.declared.Refusal.{Refusal}
+use Rattle.layers.specs.declared.Refusal.TheVariants.{Call, Full}
 use Rattle.layers.specs.declared.State.{State}
+use Rattle.layers.specs.Answer.{answer_of}
 use Rattle.layers.specs.Memory.{Memory, Lengths, lengths, plane, bad_memory, start_answer}
 use Rattle.layers.specs.Offer.{new_vertices, new_indices, finished, bad_layer_length, bad_points, layer_answer}
 use Rattle.layers.specs.Ready.{Layer}
@@ -68,10 +72,6 @@ module _ (k : Block) (layer : List Float) (o : Layer k layer) where
   pub flat-inside : Inside layer (flat k)
   unfolding bad_length
   flat-inside = record { dims = flat-dims; box = flat-box; size = rw (eq-eqb (length layer) (plane k * 1) (o.long ∙ sym (mul-one (plane k)))) tt }
-
--- no whole numbers are lent with it
-pub no-numbers : (w : ℕ) → Wholes w []
-no-numbers w i h = absurd (omega arith)
 
 or-false : (t : Bool) → (t || false) ≡ t
 or-false true = refl
@@ -154,6 +154,11 @@ wrong-length k layer h = rw (ne_eqb (length layer) (plane k) h)
 
 pub right-length : (k : Block) (layer : List Float) → length layer ≡ plane k → bad_layer_length k layer ≡ false
 right-length k layer e = rw (eq-eqb (length layer) (plane k) e)
+
+-- a refusal's number is not that of none
+pub refused-some : (r : Refusal) → (answer_of (Err r)).number ≡ 0 → ⊥
+refused-some (Call r) e = call-refused r e
+refused-some Full e = omega arith
 
 -- enough memory is kept
 pub record Enough (k : Block) (r : Lengths) : Type 0 where

@@ -2,6 +2,7 @@
 pub mod BedInNumbers
 pub mod Halves
 pub mod Judging
+pub mod Said
 pub mod Cells
 pub mod Brought
 pub mod Left

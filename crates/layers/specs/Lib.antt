@@ -4,3 +4,4 @@ pub mod Offer
 pub mod Ready
 pub mod Lent
 pub mod Words
+pub mod Answer

@@ -11,7 +11,8 @@ ghost use Rattle.layers.specs.Offer.{left, between, cells_at, before, new_vertic
 ghost use Rattle.layers.specs.Lent.{output_given, output_before, output_after};
 ghost use Rattle.layers.specs.Ready.{Ready, Roomy};
 
-use crate::{State, keeping};
+use crate::State;
+use crate::keeping::{half, half_of};
 use layer_faces::Firsts;
 use layer_vertices::Next;
 
@@ -52,17 +53,13 @@ fn mark_kept(
     let k = s.block;
     let t = s.taken - 1;
     let plane = layer.len();
-    let at = keeping::half(plane, t);
+    let lower = half_of(distances, plane, t);
+    let at = half(plane, t);
     let end = at + plane;
     let next = Next { place: 0, number };
     layer_vertices::mark_layer(
-        32,
-        keeping::kept_distances(distances, plane, t),
+        lower,
         layer,
-        &[],
-        &[],
-        &[],
-        &[],
         k,
         k.low.z + t,
         next,
@@ -100,25 +97,22 @@ fn face_kept(
         (record { map = half_of s.block s.taken map.entry.now; positions = kept.now; first = first.below })) }
 {
     let k = s.block;
-    let taken = s.taken;
-    let t = taken - 1;
+    let t = s.taken - 1;
     let plane = layer.len();
+    let lower = half_of(distances, plane, t);
+    let here = half_of(map, plane, t);
+    let below = half_of(map, plane, s.taken);
     let last = 3 * count;
     layer_faces::face_layer(
-        32,
-        keeping::kept_distances(distances, plane, t),
+        lower,
         layer,
-        &[],
-        &[],
-        &[],
-        &[],
         k,
         k.low.z + t,
         first,
         &cells[..last],
-        keeping::kept_map(map, plane, t),
+        here,
         &positions[..last],
-        keeping::kept_map(map, plane, taken),
+        below,
         kept,
         indices,
         0,
@@ -160,5 +154,5 @@ pub(crate) fn bring_out(
         s, first, count, layer, distances, map, kept, positions, cells, indices,
     );
     let last = 3 * count;
-    keeping::copy(&positions[..last], kept, 0);
+    kept[..last].copy_from_slice(&positions[..last]);
 }

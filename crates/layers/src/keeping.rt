@@ -1,22 +1,10 @@
 // What is kept of a layer: its distances, its half of the map, and the positions of the vertices that it brought out.
-ghost use Rattle.std.specs.Prelude.{◌≡◌, ◌+◌, ◌*◌, ◌%◌, ◌≤◌, length, take, drop};
-ghost use Rattle.std.proofs.lemmas.List.Edits.{sets};
+ghost use Rattle.std.specs.Prelude.{◌≡◌, ◌*◌, ◌%◌, ◌≤◌, length, take, drop};
 ghost use Rattle.layers.specs.Memory.{plane, put_half};
 ghost use Rattle.layers.specs.Offer.{cleared};
 ghost use Rattle.layers.specs.Ready.{Ready};
 
 use crate::State;
-
-// A list's numbers into another, from a place on.
-pub(crate) fn copy(from: &[f32], list: &mut [f32], at: usize)
-    requires { at + length from.now ≤ length list.old }
-    ensures { list.new ≡ sets list.old at from.now }
-{
-    let n = from.len();
-    for j in 0usize..n {
-        list[at + j] = from[j];
-    }
-}
 
 // Where the layer number t begins in a list of two layers of `plane` numbers.
 pub(crate) fn half(plane: usize, t: u32) -> usize
@@ -29,22 +17,12 @@ pub(crate) fn half(plane: usize, t: u32) -> usize
 }
 
 // The numbers of the layer number t in such a list.
-pub(crate) fn kept_distances(list: &[f32], plane: usize, t: u32) -> &[f32]
+pub(crate) fn half_of<T>(list: &[T], plane: usize, t: u32) -> &[T]
     requires { (2 * plane ≤ length list.now) × (plane ≤ 1073741824) }
     ensures { result.now ≡ take plane (drop (plane * (t % 2)) list.now) }
 {
     let at = half(plane, t);
-    let end = at + plane;
-    &list[at..end]
-}
-
-pub(crate) fn kept_map(list: &[u32], plane: usize, t: u32) -> &[u32]
-    requires { (2 * plane ≤ length list.now) × (plane ≤ 1073741824) }
-    ensures { result.now ≡ take plane (drop (plane * (t % 2)) list.now) }
-{
-    let at = half(plane, t);
-    let end = at + plane;
-    &list[at..end]
+    &list[at..at + plane]
 }
 
 // The layer offered, into its half of the kept distances, and its half of the map, where no point has a vertex yet.
@@ -57,6 +35,6 @@ pub(crate) fn keep_layer(s: State, layer: &[f32], distances: &mut [f32], map: &m
     let plane = layer.len();
     let at = half(plane, s.taken);
     let end = at + plane;
-    copy(layer, distances, at);
+    distances[at..end].copy_from_slice(layer);
     layer_vertices::clear_layer(s.block, &mut map[at..end]);
 }

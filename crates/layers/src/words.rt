@@ -1,68 +1,69 @@
 // A state as the fifteen numbers that C keeps of it, so that whatever stands in its memory is a state.
-ghost use Rattle.std.specs.Prelude.{◌≡◌, ◌<◌};
-ghost use Rattle.lists.specs.Lists.{one};
-ghost use Rattle.layers.specs.Words.{extent_at, state_of, words_of, words_on};
+ghost use Rattle.std.specs.Prelude.{◌≡◌};
+ghost use Rattle.layers.specs.Words.{state_of, words_of, words_on};
 
 use crate::State;
 use grid::{Block, EachAxis, Extent};
 
-fn word(yes: bool) -> u32
-    ensures { result ≡ one yes }
-{
-    if yes {
-        return 1;
-    }
-    0
-}
+impl From<State> for [u32; 15] {
+    ghost from_gives = { λ s words. words ≡ words_of s };
 
-pub fn words(s: State) -> [u32; 15]
-    ensures { result ≡ words_of s }
-{
-    let k = s.block;
-    let x = word(k.max_plane.x);
-    let y = word(k.max_plane.y);
-    let z = word(k.max_plane.z);
-    [
-        k.dims.x, k.dims.y, k.dims.z, k.low.x, k.low.y, k.low.z, k.high.x, k.high.y, k.high.z, x,
-        y, z, s.taken, s.next, s.first,
-    ]
-}
-
-// Three of the numbers, by their places.
-fn extent(w: &[u32; 15], x: usize, y: usize, z: usize) -> Extent
-    requires { (x < 15) × (y < 15) × (z < 15) }
-    ensures { result ≡ extent_at w.now x y z }
-{
-    Extent {
-        x: w[x],
-        y: w[y],
-        z: w[z],
+    fn from(s: State) -> [u32; 15] {
+        let k = s.block;
+        let m = k.max_plane;
+        [
+            k.dims.x,
+            k.dims.y,
+            k.dims.z,
+            k.low.x,
+            k.low.y,
+            k.low.z,
+            k.high.x,
+            k.high.y,
+            k.high.z,
+            u32::from(m.x),
+            u32::from(m.y),
+            u32::from(m.z),
+            s.taken,
+            s.next,
+            s.first,
+        ]
     }
 }
 
 // A flag is set where its number is not 0.
-pub fn state(w: &[u32; 15]) -> State
-    ensures { result ≡ state_of w.now }
-{
-    let dims = extent(w, 0, 1, 2);
-    let low = extent(w, 3, 4, 5);
-    let high = extent(w, 6, 7, 8);
-    let max_plane = EachAxis {
-        x: w[9] != 0,
-        y: w[10] != 0,
-        z: w[11] != 0,
-    };
-    let block = Block {
-        dims,
-        low,
-        high,
-        max_plane,
-    };
-    State {
-        block,
-        taken: w[12],
-        next: w[13],
-        first: w[14],
+impl From<[u32; 15]> for State {
+    ghost from_gives = { λ words s. s ≡ state_of words };
+
+    fn from(w: [u32; 15]) -> State {
+        let block = Block {
+            dims: Extent {
+                x: w[0],
+                y: w[1],
+                z: w[2],
+            },
+            low: Extent {
+                x: w[3],
+                y: w[4],
+                z: w[5],
+            },
+            high: Extent {
+                x: w[6],
+                y: w[7],
+                z: w[8],
+            },
+            max_plane: EachAxis {
+                x: w[9] != 0,
+                y: w[10] != 0,
+                z: w[11] != 0,
+            },
+        };
+        State {
+            block,
+            taken: w[12],
+            next: w[13],
+            first: w[14],
+        }
     }
 }
 

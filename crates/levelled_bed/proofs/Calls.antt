@@ -134,6 +134,9 @@ module _ (w : Whole) (done : w.answer ≡ 0) (o : ℕ → Offer) (t : InTurn w o
       leaves (last_of w.box) (le_refl _) (enters (last_of w.box) (le_refl _))
       ∙ (layers-are-whole w.sdf w.dims w.box w.entry (sym w.said ∙ done) accepted ∙ sym w.left)
 
+  pub all-in-turn : ((n : ℕ) → n ≤ last_of w.box → (o n).answer ≡ 0) × ((o (last_of w.box)).exit ≡ w.exit)
+  all-in-turn = (each-answered, last-leaves)
+
 -- the other way round: each layer answered 0, and a grid of the right length
 module _ (w : Whole) (fits : bad_length w.dims (length w.sdf) ≡ false) (o : ℕ → Offer) (t : InTurn w o) (each : (n : ℕ) → n ≤ last_of w.box → (o n).answer ≡ 0) where
   long : (n : ℕ) → n ≤ last_of w.box → length (o n).entry ≡ length w.entry

@@ -15,8 +15,11 @@ use Rattle.grid.specs.Faults.{first_fault}
 use Rattle.grid.specs.Layers.{in_layer}
 use Rattle.grid.specs.Inside.{Inside}
 use Rattle.grid.proofs.Bounds.{few}
-use Rattle.grid.proofs.Faults.{Faultless, first-answers}
+use Rattle.grid.proofs.Faults.{fault-some, Faultless, first-answers}
 use Rattle.levels.specs.Columns.{columns, in_column, level_of, layer_level, changed}
+use Rattle.levels.specs.Answers.{number_of}
+use Rattle.levels.specs.declared.answers.Refusal.{Refusal}
+use Rattle.levels.specs.declared.answers.Refusal.TheVariants.{Grid, Distance, Outside, Room}
 use Rattle.levels.specs.Call.{grid_of, bad_room, levels_answer, levels_after, outside, bad_layers, bad_points, bad_distances, layer_answer, layer_after}
 use Rattle.levels.specs.Fits.{Laid, column_step, lowest_step, Plane, Taken}
 use Rattle.levels.proofs.Changed.{changed-same}
@@ -289,3 +292,10 @@ laid_both k lower upper d e =
     let g : 0 + k.dims.x * k.dims.y ≤ length lower = omega arith in
     let h : 0 + k.dims.x * k.dims.y ≤ length upper = omega arith in
     record { below = g; here = h; few = (zero-le, zero-le) }
+
+-- a refusal's number is not that of none
+pub refused-some : (r : Refusal) → number_of r ≡ 0 → ⊥
+refused-some (Grid f) e = fault-some f refl e
+refused-some Distance e = omega arith
+refused-some Outside e = omega arith
+refused-some Room e = omega arith

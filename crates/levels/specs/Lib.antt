@@ -4,3 +4,4 @@ pub mod Column
 pub mod Columns
 pub mod Call
 pub mod Fits
+pub mod Answers

@@ -1,39 +1,64 @@
 // The answers, before anything is written: those to a whole grid, and those to a layer with the layer below it.
 ghost use Rattle.std.specs.Prelude.{◌≡◌, false, not, ◌||◌, length, if◌then◌else◌, ◌==◌};
 ghost use Rattle.grid.specs.Block.{point, box_of};
-ghost use Rattle.grid.specs.Values.{grid_given, grid_before};
+ghost use Rattle.levels.specs.Answers.{number_of, answer_of};
 ghost use Rattle.levels.specs.Columns.{columns};
 ghost use Rattle.levels.specs.Call.{bad_points, bad_distances, outside, levels_answer, layer_answer};
 ghost use Rattle.levels.specs.Fits.{Roomy, Plane};
 
 use crate::rising::column_count;
+use grid::checks::{Fault, bad_box, bad_dimensions, first_fault};
+use grid::scan::{bad_distance, bad_layer};
+use grid::values::Distance;
 use grid::{Block, Extent};
 
-// The answer to a whole grid.
-pub(crate) fn levels_answer(
-    width: u32,
-    sdf: &[f32],
-    sdf16: &[i16],
-    sdf8: &[i8],
-    k: Block,
-    room: usize,
-) -> u32
-    ensures { result ≡ levels_answer (grid_before width sdf sdf16 sdf8) (point k.dims) (box_of k) room }
-{
-    let fault = grid::values::first_fault_of(k, width, sdf, sdf16, sdf8);
-    if fault != 0 {
-        return fault;
-    }
-    if grid::scan::bad_distance(width, sdf, sdf16, sdf8, k) {
-        return 5;
-    }
-    if room < column_count(k) {
-        return 78;
-    }
-    0
+// Why a call is refused: document 01's conditions 1, 2, 3 and 5, a z that is no layer of the box, and lent room for fewer numbers than there are columns.
+#[derive(Clone, Copy, Debug, PartialEq, Eq)]
+pub enum Refusal {
+    Grid(Fault),
+    Distance,
+    Outside,
+    Room,
 }
 
-// 77: z is no layer of the box.
+impl From<Fault> for Refusal {
+    ghost use Rattle.levels.specs.declared.answers.Refusal.TheVariants.{Grid};
+
+    ghost from_gives = { λ fault refusal. refusal ≡ Grid fault };
+
+    fn from(fault: Fault) -> Refusal {
+        Refusal::Grid(fault)
+    }
+}
+
+impl From<Refusal> for u32 {
+    ghost from_gives = { λ refusal number. number ≡ number_of refusal };
+
+    fn from(refusal: Refusal) -> u32 {
+        match refusal {
+            Refusal::Grid(fault) => u32::from(fault),
+            Refusal::Distance => 5,
+            Refusal::Outside => 77,
+            Refusal::Room => 78,
+        }
+    }
+}
+
+// The answer to a whole grid.
+pub(crate) fn levels_answer<D: Distance>(sdf: &[D], k: Block, room: usize) -> Result<(), Refusal>
+    ensures { answer_of result ≡ levels_answer (D.floats sdf.now) (point k.dims) (box_of k) room }
+{
+    first_fault(k, sdf.len())?;
+    if bad_distance(sdf, k) {
+        return Err(Refusal::Distance);
+    }
+    if room < column_count(k) {
+        return Err(Refusal::Room);
+    }
+    Ok(())
+}
+
+// z is no layer of the box.
 fn is_outside(k: Block, z: u32) -> bool
     ensures { result ≡ outside (box_of k) z }
 {
@@ -57,9 +82,9 @@ fn bad_lengths(plane: usize, lowest: bool, lower: usize, upper: usize) -> bool
 }
 
 // Condition 5 for one layer: it is scanned as a grid of its own, one layer high.
-fn bad_points(width: u32, layer: &[f32], layer16: &[i16], layer8: &[i8], k: Block) -> bool
-    requires { Plane k (grid_given width layer layer16 layer8) }
-    ensures { result ≡ bad_points (point k.dims) (box_of k) (grid_before width layer layer16 layer8) }
+fn bad_points<D: Distance>(layer: &[D], k: Block) -> bool
+    requires { Plane k (D.floats layer.now) }
+    ensures { result ≡ bad_points (point k.dims) (box_of k) (D.floats layer.now) }
 {
     let dims = Extent {
         x: k.dims.x,
@@ -83,74 +108,54 @@ fn bad_points(width: u32, layer: &[f32], layer16: &[i16], layer8: &[i8], k: Bloc
         high,
         max_plane,
     };
-    grid::values::wholes(layer16, layer8);
-    grid::scan::bad_layer(width, layer, layer16, layer8, flat, 0)
+    bad_layer(layer, flat, 0)
 }
 
 // 5, of both layers: the layer below the lowest is none.
-fn bad_distances(
-    width: u32,
-    lower: &[f32],
-    upper: &[f32],
-    lower16: &[i16],
-    upper16: &[i16],
-    lower8: &[i8],
-    upper8: &[i8],
-    k: Block,
-    lowest: bool,
-) -> bool
-    requires plane { Plane k (grid_given width upper upper16 upper8) }
-    requires plane_2 { lowest ≡ false → Plane k (grid_given width lower lower16 lower8) }
-    ensures { result ≡ (bad_points (point k.dims) (box_of k) (grid_before width upper upper16 upper8)
-        || (if lowest then false else bad_points (point k.dims) (box_of k) (grid_before width lower lower16 lower8))) }
+fn bad_distances<D: Distance>(lower: &[D], upper: &[D], k: Block, lowest: bool) -> bool
+    requires plane { Plane k (D.floats upper.now) }
+    requires plane_2 { lowest ≡ false → Plane k (D.floats lower.now) }
+    ensures { result ≡ (bad_points (point k.dims) (box_of k) (D.floats upper.now)
+        || (if lowest then false else bad_points (point k.dims) (box_of k) (D.floats lower.now))) }
 {
-    if bad_points(width, upper, upper16, upper8, k) {
+    if bad_points(upper, k) {
         return true;
     }
     if lowest {
         return false;
     }
-    bad_points(width, lower, lower16, lower8, k)
+    bad_points(lower, k)
 }
 
 // The answer to a layer.
-pub(crate) fn layer_answer(
-    width: u32,
-    lower: &[f32],
-    upper: &[f32],
-    lower16: &[i16],
-    upper16: &[i16],
-    lower8: &[i8],
-    upper8: &[i8],
+pub(crate) fn layer_answer<D: Distance>(
+    lower: &[D],
+    upper: &[D],
     k: Block,
     z: u32,
     room: usize,
-) -> u32
-    ensures { result ≡ layer_answer (grid_before width lower lower16 lower8) (grid_before width upper upper16 upper8) (point k.dims) (box_of k) z room }
+) -> Result<(), Refusal>
+    ensures { answer_of result ≡ layer_answer (D.floats lower.now) (D.floats upper.now) (point k.dims) (box_of k) z room }
 {
-    if grid::checks::bad_dimensions(k.dims) {
-        return 1;
+    if bad_dimensions(k.dims) {
+        return Err(Refusal::Grid(Fault::Dimensions));
     }
-    if grid::checks::bad_box(k) {
-        return 2;
+    if bad_box(k) {
+        return Err(Refusal::Grid(Fault::Box));
     }
     if is_outside(k, z) {
-        return 77;
+        return Err(Refusal::Outside);
     }
     let lowest = z == k.low.z;
     let plane = (k.dims.x as usize) * (k.dims.y as usize);
-    let below = grid::values::length_of(width, lower, lower16, lower8);
-    let here = grid::values::length_of(width, upper, upper16, upper8);
-    if bad_lengths(plane, lowest, below, here) {
-        return 3;
+    if bad_lengths(plane, lowest, lower.len(), upper.len()) {
+        return Err(Refusal::Grid(Fault::Length));
     }
-    if bad_distances(
-        width, lower, upper, lower16, upper16, lower8, upper8, k, lowest,
-    ) {
-        return 5;
+    if bad_distances(lower, upper, k, lowest) {
+        return Err(Refusal::Distance);
     }
     if room < column_count(k) {
-        return 78;
+        return Err(Refusal::Room);
     }
-    0
+    Ok(())
 }

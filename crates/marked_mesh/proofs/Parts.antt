@@ -1,6 +1,5 @@
 -- A call on the first parts of seven lists: what its contract says of the parts, said of the lists. Over bare lists and lengths. Assumes nothing.
-use Prim.Native.Nat.{ℕ, ◌-◌}
-use native.Mathlib.Nat.{sub-zero}
+use Prim.Native.Nat.{ℕ}
 use mathlib.Core.List.{List, ◌++◌}
 use mathlib.Core.Path.{◌≡◌, ap, ap₂, ◌∙◌}
 use lib.ListN.{take, drop}
@@ -10,12 +9,12 @@ use Rattle.judge.specs.declared.Lengths.{Lengths}
 use Rattle.whole_box.specs.LentLists.{buffers}
 use Rattle.marked_mesh.specs.Marked.{marked, lent_length, lent_marks, rest, behind}
 
--- as the borrow checker writes the part of a list from 0 to p, and the list with that part put back
+-- the first p of a list, and the list with these put back
 abbrev pub part : {A : Type 0} → ℕ → List A → List A
-part p l = take (p - 0) (drop 0 l)
+part p l = take p l
 
 abbrev pub whole : {A : Type 0} → ℕ → List A → List A → List A
-whole p l new = take 0 l ++ (new ++ drop (p - 0) (drop 0 l))
+whole p l new = new ++ drop p l
 
 -- a list before the call, and how much of it is lent
 pub record Lent {A : Type 0} (n : ℕ) (marks l : List A) (p : ℕ) : Type 0 where
@@ -26,10 +25,10 @@ pub lent-list : {A : Type 0} {n : ℕ} {marks l : List A} {p : ℕ} → l ≡ ma
 lent-list e h = record { list = e; length = h }
 
 part-is : {A : Type 0} {n : ℕ} {marks l : List A} {p : ℕ} → Lent n marks l p → part p l ≡ take (lent_length n) marks
-part-is {A = A} {p = p} h = ap₂ (λ (q : ℕ) (k : List A). take q k) (sub-zero p ∙ h.length) h.list
+part-is {A = A} {p = p} h = ap₂ (λ (q : ℕ) (k : List A). take q k) h.length h.list
 
 whole_is : {A : Type 0} {n : ℕ} {marks l : List A} {p : ℕ} (new : List A) → Lent n marks l p → whole p l new ≡ rest n marks new
-whole_is {A = A} {p = p} new h = ap₂ (λ (q : ℕ) (k : List A). new ++ drop q k) (sub-zero p ∙ h.length) h.list
+whole_is {A = A} {p = p} new h = ap₂ (λ (q : ℕ) (k : List A). new ++ drop q k) h.length h.list
 
 module _ (call : Call) (n : Lengths) {P N : List Float} {C S X M I : List ℕ} {p q c s x m i : ℕ}
     (hp : Lent n.positions marked.positions P p)

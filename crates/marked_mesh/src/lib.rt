@@ -6,12 +6,13 @@ mod kept;
 
 ghost use Rattle.std.specs.Prelude.{◌≡◌, ◌≤◌};
 ghost use Rattle.judge.specs.AsRules.{answer_of};
-ghost use Rattle.marks.specs.Marks.{word_marks, float_marks};
-ghost use Rattle.marked_mesh.specs.Marked.{size, byte_marks, lent_length, lists_after, answered, left};
+ghost use Rattle.marks.specs.Marks.{marks};
+ghost use Rattle.marked_mesh.specs.Marked.{size, lent_length, lists_after, answered, left};
 
 use grid::Block;
-use judge::{Answer, Lengths};
-pub use kept::{marks_kept, written};
+use judge::{Lengths, Refusal, Tally};
+pub use kept::written;
+use marks::Mark;
 
 // The first mark of each list; every crossing is marked alike.
 pub const POSITIONS: f32 = 1000.0;
@@ -41,30 +42,16 @@ pub struct Lists {
 
 #[derive(Clone, Copy)]
 pub struct Meshed {
-    pub answer: Answer,
+    pub answer: Result<Tally, Refusal>,
     pub lists: Lists,
 }
 
-fn marked_floats(first: f32) -> [f32; 512]
-    ensures { result ≡ float_marks first size }
+fn marked<M: Mark>(first: M) -> [M; 512]
+    ensures { result ≡ marks M.next first size }
 {
-    let mut list = [0.0f32; 512];
-    marks::mark_floats(&mut list, first);
+    let mut list = [first; 512];
+    marks::fill(&mut list, first);
     list
-}
-
-fn marked_words(first: u32) -> [u32; 512]
-    ensures { result ≡ word_marks first size }
-{
-    let mut list = [0u32; 512];
-    marks::mark_words(&mut list, first);
-    list
-}
-
-fn marked_bytes() -> [u8; 512]
-    ensures { result ≡ byte_marks 100 size }
-{
-    [CROSSINGS; 512]
 }
 
 // How much of a list is lent.
@@ -72,20 +59,20 @@ fn lent(asked: usize) -> usize
     ensures value { result ≡ lent_length asked }
     ensures upper_bound { result ≤ 512 }
 {
-    if asked < 512 { asked } else { 512 }
+    asked.min(512)
 }
 
 pub fn mesh_marked(sdf: &[f32], k: Block, asked: Lengths) -> Meshed
     ensures answer_value { answer_of result.answer ≡ answered sdf.now k asked }
     ensures lists_value { lists_after result.lists ≡ left sdf.now k asked }
 {
-    let mut positions = marked_floats(POSITIONS);
-    let mut normals = marked_floats(NORMALS);
-    let mut cells = marked_words(CELLS);
-    let mut strides = marked_words(STRIDES);
-    let mut crossings = marked_bytes();
-    let mut map = marked_words(MAP);
-    let mut indices = marked_words(INDICES);
+    let mut positions = marked(POSITIONS);
+    let mut normals = marked(NORMALS);
+    let mut cells = marked(CELLS);
+    let mut strides = marked(STRIDES);
+    let mut crossings = marked(CROSSINGS);
+    let mut map = marked(MAP);
+    let mut indices = marked(INDICES);
     let a = lent(asked.positions);
     let b = lent(asked.normals);
     let c = lent(asked.cells);
@@ -99,13 +86,13 @@ pub fn mesh_marked(sdf: &[f32], k: Block, asked: Lengths) -> Meshed
         k.low,
         k.high,
         k.max_plane,
-        &mut positions[0..a],
-        &mut normals[0..b],
-        &mut cells[0..c],
-        &mut strides[0..d],
-        &mut crossings[0..e],
-        &mut map[0..f],
-        &mut indices[0..g],
+        &mut positions[..a],
+        &mut normals[..b],
+        &mut cells[..c],
+        &mut strides[..d],
+        &mut crossings[..e],
+        &mut map[..f],
+        &mut indices[..g],
     );
     let lists = Lists {
         positions,

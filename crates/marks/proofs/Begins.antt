@@ -1,8 +1,8 @@
 -- The loop that asks whether a list begins with stored numbers, and leaves at the first place that holds another: what it keeps from turn to turn, and what
 -- it answers. Assumes nothing.
-use Rattle.std.proofs.Common.{◌≡◌, ℕ, zero, suc, ◌+◌, ◌<◌, ◌≤◌, Bool, true, false, ◌&&◌, eqb, ltb, List, length, get_or, sym, refl, ⊎_elim, add-one, arith, le-ltb, lt-ltb, eq-eqb, ne_eqb}
+use Rattle.std.proofs.Common.{◌≡◌, ℕ, zero, suc, ◌+◌, ◌<◌, ◌≤◌, Bool, true, false, ◌&&◌, sym, refl, ⊎_elim, add-one, arith}
 use Rattle.lists.proofs.Tests.{less-or-not}
-use Rattle.marks.specs.Stored.{stored_word, each_below, place_is}
+use Rattle.marks.specs.Stored.{each_below}
 
 -- the second of two tests fails
 pub fails-second : (a b : Bool) → b ≡ false → false ≡ (a && b)
@@ -31,21 +31,3 @@ module _ (f : ℕ → Bool) where
 
       last : n ≤ j → f n ≡ false
       last h = let here : n ≡ j = omega arith in rw here e
-
-  pub begins-all : {n j : ℕ} → each_below f j ≡ true → j ≤ n → n ≤ j → true ≡ each_below f n
-  begins-all {n} {j} h l m = let here : n ≡ j = omega arith in rw (here, h)
-
--- ---- one place
-
-module _ {A : Type 0} (bits : A → ℕ) (d : A) (xs : List A) (s : List ℕ) (j : ℕ) where
-  pub too_short : length xs ≤ j → place_is bits d xs s j ≡ false
-  unfolding place_is
-  too_short h = rw (le-ltb _ _ h)
-
-  pub another : (bits (get_or xs j d) ≡ stored_word s j → ⊥) → place_is bits d xs s j ≡ false
-  unfolding place_is
-  another h = sym (fails-second (ltb j (length xs)) (eqb (bits (get_or xs j d)) (stored_word s j)) (ne_eqb _ _ h))
-
-  pub the_same : j < length xs → bits (get_or xs j d) ≡ stored_word s j → place_is bits d xs s j ≡ true
-  unfolding place_is
-  the_same h e = rw (lt-ltb _ _ h, eq-eqb _ _ e)

@@ -19,20 +19,10 @@ module _ (dims : GridPoint) (b : Box) (j : ℕ) where
   zero-y e = rw e (fails-second (not (eqb dims.x 0)) false refl)
 
   module _ (x : dims.x ≡ 0 → ⊥) (y : dims.y ≡ 0 → ⊥) where
-    cell-is : cell_at dims b j ≡ (below b.low.x b.high.x (j % dims.x) &&
+    pub cell_is : cell_at dims b j ≡ (below b.low.x b.high.x (j % dims.x) &&
         (below b.low.y b.high.y (j / dims.x % dims.y) && below b.low.z b.high.z (j / dims.x / dims.y)))
     unfolding cell_at
-    cell-is = rw (ne_eqb dims.x 0 x, ne_eqb dims.y 0 y, div-div-eq-div-mul j dims.x dims.y)
-
-    pub out-x : below b.low.x b.high.x (j % dims.x) ≡ false → false ≡ cell_at dims b j
-    out-x e = rw (cell-is, e)
-
-    pub out-y : below b.low.x b.high.x (j % dims.x) ≡ true → below b.low.y b.high.y (j / dims.x % dims.y) ≡ false → false ≡ cell_at dims b j
-    out-y e e' = rw (cell-is, e, e')
-
-    pub by-z : below b.low.x b.high.x (j % dims.x) ≡ true → below b.low.y b.high.y (j / dims.x % dims.y) ≡ true
-        → below b.low.z b.high.z (j / dims.x / dims.y) ≡ cell_at dims b j
-    by-z e e' = rw (cell-is, e, e')
+    cell_is = rw (ne_eqb dims.x 0 x, ne_eqb dims.y 0 y, div-div-eq-div-mul j dims.x dims.y)
 
 -- ---- with max 1 further, the points of the box; with max where it is, the cells
 

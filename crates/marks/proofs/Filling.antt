@@ -1,7 +1,6 @@
 -- The loop that fills a list with marks from the front, over any step from a mark to the next: what it keeps from turn to turn, and that in the
 -- end the list is the marks. Assumes nothing.
-use Rattle.std.proofs.Common.{◌≡◌, ℕ, suc, ◌+◌, ◌-◌, ◌<◌, ◌≤◌, List, ◌∷◌, ◌++◌, length, take, set, refl, ◌∙◌, append-nil, add-one, arith, length-set, take_all, take-suc-set}
-use native.Mathlib.Nat.{sub-zero}
+use Rattle.std.proofs.Common.{◌≡◌, ℕ, suc, ◌+◌, ◌-◌, ◌<◌, ◌≤◌, List, ◌∷◌, ◌++◌, length, take, set, ◌∙◌, append-nil, add-one, arith, length-set, take_all, take-suc-set}
 use lib.Seq.{append_snoc}
 use Rattle.marks.specs.Marks.{marks}
 
@@ -17,9 +16,6 @@ module _ {A : Type 0} (f : A → A) where
     pub within : j ≤ length old
     pub long : length list ≡ length old
     pub held : take j list ++ marks f next (length old - j) ≡ marks f first (length old)
-
-  pub fill_none : (first : A) (old : List A) → Filled first old first 0 old
-  fill_none first old = record { within = omega arith; long = refl; held = rw sub-zero }
 
   pub fill_more : {first : A} {old : List A} {m m' : A} {j : ℕ} {list : List A} → Filled first old m j list → j < length old → m' ≡ f m
       → Filled first old m' (j + 1) (set list j m)

@@ -1,7 +1,6 @@
 -- The loop that asks whether marks are kept but at places that are skipped, over any step from a mark to the next and any test that a number is right
 -- by its place and its mark: what it keeps from turn to turn, and what it answers. Assumes nothing.
 use Rattle.std.proofs.Common.{◌≡◌, ℕ, ◌+◌, ◌-◌, ◌<◌, ◌≤◌, Bool, true, false, ◌||◌, ◌⊎◌, List, ◌∷◌, length, get_or, drop, sym, refl, ◌∙◌, ⊎_elim, add-one, arith, drop_of_length-le, drop-cons}
-use native.Mathlib.Nat.{sub-zero}
 use Rattle.marks.specs.Marks.{marks, kept_but}
 use Rattle.marks.proofs.Filling.{marks-more}
 
@@ -14,9 +13,6 @@ module _ {A : Type 0} (right : ℕ → A → A → Bool) (skipped : ℕ → Bool
   pub record Passed (first : A) (xs : List A) (mark : A) (j : ℕ) : Type 0 where
     pub within : j ≤ length xs
     pub whole : kept_but right skipped j (drop j xs) (marks f mark (length xs - j)) ≡ kept_but right skipped 0 xs (marks f first (length xs))
-
-  pub pass-none : (first : A) (xs : List A) → Passed first xs first 0
-  pass-none first xs = record { within = omega arith; whole = simp sub-zero }
 
   -- the place j, and those after it
   at_place : {first : A} {xs : List A} {m : A} {j : ℕ} → Passed first xs m j → j < length xs → (d : A)

@@ -42,7 +42,10 @@ kept_but right skipped n [] ms = true
 kept_but right skipped n (x ∷ xs) [] = true
 kept_but right skipped n (x ∷ xs) (m ∷ ms) = (skipped n || right n x m) && kept_but right skipped (suc n) xs ms
 
--- from the place `from` on
+-- from the place `from` on, by the step from a mark to the next one and the bits by which two are compared
+abbrev pub kept_from : {A : Type 0} → (A → A) → (A → ℕ) → ℕ → A → List A → Bool
+kept_from next bits from first xs = kept_but (λ j x m. bits x == bits m) (λ j. nat_lt j from) 0 xs (marks next first (length xs))
+
 abbrev pub kept_words : ℕ → ℕ → List ℕ → Bool
 kept_words from first xs = kept_but (λ j. nat_eq) (λ j. nat_lt j from) 0 xs (word_marks first (length xs))
 

@@ -1,14 +1,11 @@
 // Stored numbers, little-endian words of 32 bits, and whether a list begins with them, bit for bit.
-ghost use Rattle.std.specs.Prelude.{◌≡◌, ◌+◌, ◌*◌};
-ghost use Rattle.marks.specs.Stored.{stored_word, words_are, floats_are};
+ghost use Rattle.std.specs.Prelude.{◌≡◌};
+ghost use Rattle.marks.specs.Stored.{stored_word, each_below, place_is};
 
-fn join(a: u8, b: u8, c: u8, d: u8) -> u32
-    ensures { result ≡ a + 256 * b + 65536 * c + 16777216 * d }
-{
-    (a as u32) + 256 * (b as u32) + 65536 * (c as u32) + 16777216 * (d as u32)
-}
+use crate::Mark;
 
 // The number at place j, and 0 past the end.
+#[tactic(auto, unfolding(crate::specs::Stored::stored_word))]
 pub fn word(stored: &[u8], j: usize) -> u32
     ensures { result ≡ stored_word stored.now j }
 {
@@ -16,38 +13,25 @@ pub fn word(stored: &[u8], j: usize) -> u32
         return 0;
     }
     let at = 4 * j;
-    join(stored[at], stored[at + 1], stored[at + 2], stored[at + 3])
+    u32::from_le_bytes([stored[at], stored[at + 1], stored[at + 2], stored[at + 3]])
+}
+
+// The number at place j of the list is the stored one. What would stand past the list's end does not matter.
+#[tactic(auto, unfolding(crate::specs::Stored::place_is))]
+fn holds<M: Mark>(list: &[M], stored: &[u8], j: usize) -> bool
+    ensures { (other : M) → result ≡ place_is M.bits other list.now stored.now j }
+{
+    list.get(j).is_some_and(|x| x.bits() == word(stored, j))
 }
 
 // The list begins with the n stored numbers.
-pub fn words_are(list: &[u32], stored: &[u8], n: usize) -> bool
-    ensures { result ≡ words_are list.now stored.now n }
+pub fn begins_with<M: Mark>(list: &[M], stored: &[u8], n: usize) -> bool
+    ensures { (other : M) → result ≡ each_below (place_is M.bits other list.now stored.now) n }
 {
-    let mut j = 0usize;
-    while j < n {
-        if list.len() <= j {
+    for j in 0..n {
+        if !holds(list, stored, j) {
             return false;
         }
-        if list[j] != word(stored, j) {
-            return false;
-        }
-        j += 1;
-    }
-    true
-}
-
-pub fn floats_are(list: &[f32], stored: &[u8], n: usize) -> bool
-    ensures { result ≡ floats_are list.now stored.now n }
-{
-    let mut j = 0usize;
-    while j < n {
-        if list.len() <= j {
-            return false;
-        }
-        if crate::bits(list[j]) != word(stored, j) {
-            return false;
-        }
-        j += 1;
     }
     true
 }

@@ -1,8 +1,8 @@
--- An accepted file: its length, its finite floats, and what the reader answers and fills. Assumes nothing.
+-- An accepted file: its length, its finite floats, and what the reader fills. Assumes nothing.
 use Prim.Native.Nat.{ℕ, ◌+◌, ◌*◌, ◌<◌}
 use native.Mathlib.Omega.{arith}
-use mathlib.Core.Path.{◌≡◌, refl, ap, subst}
-use mathlib.Core.Bool.{Bool, true, false, ◌&&◌, cond}
+use mathlib.Core.Path.{◌≡◌, refl, subst}
+use mathlib.Core.Bool.{Bool, true, ◌&&◌}
 use mathlib.Core.List.{List}
 use lib.Dec.{T}
 use lib.ListN.{length}
@@ -10,29 +10,7 @@ use lib.Ieee.{Float}
 use Rattle.lists.proofs.Tests.{is-test}
 use Rattle.mesh_file.specs.Record.{word_at, laid}
 use Rattle.mesh_file.specs.Mesh.{Mesh, mesh}
-use Rattle.mesh_file.specs.Reading.{
-  finite_bits,
-  three_finite,
-  FiniteFloats,
-  seen,
-  Progress,
-  reading,
-  whole,
-  refused,
-  read_of,
-  read_answer,
-  checked,
-  short_lists,
-  short_room,
-  reading_with,
-  reading_in,
-  floats_of,
-  indices_of,
-  mesh_in,
-  over_mesh,
-  filled_in,
-}
-use Rattle.mesh_file.specs.declared.Read.{Read}
+use Rattle.mesh_file.specs.Reading.{finite_bits, three_finite, FiniteFloats, seen, whole, read_of, floats_of, indices_of, mesh_in, over_mesh}
 use Rattle.mesh_record.proofs.Laying.{over-laid}
 use Rattle.mesh_record.proofs.Told.{both_left, both_right, vertex-told, closing-told}
 use Rattle.mesh_file.proofs.History.{whole-records}
@@ -67,36 +45,7 @@ module _ (f : List ℕ) (v t : ℕ) (e : read_of f ≡ whole v t) where
       placed f (32 * k) 16 20 24 (omega arith) (omega arith)
       (both_right (three_finite (word_at f (32 * k + 4)) (word_at f (32 * k + 8)) (word_at f (32 * k + 12))) _ (six-finite f v t e k l))
 
--- ---- the answers
-
--- a refusal of the check is the answer
-pub read-refused : (f : List ℕ) (p n i : ℕ) (r : Read) → r ≡ checked (read_of f) → (r.answer ≡ 0 → ⊥) → r ≡ reading_with (read_of f) p n i
-read-refused f p n i r e z = go (read_of f) e
-  where
-    go : (x : Progress) → r ≡ checked x → r ≡ reading_with x p n i
-    go (reading v t) q = q
-    go (whole v t) q = absurd (z (ap (λ (y : Read). y.answer) q))
-    go (refused n) q = q
-
--- and so a refusal leaves the lists
-pub refused-fills-nothing : (f : List ℕ) (s : Mesh) (r : Read) → r ≡ reading_in (read_of f) s → (r.answer ≡ 0 → ⊥) → s ≡ filled_in f (read_of f) s
-refused-fills-nothing f s r e z = go (read_of f) e
-  where
-    short : (v t : ℕ) (b : Bool) → r ≡ cond b (read_answer 29 0 0) (read_answer 0 v t) → s ≡ cond b s (over_mesh (mesh_in f v t) s)
-    short v t true q = refl
-    short v t false q = absurd (z (ap (λ (y : Read). y.answer) q))
-
-    go : (x : Progress) → r ≡ reading_in x s → s ≡ filled_in f x s
-    go (reading v t) q = refl
-    go (whole v t) q = short v t (short_room v t s) q
-    go (refused n) q = refl
-
-module _ (f : List ℕ) (p n i : ℕ) (r : Read) (v t : ℕ) (e : read_of f ≡ whole v t) where
-  pub read_short : short_lists v t p n i ≡ true → r ≡ read_answer 29 0 0 → r ≡ reading_with (read_of f) p n i
-  read_short h q = rw (q, e) (rw h refl)
-
-  pub read_whole : short_lists v t p n i ≡ false → r ≡ read_answer 0 v t → r ≡ reading_with (read_of f) p n i
-  read_whole h q = rw (q, e) (rw h refl)
+-- ---- the lists
 
 -- what the three fills leave
 pub all-filled : (f : List ℕ) (v t : ℕ) (s : Mesh) (p n : List Float) (i : List ℕ) → p ≡ laid (floats_of f 4 v) 0 s.positions

@@ -1,17 +1,16 @@
 -- The writer's answers: which condition gives which, what a refusal leaves, and that the three parts it writes are the file. Assumes nothing.
-use Prim.Native.Nat.{ℕ, suc, ◌+◌, ◌*◌, ◌/◌, ◌%◌, ◌^◌, ◌≤◌, ◌<◌, zero-le}
+use Prim.Native.Nat.{ℕ, ◌+◌, ◌*◌, ◌/◌, ◌%◌, ◌^◌, ◌≤◌, ◌<◌, zero-le}
 use native.Mathlib.Omega.{arith}
 use mathlib.Core.Path.{◌≡◌, refl, sym, ap, ◌∙◌}
 use mathlib.Core.Bool.{Bool, true, false, not, ◌||◌, cond}
 use mathlib.Core.List.{List, ◌++◌, append_assoc}
-use borrow.Author.Tests.{lt-ltb, le-ltb, ltb-false, leb-false, lt-leb, eqb-true, eq-eqb, ne_eqb, not-false}
-use lib.Dec.{leb, ltb, eqb, eqb-suc-zero}
+use borrow.Author.Tests.{ltb-false, leb-false, lt-leb, eqb-true, eq-eqb, ne_eqb, not-false}
+use lib.Dec.{leb, ltb, eqb}
 use lib.ListN.{length, length-append}
 use Rattle.lists.specs.Lists.{over}
 use Rattle.mesh_file.specs.Record.{each, laid}
 use Rattle.mesh_file.specs.Mesh.{Mesh, vertex_count, triangle_count, vertex_record, triangle_record, closing_record, file_of, file_length}
 use Rattle.mesh_file.specs.Writing.{not_threes, bad_lengths, bad_lists, bad_indices, bad_floats, write_answer, wrote, writing, written}
-use Rattle.mesh_file.specs.declared.Wrote.{Wrote}
 use Rattle.mesh_record.proofs.Laying.{laid-after, over-laid, each-length}
 use Rattle.mesh_record.proofs.Recording.{record-length}
 use Rattle.lists.proofs.Either.{or_left, or_right}
@@ -48,31 +47,6 @@ lengths-good p n i l =
     rw (eq-eqb _ _ l.threes, eq-eqb _ _ threes, eq-eqb _ _ l.sixes, eq-eqb _ _ l.same, lt-leb _ _ l.few, lt-leb _ _ l.fewer) refl
 
 -- ---- the answers
-
-refused : (m : Mesh) (room a : ℕ) (r : Wrote) → write_answer m room ≡ suc a → r ≡ wrote (suc a) 0 → r ≡ writing m room
-unfolding writing
-refused m room a r e q = rw (q, e) (rw (eqb-suc-zero a) refl)
-
-module _ (m : Mesh) (room : ℕ) (r : Wrote) where
-  pub refused-30 : bad_lists m ≡ true → r ≡ wrote 30 0 → r ≡ writing m room
-  unfolding write_answer
-  refused-30 a = refused m room 29 r (rw a refl)
-
-  pub refused-26 : bad_lists m ≡ false → bad_indices m ≡ true → r ≡ wrote 26 0 → r ≡ writing m room
-  unfolding write_answer
-  refused-26 a b = refused m room 25 r (rw (a, b) refl)
-
-  pub refused-27 : bad_lists m ≡ false → bad_indices m ≡ false → bad_floats m ≡ true → r ≡ wrote 27 0 → r ≡ writing m room
-  unfolding write_answer
-  refused-27 a b c = refused m room 26 r (rw (a, b, c) refl)
-
-  pub refused-29 : bad_lists m ≡ false → bad_indices m ≡ false → bad_floats m ≡ false → room < file_length m → r ≡ wrote 29 0 → r ≡ writing m room
-  unfolding write_answer
-  refused-29 a b c h = refused m room 28 r (rw (a, b, c) (rw (lt-ltb room (file_length m) h) refl))
-
-  pub accepted-0 : bad_lists m ≡ false → bad_indices m ≡ false → bad_floats m ≡ false → file_length m ≤ room → r ≡ wrote 0 (file_length m) → r ≡ writing m room
-  unfolding write_answer writing
-  accepted-0 a b c h q = rw q (rw (a, b, c) (rw (le-ltb room (file_length m) h) refl))
 
 -- the answer 0 says that nothing was refused
 pub answered-zero : (m : Mesh) (room : ℕ) → (writing m room).answer ≡ 0 → write_answer m room ≡ 0

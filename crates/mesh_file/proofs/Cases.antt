@@ -27,7 +27,10 @@ use Rattle.mesh_file.specs.Reading.{
   mesh_in,
   filled_in,
 }
-use Rattle.mesh_file.specs.Writing.{write_answer, writing, written}
+use Rattle.mesh_file.specs.Reading.{read_result}
+use Rattle.mesh_file.specs.Writing.{write_answer, writing, written, wrote_result}
+use Rattle.std.proofs.Common.{Ok, Err}
+use Rattle.mesh_record.specs.declared.refusal.Refusal.TheVariants.{BadSum, ShortRoom}
 
 abbrev floats : List ℕ → List Float
 floats = map (of_bits binary32)
@@ -133,3 +136,12 @@ reader-answers = (refl, refl, refl, refl, refl, refl, refl, refl, refl, refl, re
 pub refused-keeps : numbers (filled_in (take 191 file) (read_of (take 191 file)) (lent 9 9 6)) ≡ numbers (lent 9 9 6)
 unfolding opened
 refused-keeps = refl
+
+-- ---- the code's results, as the request's answers: 0 with what was counted, or a refusal's number and counts 0
+
+pub results-are :
+    (read_result (Ok (record { vertices = 3; triangles = 2 })) ≡ record { answer = 0; vertices = 3; triangles = 2 })
+    × (read_result (Err BadSum) ≡ record { answer = 22; vertices = 0; triangles = 0 })
+    × (wrote_result (Ok 192) ≡ record { answer = 0; bytes = 192 })
+    × (wrote_result (Err ShortRoom) ≡ record { answer = 29; bytes = 0 })
+results-are = (refl, refl, refl, refl)

@@ -33,8 +33,8 @@ use Rattle.mesh_file.specs.Reading.{
   checked,
 }
 use Rattle.mesh_record.specs.declared.Words.{Words}
-use Rattle.mesh_record.specs.declared.Seen.{Seen}
-use Rattle.mesh_file.specs.declared.Read.{Read}
+use Rattle.mesh_record.specs.declared.Counts.{Counts}
+use Rattle.mesh_file.specs.Reading.{Read}
 use Rattle.mesh_record.proofs.Told.{no-fault, known-kind, vertex-told}
 
 -- ---- a refusal's number is not 0
@@ -43,14 +43,14 @@ use Rattle.mesh_record.proofs.Told.{no-fault, known-kind, vertex-told}
 abbrev Numbered : Found → Type 0
 Numbered x = (x.kind ≡ 1 → ⊥) → (x.kind ≡ 2 → ⊥) → (x.kind ≡ 3 → ⊥) → x.fault ≡ 0 → ⊥
 
-numbered_of : (w : Words) (s : Seen) (more : Bool) → Numbered (found_of (fault_of w s more) w.kind)
+numbered_of : (w : Words) (s : Counts) (more : Bool) → Numbered (found_of (fault_of w s more) w.kind)
 numbered_of w s more = go (eqb (fault_of w s more) 0) refl
   where
     go : (b : Bool) → eqb (fault_of w s more) 0 ≡ b → Numbered (cond b (good w.kind) (faulty (fault_of w s more)))
     go true e = λ p q r z. ⊎_elim p (⊎_elim q r) (known-kind w.kind s.triangles (no-fault w s more (eqb-true (fault_of w s more) 0 e)).kind)
     go false e = λ p q r z. eqb-false (fault_of w s more) 0 e z
 
-numbered-at : (f : List ℕ) (at : ℕ) (s : Seen) → Numbered (found_at f at s)
+numbered-at : (f : List ℕ) (at : ℕ) (s : Counts) → Numbered (found_at f at s)
 unfolding found_at
 numbered-at f at s = go (cut f at)
   where

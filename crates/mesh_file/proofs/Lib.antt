@@ -1,4 +1,5 @@
 -- The laws that belong to no one function.
+pub mod Results
 pub mod Progressing
 pub mod Filling
 pub mod Searching

@@ -1,13 +1,12 @@
 -- Laws of reading record by record: that a file's answer stands once a record has closed or refused it. Assumes nothing.
 use Prim.Native.Nat.{ℕ, zero, suc, ◌+◌, ◌-◌, ◌*◌, ◌/◌, ◌≤◌, ◌<◌, zero-le}
-use native.Mathlib.Nat.{zero-add, suc-add, le_of_eq}
+use native.Mathlib.Nat.{zero-add, suc-add}
 use native.Mathlib.Numerals.{add-one}
 use native.Mathlib.Omega.{arith}
 use mathlib.Core.Path.{◌≡◌, refl, sym, ap, ◌∙◌, subst}
 use mathlib.Core.List.{List, []}
 use lib.Dec.{lit<}
-use lib.ListN.{length, drop, drop_of_length-le, take, length-drop}
-use lib.Seq.{take_all}
+use lib.ListN.{length, drop, drop_of_length-le}
 use Rattle.mesh_file.specs.Reading.{Found, good, faulty, found_at, seen, Progress, reading, whole, refused, counted, further, after, read_of}
 use Rattle.mesh_record.proofs.OneStep.{found-cut, kind-whole}
 
@@ -84,7 +83,3 @@ past_end f at h =
     let h' : length f ≤ at = omega arith in
     let d : drop at f ≡ [] = drop_of_length-le f h' in
     ap read_of d ∙ refused-read [] 0 0 0 21 (refl, zero-le, after_none []) (sym (found-cut [] 0 (seen 0 0) (lit< tt)))
-
--- the bytes from a place to the end are all that is left there
-pub to_the_end : (f : List ℕ) (at : ℕ) → take (length f - at) (drop at f) ≡ drop at f
-to_the_end f at = take_all (length f - at) (drop at f) (le_of_eq (length-drop at f))

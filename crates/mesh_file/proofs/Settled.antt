@@ -12,7 +12,7 @@ use lib.Seq.{take_at, drop_at}
 use Rattle.mesh_file.specs.Mesh.{Mesh, vertex_count, triangle_count, Held, file_of, file_length}
 use Rattle.mesh_file.specs.Reading.{Progress, reading, whole, refused, read_of, read_answer, checked, short_lists, short_room, reading_in, mesh_in, over_mesh, filled_in}
 use Rattle.mesh_file.specs.Writing.{write_answer, wrote, writing, written}
-use Rattle.mesh_file.specs.declared.Read.{Read}
+use Rattle.mesh_file.specs.Reading.{Read}
 use Rattle.lists.proofs.Either.{or-none, or_left, or_right}
 use Rattle.mesh_file.proofs.Answering.{passed}
 use Rattle.mesh_file.proofs.History.{accepted}

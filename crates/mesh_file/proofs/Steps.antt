@@ -30,7 +30,7 @@ use Rattle.mesh_file.specs.Reading.{
   after,
   read_of,
 }
-use Rattle.mesh_record.specs.declared.Seen.{Seen}
+use Rattle.mesh_record.specs.declared.Counts.{Counts}
 use Rattle.mesh_record.proofs.OneStep.{found-cut}
 use Rattle.mesh_file.proofs.Progressing.{after_next, after_none, read_is}
 use Rattle.mesh_record.proofs.Told.{NoFault, good-found, Sum, VertexTold, TriangleTold, ClosingTold}
@@ -41,7 +41,7 @@ good-sum : (f : List ℕ) (at : ℕ) → Sum f at → bad_sum (words_at f at) �
 unfolding bad_sum
 good-sum f at e = ap not (eq-eqb _ _ e)
 
-pub vertex-step : (f : List ℕ) (at : ℕ) (s : Seen) → VertexTold f at s → (found_at f at s).kind ≡ 1
+pub vertex-step : (f : List ℕ) (at : ℕ) (s : Counts) → VertexTold f at s → (found_at f at s).kind ≡ 1
 unfolding bad_kind bad_zero bad_counts bad_index bad_float bad_end
 vertex-step f at s g =
     let k = g.kind in
@@ -57,7 +57,7 @@ vertex-step f at s g =
     } in
     ap (λ (x : Found). x.kind) (good-found f at s g.room n) ∙ k
 
-pub triangle-step : (f : List ℕ) (at : ℕ) (s : Seen) → TriangleTold f at s → (found_at f at s).kind ≡ 2
+pub triangle-step : (f : List ℕ) (at : ℕ) (s : Counts) → TriangleTold f at s → (found_at f at s).kind ≡ 2
 unfolding bad_kind bad_zero bad_counts bad_index bad_float bad_end
 triangle-step f at s g =
     let k = g.kind in
@@ -73,7 +73,7 @@ triangle-step f at s g =
     } in
     ap (λ (x : Found). x.kind) (good-found f at s g.room n) ∙ k
 
-pub closing-step : (f : List ℕ) (at : ℕ) (s : Seen) → ClosingTold f at s → (found_at f at s).kind ≡ 3
+pub closing-step : (f : List ℕ) (at : ℕ) (s : Counts) → ClosingTold f at s → (found_at f at s).kind ≡ 3
 unfolding bad_kind bad_zero bad_counts bad_index bad_float bad_end
 closing-step f at s g =
     let k = g.kind in
@@ -128,7 +128,7 @@ module _ (f : List ℕ) (n : ℕ) where
   room-before : (at : ℕ) → at + 32 ≤ n → at + 32 ≤ length f → at + 32 ≤ length (take n f)
   room-before at h l = rw length-take (omega arith)
 
-  pub vertex-before : (at : ℕ) (s : Seen) → at + 32 ≤ n → VertexTold f at s → VertexTold (take n f) at s
+  pub vertex-before : (at : ℕ) (s : Counts) → at + 32 ≤ n → VertexTold f at s → VertexTold (take n f) at s
   vertex-before at s h g =
       let w₀ = word-before at (omega arith) in
       let w₁ = word-before (at + 4) (omega arith) in
@@ -146,7 +146,7 @@ module _ (f : List ℕ) (n : ℕ) where
         floats = rw (w₁, w₂, w₃, w₄, w₅, w₆) g.floats;
       }
 
-  pub triangle-before : (at : ℕ) (s : Seen) → at + 32 ≤ n → TriangleTold f at s → TriangleTold (take n f) at s
+  pub triangle-before : (at : ℕ) (s : Counts) → at + 32 ≤ n → TriangleTold f at s → TriangleTold (take n f) at s
   triangle-before at s h g =
       let w₀ = word-before at (omega arith) in
       let w₁ = word-before (at + 4) (omega arith) in

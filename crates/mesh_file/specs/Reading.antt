@@ -1,6 +1,6 @@
 -- Document 02, request 2: the reader goes "record by record and the first fault answers, in one record the lowest number". Definitions only.
 -- Assumes nothing.
-use Rattle.std.specs.Prelude.{ℕ, zero, suc, ◌+◌, ◌*◌, ◌/◌, ◌<◌, Bool, ◌||◌, cond, List, [], ◌∷◌, T, ltb, eqb, length, get_or, Float}
+use Rattle.std.specs.Prelude.{ℕ, zero, suc, ◌+◌, ◌*◌, ◌/◌, ◌<◌, Bool, ◌||◌, cond, Result, Ok, Err, List, [], ◌∷◌, T, ltb, eqb, length, get_or, Float}
 use Rattle.std.specs.Float.{binary32}
 use Rattle.std.specs.Float.Ieee.{of_bits}
 use Rattle.lists.specs.Lists.{over}
@@ -8,7 +8,9 @@ unfoldable pub use Rattle.mesh_record.specs.Faults.{bad_sum, bad_kind, bad_zero,
 pub use Rattle.mesh_record.specs.Faults.{words_at, cut, all_zero, finite_bits, three_finite, Found, good, faulty, numbers_of, found_of, seen}
 use Rattle.mesh_file.specs.Record.{word_at, each}
 use Rattle.mesh_file.specs.Mesh.{Mesh, mesh}
-use Rattle.mesh_file.specs.declared.Read.{Read}
+use Rattle.mesh_record.specs.declared.Counts.{Counts}
+use Rattle.mesh_record.specs.declared.refusal.Refusal.{Refusal}
+use Rattle.mesh_record.specs.Refusal.{number_of_refusal}
 
 -- every byte is below 256. It is true of every list of u8, and the contracts hand it on
 abbrev pub Bytes : List ℕ → Type 0
@@ -45,8 +47,19 @@ read_of f = after f (suc (length f / 32))
 
 -- ---- the reader's answer, and the lent lists afterwards
 
+-- the request's answer, 0 or the number of a refusal, with the vertices and triangles: counts 0 on a refusal
+pub record Read : Type 0 where
+  pub answer : ℕ
+  pub vertices : ℕ
+  pub triangles : ℕ
+
 abbrev pub read_answer : ℕ → ℕ → ℕ → Read
 read_answer n v t = record { answer = n; vertices = v; triangles = t }
+
+-- that answer for the code's result
+abbrev pub read_result : Result Counts Refusal → Read
+read_result (Ok c) = read_answer 0 c.vertices c.triangles
+read_result (Err r) = read_answer (number_of_refusal r) 0 0
 
 abbrev pub checked : Progress → Read
 checked (reading v t) = read_answer 21 0 0
@@ -67,6 +80,13 @@ reading_with (refused a) p n i = read_answer a 0 0
 
 abbrev pub reading_in : Progress → Mesh → Read
 reading_in x s = reading_with x (length s.positions) (length s.normals) (length s.indices)
+
+-- what three words are, from a place on, and that something holds of each
+abbrev pub three_at : {A : Type 0} → (ℕ → A) → List ℕ → ℕ → List A
+three_at of f at = of (word_at f at) ∷ of (word_at f (at + 4)) ∷ of (word_at f (at + 8)) ∷ []
+
+abbrev pub ThreeHold : (ℕ → Type 0) → List ℕ → ℕ → Type 0
+ThreeHold P f at = P (word_at f at) × P (word_at f (at + 4)) × P (word_at f (at + 8))
 
 -- three floats, and three numbers, from a place on
 abbrev pub floats_at : List ℕ → ℕ → List Float

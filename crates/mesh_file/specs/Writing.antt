@@ -1,9 +1,15 @@
 -- Document 02, request 2: "The writer gives, in this order, 30 for lists not in threes, normals not as long as positions or a count above
 -- 32 bits, 26, 27, 29. A refusal writes nothing, counts 0." Definitions only. Assumes nothing.
-use Rattle.std.specs.Prelude.{ℕ, ◌/◌, ◌%◌, ◌^◌, Bool, not, ◌||◌, cond, List, leb, ltb, eqb, length, Float}
+use Rattle.std.specs.Prelude.{ℕ, ◌/◌, ◌%◌, ◌^◌, Bool, not, ◌||◌, cond, Result, Ok, Err, List, leb, ltb, eqb, length, Float}
 use Rattle.lists.specs.Lists.{some, over}
 use Rattle.mesh_file.specs.Mesh.{Mesh, vertex_count, finite, file_of, file_length}
-use Rattle.mesh_file.specs.declared.Wrote.{Wrote}
+use Rattle.mesh_record.specs.declared.refusal.Refusal.{Refusal}
+use Rattle.mesh_record.specs.Refusal.{number_of_refusal}
+
+-- the request's answer, 0 or the number of a refusal, and how many bytes were written
+pub record Wrote : Type 0 where
+  pub answer : ℕ
+  pub bytes : ℕ
 
 -- 30: "lists not in threes, normals not as long as positions or a count above 32 bits", by the lists' lengths
 abbrev pub not_threes : ℕ → Bool
@@ -35,6 +41,11 @@ write_answer m room = cond (bad_lists m) 30 (cond (bad_indices m) 26 (cond (bad_
 
 abbrev pub wrote : ℕ → ℕ → Wrote
 wrote n b = record { answer = n; bytes = b }
+
+-- that answer for the code's result
+abbrev pub wrote_result : Result ℕ Refusal → Wrote
+wrote_result (Ok n) = wrote 0 n
+wrote_result (Err r) = wrote (number_of_refusal r) 0
 
 -- the answer and the number of bytes written
 unfoldable pub writing : Mesh → ℕ → Wrote

@@ -1,86 +1,78 @@
 // The lent lists, filled from the records of a file that was checked before.
-ghost use Rattle.std.specs.Prelude.{◌≡◌, [], ◌∷◌, ◌+◌, ◌*◌, ◌≤◌, T, length};
+ghost use Rattle.std.specs.Prelude.{◌≡◌, ℕ, ◌+◌, ◌*◌, ◌<◌, ◌≤◌, T, length};
 ghost use Rattle.std.specs.Float.{binary32};
 ghost use Rattle.std.specs.Float.Ieee.{of_bits};
-ghost use Rattle.mesh_file.specs.Record.{word_at, laid};
+ghost use Rattle.mesh_file.specs.Record.{each, laid};
 ghost use Rattle.mesh_file.specs.Mesh.{mesh};
-ghost use Rattle.mesh_file.specs.Reading.{finite_bits, FiniteFloats, floats_of, indices_of, whole, read_of, mesh_in, over_mesh};
+ghost use Rattle.mesh_file.specs.Reading.{finite_bits, three_at, ThreeHold, whole, read_of, mesh_in, over_mesh};
 
-use mesh_record::word_at;
+use mesh_record::{Counts, word_at};
 
-fn float_at(file: &[u8], at: usize) -> f32
-    requires at_in_bounds { at + 4 ≤ length file.now }
-    requires t { T (finite_bits (word_at file.now at)) }
-    ensures { result ≡ of_bits binary32 (word_at file.now at) }
-{
-    f32::from_bits(word_at(file, at))
+// What a list of a mesh holds, as a word of a record stores it: a float by its bits, an index as it is.
+trait Stored: Copy {
+    ghost is_stored: { ℕ → Type 0 };
+
+    ghost of_word: { ℕ → Self };
+
+    fn of_word(word: u32) -> Self
+        requires { is_stored word }
+        ensures { result ≡ of_word word };
 }
 
-fn put_floats(out: &mut [f32], at: usize, x: f32, y: f32, z: f32)
-    requires { at + 3 ≤ length out.old }
-    ensures { out.new ≡ laid (x ∷ y ∷ z ∷ []) at out.old }
-{
-    out[at] = x;
-    out[at + 1] = y;
-    out[at + 2] = z;
-}
+impl Stored for f32 {
+    ghost is_stored = { λ word. T (finite_bits word) };
 
-fn put_numbers(out: &mut [u32], at: usize, x: u32, y: u32, z: u32)
-    requires { at + 3 ≤ length out.old }
-    ensures { out.new ≡ laid (x ∷ y ∷ z ∷ []) at out.old }
-{
-    out[at] = x;
-    out[at + 1] = y;
-    out[at + 2] = z;
-}
+    ghost of_word = { of_bits binary32 };
 
-// Three floats of each of the first n records, from the place `first` of a record on.
-fn fill_floats(file: &[u8], first: usize, n: usize, out: &mut [f32])
-    requires first_bound { first + 12 ≤ 32 }
-    requires n_in_bounds { 32 * n ≤ length file.now }
-    requires n_in_bounds_2 { 3 * n ≤ length out.old }
-    requires finite_floats { FiniteFloats file.now first n }
-    ensures { out.new ≡ laid (floats_of file.now first n) 0 out.old }
-{
-    for k in 0..n {
-        let at = 32 * k + first;
-        let x = float_at(file, at);
-        let y = float_at(file, at + 4);
-        let z = float_at(file, at + 8);
-        put_floats(out, 3 * k, x, y, z);
+    fn of_word(word: u32) -> f32 {
+        f32::from_bits(word)
     }
 }
 
-// The indices of the n records after the first v.
-fn fill_indices(file: &[u8], v: usize, n: usize, out: &mut [u32])
-    requires n_in_bounds { 32 * (v + n) ≤ length file.now }
-    requires n_in_bounds_2 { 3 * n ≤ length out.old }
-    ensures { out.new ≡ laid (indices_of file.now v n) 0 out.old }
+impl Stored for u32 {
+    ghost is_stored = { λ _. Unit {0} };
+
+    ghost of_word = { λ word. word };
+
+    fn of_word(word: u32) -> u32 {
+        word
+    }
+}
+
+// Three numbers of each of n records, from the place `first` on.
+fn fill<S: Stored>(file: &[u8], first: usize, n: usize, out: &mut [S])
+    requires in_file { 32 * n + first ≤ length file.now + 20 }
+    requires in_list { 3 * n ≤ length out.old }
+    requires stored { (k : ℕ) → k < n → ThreeHold S.is_stored file.now (32 * k + first) }
+    ensures { out.new ≡ laid (each (λ k. three_at S.of_word file.now (32 * k + first)) n) 0 out.old }
 {
     for k in 0..n {
-        let at = 32 * (v + k) + 4;
-        let x = word_at(file, at);
-        let y = word_at(file, at + 4);
-        let z = word_at(file, at + 8);
-        put_numbers(out, 3 * k, x, y, z);
+        let at = 32 * k + first;
+        let three = [
+            S::of_word(word_at(file, at)),
+            S::of_word(word_at(file, at + 4)),
+            S::of_word(word_at(file, at + 8)),
+        ];
+        out[3 * k..3 * k + 3].copy_from_slice(&three);
     }
 }
 
 // The mesh of a whole file, over the starts of the three lent lists.
 pub(crate) fn fill_all(
     file: &[u8],
-    v: usize,
-    t: usize,
+    counts: Counts,
     positions: &mut [f32],
     normals: &mut [f32],
     indices: &mut [u32],
 )
-    requires file_value { read_of file.now ≡ whole v t }
-    requires v_in_bounds { (3 * v ≤ length positions.old) × (3 * v ≤ length normals.old) × (3 * t ≤ length indices.old) }
+    requires file_value { read_of file.now ≡ whole counts.vertices counts.triangles }
+    requires positions_long { 3 * counts.vertices ≤ length positions.old }
+    requires normals_long { 3 * counts.vertices ≤ length normals.old }
+    requires indices_long { 3 * counts.triangles ≤ length indices.old }
     ensures { mesh positions.new normals.new indices.new
-        ≡ over_mesh (mesh_in file.now v t) (mesh positions.old normals.old indices.old) }
+        ≡ over_mesh (mesh_in file.now counts.vertices counts.triangles) (mesh positions.old normals.old indices.old) }
 {
-    fill_floats(file, 4, v, positions);
-    fill_floats(file, 16, v, normals);
-    fill_indices(file, v, t, indices);
+    fill(file, 4, counts.vertices, positions);
+    fill(file, 16, counts.vertices, normals);
+    fill(file, 32 * counts.vertices + 4, counts.triangles, indices);
 }

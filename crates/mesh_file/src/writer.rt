@@ -1,23 +1,19 @@
 // The records of a mesh, written into a lent file, and the tests that come before.
-ghost use Rattle.std.specs.Prelude.{◌≡◌, ◌+◌, ◌*◌, ◌<◌, ◌≤◌, T, length, get_or};
+ghost use Rattle.std.specs.Prelude.{◌≡◌, ◌+◌, ◌*◌, ◌/◌, ◌<◌, ◌≤◌, T, length, get_or};
 ghost use Rattle.std.specs.Float.{nan};
 ghost use Rattle.lists.specs.Lists.{some, over};
 ghost use Rattle.mesh_file.specs.Record.{each, laid};
 ghost use Rattle.mesh_file.specs.Mesh.{mesh, finite, AllFinite, bits_at, vertex_words, vertex_record, triangle_record, file_of};
-ghost use Rattle.mesh_file.specs.Writing.{bad_lengths, no_vertex, not_finite, wrote, write_answer, writing};
+ghost use Rattle.mesh_file.specs.Writing.{bad_lengths, no_vertex, not_finite, wrote_result, write_answer, writing};
 
-use crate::Wrote;
-use mesh_record::{finite_bits, write_record};
+use mesh_record::{Refusal, finite_bits, write_record};
 
 // ---- writing
 
 fn is_finite(x: f32) -> bool
     ensures { result ≡ finite x }
 {
-    if x != x {
-        return false;
-    }
-    finite_bits(f32::to_bits(x))
+    !x.is_nan() && finite_bits(x.to_bits())
 }
 
 fn bits_at(xs: &[f32], i: usize) -> u32
@@ -25,7 +21,7 @@ fn bits_at(xs: &[f32], i: usize) -> u32
     requires t { T (finite (get_or xs.now i nan)) }
     ensures { result ≡ bits_at xs.now i }
 {
-    f32::to_bits(xs[i])
+    xs[i].to_bits()
 }
 
 fn write_vertex(positions: &[f32], normals: &[f32], i: usize, file: &mut [u8], at: usize)
@@ -36,13 +32,16 @@ fn write_vertex(positions: &[f32], normals: &[f32], i: usize, file: &mut [u8], a
     requires at_in_bounds { at + 32 ≤ length file.old }
     ensures { file.new ≡ laid (vertex_words positions.now normals.now i) at file.old }
 {
-    let a = bits_at(positions, i);
-    let b = bits_at(positions, i + 1);
-    let c = bits_at(positions, i + 2);
-    let d = bits_at(normals, i);
-    let e = bits_at(normals, i + 1);
-    let f = bits_at(normals, i + 2);
-    write_record(file, at, 1, a, b, c, d, e, f);
+    let vertex = [
+        1,
+        bits_at(positions, i),
+        bits_at(positions, i + 1),
+        bits_at(positions, i + 2),
+        bits_at(normals, i),
+        bits_at(normals, i + 1),
+        bits_at(normals, i + 2),
+    ];
+    write_record(file, at, vertex);
 }
 
 fn write_vertices(positions: &[f32], normals: &[f32], n: usize, file: &mut [u8])
@@ -58,25 +57,14 @@ fn write_vertices(positions: &[f32], normals: &[f32], n: usize, file: &mut [u8])
     }
 }
 
-// The records of n triangles, from a place of the file on.
-fn write_triangles(indices: &[u32], n: usize, file: &mut [u8], at: usize)
-    requires n_in_bounds { 3 * n ≤ length indices.now }
-    requires n_in_bounds_2 { at + 32 * n ≤ length file.old }
-    ensures { file.new ≡ laid (each (triangle_record indices.now) n) at file.old }
+// The records of all triangles, from a place of the file on.
+fn write_triangles(indices: &[u32], file: &mut [u8], at: usize)
+    requires { at + 32 * (length indices.now / 3) ≤ length file.old }
+    ensures { file.new ≡ laid (each (triangle_record indices.now) (length indices.now / 3)) at file.old }
 {
-    for k in 0..n {
-        let i = 3 * k;
-        write_record(
-            file,
-            at + 32 * k,
-            2,
-            indices[i],
-            indices[i + 1],
-            indices[i + 2],
-            0,
-            0,
-            0,
-        );
+    let (triangles, _) = indices.as_chunks::<3>();
+    for (k, [a, b, c]) in triangles.iter().enumerate() {
+        write_record(file, at + 32 * k, [2, *a, *b, *c, 0, 0, 0]);
     }
 }
 
@@ -88,8 +76,9 @@ pub(crate) fn write_all(positions: &[f32], normals: &[f32], indices: &[u32], fil
     let v = positions.len() / 3;
     let t = indices.len() / 3;
     write_vertices(positions, normals, v, file);
-    write_triangles(indices, t, file, 32 * v);
-    write_record(file, 32 * v + 32 * t, 3, v as u32, t as u32, 0, 0, 0, 0);
+    write_triangles(indices, file, 32 * v);
+    let closing = [3, v as u32, t as u32, 0, 0, 0, 0];
+    write_record(file, 32 * v + 32 * t, closing);
 }
 
 // ---- the tests before
@@ -97,12 +86,12 @@ pub(crate) fn write_all(positions: &[f32], normals: &[f32], indices: &[u32], fil
 fn bad_lengths(positions: usize, normals: usize, indices: usize) -> bool
     ensures { result ≡ bad_lengths positions normals indices }
 {
-    (positions % 3 != 0)
-        | (normals % 3 != 0)
-        | (indices % 3 != 0)
-        | (normals != positions)
-        | (4294967296 <= positions / 3)
-        | (4294967296 <= indices / 3)
+    positions % 3 != 0
+        || normals % 3 != 0
+        || indices % 3 != 0
+        || normals != positions
+        || 4294967296 <= positions / 3
+        || 4294967296 <= indices / 3
 }
 
 fn no_vertex(vertices: usize, index: u32) -> bool
@@ -114,61 +103,39 @@ fn no_vertex(vertices: usize, index: u32) -> bool
 fn some_without_vertex(indices: &[u32], vertices: usize) -> bool
     ensures { result ≡ some (no_vertex vertices) indices.now }
 {
-    let mut i = 0;
-    while i < indices.len() {
-        if no_vertex(vertices, indices[i]) {
-            return true;
-        }
-        i += 1;
-    }
-    false
+    indices.iter().any(|index| no_vertex(vertices, *index))
 }
 
 fn some_not_finite(xs: &[f32]) -> bool
     ensures { result ≡ some not_finite xs.now }
 {
-    let mut i = 0;
-    while i < xs.len() {
-        if !is_finite(xs[i]) {
-            return true;
-        }
-        i += 1;
-    }
-    false
+    xs.iter().any(|x| !is_finite(*x))
 }
 
-fn not_written(answer: u32) -> Wrote
-    ensures { result ≡ wrote answer 0 }
-{
-    Wrote { answer, bytes: 0 }
-}
-
-// The answer to a mesh written into so much room: 30, 26, 27 and 29 in this order, or 0 with the file's length.
-pub(crate) fn write_answer(
+// The length of the file of a mesh that can be written into so much room: 30, 26, 27 and 29, in this order, where it cannot.
+#[tactic(auto, unfolding(crate::specs::Writing::write_answer, crate::specs::Writing::writing))]
+pub(crate) fn check_mesh(
     positions: &[f32],
     normals: &[f32],
     indices: &[u32],
     room: usize,
-) -> Wrote
-    ensures { result ≡ writing (mesh positions.now normals.now indices.now) room }
+) -> Result<usize, Refusal>
+    ensures { wrote_result result ≡ writing (mesh positions.now normals.now indices.now) room }
 {
     if bad_lengths(positions.len(), normals.len(), indices.len()) {
-        return not_written(30);
+        return Err(Refusal::BadLists);
     }
     let v = positions.len() / 3;
     let t = indices.len() / 3;
     if some_without_vertex(indices, v) {
-        return not_written(26);
+        return Err(Refusal::IndexWithoutVertex);
     }
-    if some_not_finite(positions) {
-        return not_written(27);
-    }
-    if some_not_finite(normals) {
-        return not_written(27);
+    if some_not_finite(positions) || some_not_finite(normals) {
+        return Err(Refusal::FloatNotFinite);
     }
     let bytes = 32 * (v + t + 1);
     if room < bytes {
-        return not_written(29);
+        return Err(Refusal::ShortRoom);
     }
-    Wrote { answer: 0, bytes }
+    Ok(bytes)
 }

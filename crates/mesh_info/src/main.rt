@@ -3,19 +3,40 @@
 // says so on the error stream and stops; its exit status is 0 all the same.
 #![tactic(auto)]
 
-ghost use Rattle.std.specs.Prelude.{◌≡◌, ◌≤◌, ◌==◌, length, take};
-ghost use Rattle.mesh_file.specs.Reading.{checked, read_of};
+ghost use Rattle.std.specs.Prelude.{◌≡◌, ◌≤◌, ◌==◌, length, take, IfOk};
+ghost use Rattle.mesh_file.specs.Reading.{read_result, checked, read_of};
 
+use mesh_file::{Counts, Refusal};
 use std::env::{Env, FillError};
 use std::fs::File;
 use std::io::Read;
 use std::rt::Files;
-use std::{io, str};
+use std::{fmt, io, str};
 
-#[derive(Clone, Copy)]
-struct Got {
-    bytes: usize,
-    failed: bool,
+// Why a file has no counts.
+#[derive(Clone, Copy, Debug, PartialEq, Eq)]
+enum Problem {
+    CannotOpen,
+    CannotRead,
+    TooLong,
+    Refused(Refusal),
+}
+
+impl From<Refusal> for Problem {
+    fn from(refusal: Refusal) -> Problem {
+        Problem::Refused(refusal)
+    }
+}
+
+impl fmt::Display for Problem {
+    fn fmt<W: fmt::Write>(&self, f: &mut fmt::Formatter<W>) -> fmt::Result {
+        match self {
+            Problem::CannotOpen => write!(f, "cannot open"),
+            Problem::CannotRead => write!(f, "cannot read"),
+            Problem::TooLong => write!(f, "too long"),
+            Problem::Refused(refusal) => write!(f, "refused {}", u32::from(*refusal)),
+        }
+    }
 }
 
 // A read of no byte is the end, and no other: a pipe may bring one byte at a time.
@@ -26,36 +47,25 @@ fn is_end(more: usize) -> bool
 }
 
 // All that there is to read, up to the buffer's length.
-fn read_all(from: &mut impl Read, buf: &mut [u8]) -> Got
-    ensures in_bounds { result.bytes ≤ length buf.new }
-    ensures prefix { result.bytes ≡ length (take result.bytes buf.new) }
+fn read_all(from: &mut impl Read, buf: &mut [u8]) -> io::Result<usize>
+    ensures in_bounds { IfOk result (λ n. n ≤ length buf.new) }
+    ensures prefix { IfOk result (λ n. n ≡ length (take n buf.new)) }
 {
     let mut n = 0;
     while n < buf.len() {
-        let Ok(more) = from.read(&mut buf[n..]) else {
-            return Got {
-                bytes: n,
-                failed: true,
-            };
-        };
+        let more = from.read(&mut buf[n..])?;
         if is_end(more) {
-            return Got {
-                bytes: n,
-                failed: false,
-            };
+            break;
         }
         n += more;
     }
-    Got {
-        bytes: n,
-        failed: false,
-    }
+    Ok(n)
 }
 
 // A file of 65,536 bytes has at most 2,047 vertices or triangles, so the room is never too short.
-fn answer_for(file: &[u8]) -> mesh_file::Read
+fn read_mesh(file: &[u8]) -> Result<Counts, Refusal>
     requires { length file.now ≤ 65536 }
-    ensures { result ≡ checked (read_of file.now) }
+    ensures { read_result result ≡ checked (read_of file.now) }
 {
     let mut positions = [0.0f32; 6141];
     let mut normals = [0.0f32; 6141];
@@ -63,37 +73,13 @@ fn answer_for(file: &[u8]) -> mesh_file::Read
     mesh_file::read_mesh(file, &mut positions, &mut normals, &mut indices)
 }
 
-// Each function below is an error where not all that it had to print was written.
-fn print(rt: &impl Print, text: &[u8]) -> io::Result<()> {
-    rt.write_all(text)
-}
-
-fn print_number(rt: &impl Print, text: &[u8], n: u64) -> io::Result<()> {
-    print(rt, text)?;
-    print!(rt; "{n}")
-}
-
-fn print_answer(rt: &impl Print, read: mesh_file::Read) -> io::Result<()> {
-    if read.answer != 0 {
-        print_number(rt, b"refused ", read.answer as u64)?;
-        return print(rt, b"\n");
-    }
-    print_number(rt, b"vertices ", read.vertices as u64)?;
-    print_number(rt, b" triangles ", read.triangles as u64)?;
-    print(rt, b"\n")
-}
-
-fn report(rt: &impl Print, from: &mut impl Read) -> io::Result<()> {
+fn read_counts(from: &mut impl Read) -> Result<Counts, Problem> {
     let mut file = [0u8; 65537];
-    let got = read_all(from, &mut file);
-    if got.failed {
-        return print(rt, b"cannot read\n");
-    }
-    let n = got.bytes;
+    let n = read_all(from, &mut file).map_err(|_| Problem::CannotRead)?;
     if n > 65536 {
-        return print(rt, b"too long\n");
+        return Err(Problem::TooLong);
     }
-    print_answer(rt, answer_for(&file[..n]))
+    Ok(read_mesh(&file[..n])?)
 }
 
 // Puts an argument at the start of the buffer, and answers its length: 0 where it does not fit.
@@ -109,32 +95,38 @@ fn open_read<R: Files>(rt: &R, path: &[u8]) -> Option<R::File> {
     File::open(rt, path).ok()
 }
 
-fn report_argument(rt: &(impl Env + Files + Print), i: usize) -> io::Result<()> {
+fn read_argument(rt: &(impl Env + Files), i: usize) -> Result<Counts, Problem> {
     let mut path = [0u8; 4096];
     let n = arg(rt, i, &mut path);
-    let Some(mut file) = open_read(rt, &path[..n]) else {
-        return print(rt, b"cannot open\n");
-    };
-    report(rt, &mut file)
+    let mut file = open_read(rt, &path[..n]).ok_or(Problem::CannotOpen)?;
+    read_counts(&mut file)
+}
+
+// An error where not all of the line was written.
+fn print_line(rt: &impl Print, read: Result<Counts, Problem>) -> io::Result<()> {
+    match read {
+        Ok(counts) => {
+            println!(rt;
+                "vertices {} triangles {}",
+                counts.vertices, counts.triangles
+            )
+        }
+        Err(problem) => println!(rt; "{problem}"),
+    }
 }
 
 // How many arguments the program was started with, its own name among them.
 fn arg_count(rt: &impl Env) -> usize {
-    let mut room = [0u8; 0];
-    for i in 0..usize::MAX {
-        if let Err(FillError::NotPresent) = rt.arg(i, &mut room) {
-            return i;
-        }
-    }
-    usize::MAX
+    (0..usize::MAX)
+        .find(|i| matches!(rt.arg(*i, &mut []), Err(FillError::NotPresent)))
+        .unwrap_or(usize::MAX)
 }
 
 // What the system calls an error, without its number.
 fn words(shown: &str) -> &str {
-    match shown.split_once(" (os error ") {
-        Some((words, _)) => words,
-        None => shown,
-    }
+    shown
+        .split_once(" (os error ")
+        .map_or(shown, |(words, _)| words)
 }
 
 fn tell_not_written(rt: &(impl Alloc + Eprint), error: io::Error) {
@@ -144,18 +136,19 @@ fn tell_not_written(rt: &(impl Alloc + Eprint), error: io::Error) {
     };
 }
 
-fn main(rt: HostRuntime) {
-    let arguments = arg_count(&rt);
+fn print_all(rt: &HostRuntime) -> io::Result<()> {
+    let arguments = arg_count(rt);
     if arguments < 2 {
-        if let Err(e) = report(&rt, &mut rt.stdin()) {
-            tell_not_written(&rt, e);
-        }
-        return;
+        return print_line(rt, read_counts(&mut rt.stdin()));
     }
     for i in 1..arguments {
-        if let Err(e) = report_argument(&rt, i) {
-            tell_not_written(&rt, e);
-            return;
-        }
+        print_line(rt, read_argument(rt, i))?;
+    }
+    Ok(())
+}
+
+fn main(rt: HostRuntime) {
+    if let Err(e) = print_all(&rt) {
+        tell_not_written(&rt, e);
     }
 }

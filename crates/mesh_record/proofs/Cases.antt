@@ -1,9 +1,11 @@
 -- Document 02, request 2: records and what is found at them, as one table that the kernel computes from the definitions. The bytes were packed by Python's struct, and the
 -- numbers wanted are the request's own: none comes from these definitions or from the code. Assumes nothing.
-use Rattle.std.proofs.Common.{◌≡◌, ℕ, Bool, not, ◌&&◌, eqb, List, [], ◌∷◌, refl}
+use Rattle.std.proofs.Common.{◌≡◌, ℕ, Bool, not, ◌&&◌, eqb, Ok, Err, List, [], ◌∷◌, map, refl}
 use lib.Ieee.{odd, of_fields, of_bits}
 use Rattle.lists.specs.Lists.{keep}
 use Rattle.mesh_record.specs.Record.{word_at, total, sum_of}
+use Rattle.mesh_record.specs.Refusal.{number_of_refusal, answer_of}
+use Rattle.mesh_record.specs.declared.refusal.Refusal.TheVariants.{CutFile, BadSum, BadKind, NotZero, WrongCounts, IndexWithoutVertex, FloatNotFinite, BytesAfterClosing, ShortRoom, BadLists}
 use Rattle.mesh_record.specs.Faults.{Found, bad_sum, bad_kind, bad_zero, bad_counts, bad_index, finite, bad_float, bad_end, fault_of, found_at, seen}
 
 -- a file, a place in it, the vertices and triangles seen before it, and what is found there: the record's kind, or 0 and its fault
@@ -88,3 +90,14 @@ cases =
 pub none-fails : keep (λ (k : Case). not (passes k)) cases ≡ []
 unfolding keep word_at total sum_of bad_sum bad_kind bad_zero bad_counts bad_index finite bad_float bad_end fault_of found_at odd of_fields of_bits
 none-fails = refl
+
+-- "21 cut file" to "30 [..] lists not in threes": each refusal has the request's number
+pub refusals-are :
+    map number_of_refusal
+    (CutFile ∷ BadSum ∷ BadKind ∷ NotZero ∷ WrongCounts ∷ IndexWithoutVertex ∷ FloatNotFinite ∷ BytesAfterClosing ∷ ShortRoom ∷ BadLists ∷ [])
+    ≡ 21 ∷ 22 ∷ 23 ∷ 24 ∷ 25 ∷ 26 ∷ 27 ∷ 28 ∷ 29 ∷ 30 ∷ []
+refusals-are = refl
+
+-- and the answer is 0 where nothing is refused
+pub answers-are : (answer_of (Ok (tt {0})) ≡ 0) × (answer_of {A = ℕ} (Err ShortRoom) ≡ 29)
+answers-are = (refl, refl)

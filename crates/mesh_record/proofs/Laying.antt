@@ -1,22 +1,12 @@
--- Laws of lists laid over others: stores in a row lay a list, one list laid after another is the two joined, and a loop that lays its k-th
+-- Laws of lists laid over others: a part written over lays a list, one list laid after another is the two joined, and a loop that lays its k-th
 -- part at its k-th turn lays them all. Assumes nothing.
-use Rattle.std.proofs.Common.{◌≡◌, ℕ, zero, suc, ◌+◌, ◌*◌, ◌≤◌, List, [], ◌∷◌, ◌++◌, length, take, drop, set, sym, refl, ap, ◌∙◌, append_assoc, add-zero, add_assoc, mul-zero, zero-add, mul-suc, add-one, arith, length-append, take-append-drop, length-take, drop-drop, take_at}
-use native.Mathlib.Numerals.{add-two, add-three}
-use lib.Seq.{sets, sets-eq, drop-append-add}
+use Rattle.std.proofs.Common.{◌≡◌, ℕ, zero, suc, ◌+◌, ◌*◌, ◌≤◌, List, [], ◌++◌, length, take, drop, sym, refl, ap, ◌∙◌, append_assoc, add-zero, add_assoc, mul-zero, zero-add, mul-suc, add-one, arith, length-append, take-append-drop, length-take, drop-drop, take_at}
+use lib.Seq.{drop-append-add}
+use borrow.Rule.Slice.PartMut.{put_mid}
 use Rattle.lists.specs.Lists.{over}
 use Rattle.mesh_record.specs.Record.{each, laid}
 
 module _ {A : Type 0} where
-  stored : (new old : List A) (at : ℕ) → at + length new ≤ length old → sets old at new ≡ laid new at old
-  stored new old at h = sets-eq new old at h ∙ append_assoc (take at old) new (drop (at + length new) old)
-
-  pub three-stored : (x y z : A) (old : List A) (at : ℕ) → at + 3 ≤ length old → set (set (set old at x) (at + 1) y) (at + 2) z ≡ laid (x ∷ y ∷ z ∷ []) at old
-  three-stored x y z old at h = simp (add-one, add-two) (stored (x ∷ y ∷ z ∷ []) old at h)
-
-  pub four-stored : (x y z w : A) (old : List A) (at : ℕ) → at + 4 ≤ length old
-      → set (set (set (set old at x) (at + 1) y) (at + 2) z) (at + 3) w ≡ laid (x ∷ y ∷ z ∷ w ∷ []) at old
-  four-stored x y z w old at h = simp (add-one, add-two, add-three) (stored (x ∷ y ∷ z ∷ w ∷ []) old at h)
-
   pub laid_none : (at : ℕ) (old : List A) → laid [] at old ≡ old
   laid_none at old = rw add-zero (take-append-drop at old)
 
@@ -28,6 +18,10 @@ module _ {A : Type 0} where
       let d : drop (at + length a + length b) (take at old ++ (a ++ drop (at + length a) old)) ≡ drop (at + length (a ++ b)) old =
       rw (← append_assoc, ← n, drop-append-add, drop-drop) (rw (n, length-append, add_assoc) refl) in
       rw (t, d) (simp append_assoc)
+
+  -- a part written over
+  pub mid-laid : (at k : ℕ) (new old : List A) → k ≡ length new → put_mid at k old new ≡ laid new at old
+  mid-laid at k new old e = rw (e, drop-drop) refl
 
   pub over-laid : (new old : List A) → over new old ≡ laid new 0 old
   over-laid new old = rw zero-add refl

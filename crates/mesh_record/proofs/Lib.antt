@@ -1,4 +1,5 @@
 -- The laws that belong to no one function.
+pub mod Opened
 pub mod OneWord
 pub mod Laying
 pub mod Recording

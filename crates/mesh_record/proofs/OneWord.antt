@@ -1,14 +1,22 @@
 -- Laws of single words: six sums, each modulo M, are the sum of seven modulo M, and the exponent's field of a float's word says whether the
 -- float is finite. Assumes nothing.
-use Rattle.std.proofs.Common.{◌≡◌, ℕ, zero, suc, ◌+◌, ◌/◌, ◌%◌, Bool, true, false, cond, not, T, eqb, leb, sym, refl, ap, ◌∙◌, subst, add-zero, add_assoc}
-use native.Mathlib.Nat.{mod-add-mod}
-use lib.Ieee.{Float, nan, inf, fin, is_nan, ne, binary32, odd, of_fields, of_bits, nan_bits}
+use Rattle.std.proofs.Common.{◌≡◌, ℕ, zero, suc, ◌+◌, ◌/◌, ◌%◌, ◌^◌, ◌<◌, List, [], ◌∷◌, Bool, true, false, cond, not, T, eqb, leb, sym, refl, ◌∙◌, add-zero, zero-add, add_assoc, arith}
+use Rattle.std.specs.List.{fold}
+use native.Mathlib.Nat.{mod-add-mod, mod-eq_of_lt}
+use lib.Ieee.{Float, nan, inf, fin, is_nan, binary32, odd, of_fields, of_bits, nan_bits}
 use lib.Ieee.Bits.{nan_bits_is}
-use lib.Ieee.Compare.{differs_from_itself, nan_differs}
+use Rattle.mesh_record.specs.Record.{total, sum_of}
 use Rattle.mesh_record.specs.Faults.{finite}
 
-pub sum-seven : (M a b c d e f g : ℕ) → ((((((a + b) % M + c) % M + d) % M + e) % M + f) % M + g) % M ≡ (a + (b + (c + (d + (e + (f + (g + 0))))))) % M
-sum-seven M a b c d e f g = simp (mod-add-mod, add_assoc, add-zero)
+-- from a sum so far
+fold-total : (a : ℕ) (ws : List ℕ) → a < 2 ^ 32 → fold (λ s w. (s + w) % 2 ^ 32) a ws ≡ (a + total ws) % 2 ^ 32
+unfolding total
+fold-total a [] h = sym (mod-eq_of_lt (omega arith) ∙ add-zero a)
+fold-total a (w ∷ ws) h = fold-total ((a + w) % 2 ^ 32) ws (omega arith) ∙ simp (mod-add-mod, add_assoc)
+
+pub fold-sum : (ws : List ℕ) → fold (λ s w. (s + w) % 2 ^ 32) 0 ws ≡ sum_of ws
+unfolding sum_of
+fold-sum ws = fold-total 0 ws (omega arith) ∙ simp zero-add
 
 odd-finite : (d : ℕ) (s : Bool) (q k l : ℕ) → finite (odd d s q k l) ≡ true
 unfolding finite odd
@@ -41,13 +49,8 @@ finite-is-number (fin s m e) h = tt
 pub finite-has-bits : (w : ℕ) → T (finite (of_bits binary32 w)) → T (not (nan_bits binary32 w))
 finite-has-bits w h = rw nan_bits_is (finite-is-number (of_bits binary32 w) h)
 
--- a float that equals itself is a number, and one that does not is not finite
-pub same-is-number : (x : Float) → ne x x ≡ false → T (not (is_nan x))
-unfolding is_nan
-same-is-number nan h = absurd (subst T (sym nan_differs ∙ h) tt)
-same-is-number (inf s) h = tt
-same-is-number (fin s m e) h = tt
-
-pub differs-not-finite : (x : Float) → ne x x ≡ true → false ≡ finite x
-unfolding finite
-differs-not-finite x h = sym (ap finite (differs_from_itself x (subst T (sym h) tt)))
+pub nan-not-finite : (x : Float) → is_nan x ≡ true → false ≡ finite x
+unfolding finite is_nan
+nan-not-finite nan h = refl
+nan-not-finite (inf s) h = refl
+nan-not-finite (fin s m e) h = h

@@ -1,5 +1,8 @@
 -- Words written in a row: four of them, and a record of seven and their sum; and a record written where there is room, or refused. Assumes nothing.
-use Rattle.std.proofs.Common.{◌≡◌, ℕ, ◌+◌, ◌<◌, ◌≤◌, List, [], ◌∷◌, ◌++◌, length, sym, refl, ap, ◌∙◌, append_assoc, append-nil, le-ltb, lt-ltb}
+use Rattle.std.proofs.Common.{◌≡◌, ℕ, ◌+◌, ◌*◌, ◌<◌, ◌≤◌, List, [], ◌∷◌, ◌++◌, length, get_or, take, refl, ap, ◌∙◌, arith, length-append, length-take, le-ltb, lt-ltb}
+use Rattle.std.proofs.lemmas.List.{take_more}
+use lib.Seq.{take_all}
+use Rattle.lists.proofs.Lists.{joined_snoc, joined_length}
 use Rattle.lists.specs.Lists.{joined}
 use Rattle.mesh_record.specs.Record.{bytes_of, sum_of, record_of, laid}
 use Rattle.mesh_record.specs.Written.{record_answer, record_written}
@@ -9,45 +12,33 @@ pub record-length : (k a b c d e g : ℕ) → length (record_of (k ∷ a ∷ b �
 unfolding record_of joined bytes_of
 record-length k a b c d e g = refl
 
-four-length : (a b c d : ℕ) → length (joined bytes_of (a ∷ b ∷ c ∷ d ∷ [])) ≡ 16
-unfolding joined bytes_of
-four-length a b c d = refl
-
-two-length : (a b : ℕ) → length (bytes_of a ++ bytes_of b) ≡ 8
+bytes-length : (w : ℕ) → length (bytes_of w) ≡ 4
 unfolding bytes_of
-two-length a b = refl
+bytes-length w = refl
 
-three-length : (a b c : ℕ) → length (bytes_of a ++ bytes_of b ++ bytes_of c) ≡ 12
-unfolding bytes_of
-three-length a b c = refl
+words-length : (ws : List ℕ) → length (joined bytes_of ws) ≡ 4 * length ws
+words-length ws = joined_length bytes_of 4 bytes-length ws
 
-one-length : (a : ℕ) → length (bytes_of a) ≡ 4
-unfolding bytes_of
-one-length a = refl
+-- a record of any seven words
+pub seven-length : (ws : List ℕ) → length ws ≡ 7 → length (record_of ws) ≡ 32
+unfolding record_of
+seven-length ws n = words-length (ws ++ (sum_of ws ∷ [])) ∙ omega (arith, n, length-append ws (sum_of ws ∷ []))
 
-pub four-words : (a b c d at : ℕ) (f₀ f₁ f₂ f₃ f₄ : List ℕ) → at ≤ length f₀ → f₁ ≡ laid (bytes_of a) at f₀ → f₂ ≡ laid (bytes_of b) (at + 4) f₁ → f₃ ≡ laid (bytes_of c) (at + 8) f₂
-    → f₄ ≡ laid (bytes_of d) (at + 12) f₃ → f₄ ≡ laid (joined bytes_of (a ∷ b ∷ c ∷ d ∷ [])) at f₀
-unfolding joined
-four-words a b c d at f₀ f₁ f₂ f₃ f₄ h e₁ e₂ e₃ e₄ =
-    let p₂ = laid-after (bytes_of a) (bytes_of b) at (at + 4) f₀ f₁ f₂ (ap (λ (x : ℕ). at + x) (sym (one-length a))) h e₁ e₂ in
-    let p₃ = laid-after (bytes_of a ++ bytes_of b) (bytes_of c) at (at + 8) f₀ f₂ f₃ (ap (λ (x : ℕ). at + x) (sym (two-length a b))) h p₂ e₃ in
-    let p₄ = laid-after (bytes_of a ++ bytes_of b ++ bytes_of c) (bytes_of d) at (at + 12) f₀ f₃ f₄ (ap (λ (x : ℕ). at + x) (sym (three-length a b c))) h p₃ e₄ in
-    let q : bytes_of a ++ bytes_of b ++ bytes_of c ++ bytes_of d ≡ bytes_of a ++ (bytes_of b ++ (bytes_of c ++ (bytes_of d ++ []))) = simp (append_assoc, append-nil) in
-    p₄ ∙ ap (λ (x : List ℕ). laid x at f₀) q
+-- one word more
+pub word-laid : (ws : List ℕ) (k at : ℕ) (old cur new : List ℕ) → k < length ws → at ≤ length old → cur ≡ laid (joined bytes_of (take k ws)) at old
+    → new ≡ laid (bytes_of (get_or ws k 0)) (at + 4 * k) cur → new ≡ laid (joined bytes_of (take (k + 1) ws)) at old
+word-laid ws k at old cur new l h i e =
+    let p : at + 4 * k ≡ at + length (joined bytes_of (take k ws)) = omega (arith, words-length (take k ws), length-take k ws) in
+    rw (take_more ws k 0 l, joined_snoc) (laid-after (joined bytes_of (take k ws)) (bytes_of (get_or ws k 0)) at (at + 4 * k) old cur new p h i e)
 
-pub eight-words : (k a b c d e g s at : ℕ) (f₀ f₁ f₂ : List ℕ) → at ≤ length f₀ → s ≡ sum_of (k ∷ a ∷ b ∷ c ∷ d ∷ e ∷ g ∷ []) → f₁ ≡ laid (joined bytes_of (k ∷ a ∷ b ∷ c ∷ [])) at f₀
-    → f₂ ≡ laid (joined bytes_of (d ∷ e ∷ g ∷ s ∷ [])) (at + 16) f₁ → f₂ ≡ laid (record_of (k ∷ a ∷ b ∷ c ∷ d ∷ e ∷ g ∷ [])) at f₀
-unfolding record_of joined
-eight-words k a b c d e g s at f₀ f₁ f₂ h p e₁ e₂ =
-    let t = joined bytes_of (d ∷ e ∷ g ∷ s ∷ []) in
-    let p₂ = laid-after (joined bytes_of (k ∷ a ∷ b ∷ c ∷ [])) t at (at + 16) f₀ f₁ f₂ (ap (λ (x : ℕ). at + x) (sym (four-length k a b c))) h e₁ e₂ in
-    let q : joined bytes_of (k ∷ a ∷ b ∷ c ∷ []) ++ t ≡ record_of (k ∷ a ∷ b ∷ c ∷ d ∷ e ∷ g ∷ []) = rw (← p) (simp append_assoc) in
-    p₂ ∙ ap (λ (x : List ℕ). laid x at f₀) q
-
--- the record that six floats' words make
-pub vertex-words : (k a b c d e g k' a' b' c' d' e' g' at : ℕ) (f₀ f₁ : List ℕ) → k ≡ k' → a ≡ a' → b ≡ b' → c ≡ c' → d ≡ d' → e ≡ e' → g ≡ g'
-    → f₁ ≡ laid (record_of (k ∷ a ∷ b ∷ c ∷ d ∷ e ∷ g ∷ [])) at f₀ → f₁ ≡ laid (record_of (k' ∷ a' ∷ b' ∷ c' ∷ d' ∷ e' ∷ g' ∷ [])) at f₀
-vertex-words k a b c d e g k' a' b' c' d' e' g' at f₀ f₁ q₀ q₁ q₂ q₃ q₄ q₅ q₆ h = rw (← q₀, ← q₁, ← q₂, ← q₃, ← q₄, ← q₅, ← q₆) h
+-- and the sum after all
+pub sum-laid : (ws : List ℕ) (k at s : ℕ) (old cur new : List ℕ) → length ws ≡ 7 → length ws ≤ k → at ≤ length old → cur ≡ laid (joined bytes_of (take k ws)) at old
+    → s ≡ sum_of ws → new ≡ laid (bytes_of s) (at + 28) cur → new ≡ laid (record_of ws) at old
+unfolding record_of
+sum-laid ws k at s old cur new n l h i q e =
+    let p : at + 28 ≡ at + length (joined bytes_of ws) = omega (arith, words-length ws) in
+    let j : cur ≡ laid (joined bytes_of ws) at old = i ∙ ap (λ xs. laid (joined bytes_of xs) at old) (take_all k ws l) in
+    rw (← q, joined_snoc) (laid-after (joined bytes_of ws) (bytes_of s) at (at + 28) old cur new p h j e)
 
 -- ---- a record at any place
 

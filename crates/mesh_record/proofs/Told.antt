@@ -4,7 +4,7 @@ use borrow.Author.Tests.{not-false}
 use Rattle.mesh_record.specs.Record.{word_at, sum_of}
 use Rattle.mesh_record.specs.Faults.{words_at, bad_sum, bad_kind, all_zero, bad_zero, bad_counts, bad_index, three_finite, bad_float, bad_end, fault_of, good, faulty, Known, found_of, found_at}
 use Rattle.mesh_record.specs.declared.Words.{Words}
-use Rattle.mesh_record.specs.declared.Seen.{Seen}
+use Rattle.mesh_record.specs.declared.Counts.{Counts}
 use Rattle.mesh_record.proofs.OneStep.{kind-whole}
 use Rattle.lists.proofs.Either.{or_left, or_right}
 
@@ -31,7 +31,7 @@ pub cond-zero : (b : Bool) (n x : ℕ) → cond b (suc n) x ≡ 0 → (b ≡ fal
 cond-zero true n x e = absurd (omega arith)
 cond-zero false n x e = (refl, e)
 
-pub record NoFault (w : Words) (s : Seen) (more : Bool) : Type 0 where
+pub record NoFault (w : Words) (s : Counts) (more : Bool) : Type 0 where
   pub sum : bad_sum w ≡ false
   pub kind : bad_kind w.kind s.triangles ≡ false
   pub zero : bad_zero w ≡ false
@@ -40,7 +40,7 @@ pub record NoFault (w : Words) (s : Seen) (more : Bool) : Type 0 where
   pub float : bad_float w ≡ false
   pub last : bad_end w more ≡ false
 
-pub no-fault : (w : Words) (s : Seen) (more : Bool) → fault_of w s more ≡ 0 → NoFault w s more
+pub no-fault : (w : Words) (s : Counts) (more : Bool) → fault_of w s more ≡ 0 → NoFault w s more
 unfolding fault_of
 no-fault w s more e =
     let e₁ = cond-zero (bad_sum w) 21 _ e in
@@ -52,7 +52,7 @@ no-fault w s more e =
     let e₇ = cond-zero (bad_end w more) 27 0 e₆.1 in
     record { sum = e₁.0; kind = e₂.0; zero = e₃.0; counts = e₄.0; index = e₅.0; float = e₆.0; last = e₇.0 }
 
-pub fault-none : (w : Words) (s : Seen) (more : Bool) → NoFault w s more → fault_of w s more ≡ 0
+pub fault-none : (w : Words) (s : Counts) (more : Bool) → NoFault w s more → fault_of w s more ≡ 0
 unfolding fault_of
 fault-none w s more n = rw (n.sum, n.kind, n.zero, n.counts, n.index, n.float, n.last) refl
 
@@ -65,12 +65,12 @@ kind-of fault kind k = go (eqb fault 0) refl
     go true e g = (eqb-true fault 0 e, g)
     go false e g = absurd (omega (arith, g))
 
-pub record GoodRecord (f : List ℕ) (at : ℕ) (s : Seen) (k : ℕ) : Type 0 where
+pub record GoodRecord (f : List ℕ) (at : ℕ) (s : Counts) (k : ℕ) : Type 0 where
   pub room : at + 32 ≤ length f
   pub kind : word_at f at ≡ k
   pub faultless : NoFault (words_at f at) s (ltb (at + 32) (length f))
 
-pub good-record : (f : List ℕ) (at : ℕ) (s : Seen) (k : ℕ) → (found_at f at s).kind ≡ suc k → GoodRecord f at s (suc k)
+pub good-record : (f : List ℕ) (at : ℕ) (s : Counts) (k : ℕ) → (found_at f at s).kind ≡ suc k → GoodRecord f at s (suc k)
 unfolding found_at
 good-record f at s k g =
     let h = kind-whole f at s k g in
@@ -79,7 +79,7 @@ good-record f at s k g =
     let p = kind-of n (word_at f at) k (subst (λ (b : Bool). (cond b (faulty 21) (found_of n (word_at f at))).kind ≡ suc k) c g) in
     record { room = h; kind = p.1; faultless = no-fault (words_at f at) s (ltb (at + 32) (length f)) p.0 }
 
-pub good-found : (f : List ℕ) (at : ℕ) (s : Seen) → at + 32 ≤ length f → NoFault (words_at f at) s (ltb (at + 32) (length f)) → found_at f at s ≡ good (word_at f at)
+pub good-found : (f : List ℕ) (at : ℕ) (s : Counts) → at + 32 ≤ length f → NoFault (words_at f at) s (ltb (at + 32) (length f)) → found_at f at s ≡ good (word_at f at)
 unfolding found_at
 good-found f at s h n = rw (le-ltb (length f) (at + 32) h) (rw (fault-none (words_at f at) s (ltb (at + 32) (length f)) n) refl)
 
@@ -93,6 +93,8 @@ known-kind k t = go (eqb k 1) refl (eqb k 2) refl
     go true e b q n = inl (eqb-true k 1 e)
     go false e true q n = inr (inl (eqb-true k 2 q))
     go false e false q n = inr (inr (eqb-true k 3 (not-false (eqb k 3) n)))
+
+-- ---- a step
 
 -- a vertex comes before all triangles
 vertex-first : (k t : ℕ) → k ≡ 1 → bad_kind k t ≡ false → t ≡ 0
@@ -109,14 +111,14 @@ sum_told : (f : List ℕ) (at : ℕ) → bad_sum (words_at f at) ≡ false → S
 unfolding bad_sum
 sum_told f at e = eqb-true _ _ (not-false _ e)
 
-pub record VertexTold (f : List ℕ) (at : ℕ) (s : Seen) : Type 0 where
+pub record VertexTold (f : List ℕ) (at : ℕ) (s : Counts) : Type 0 where
   pub room : at + 32 ≤ length f
   pub kind : word_at f at ≡ 1
   pub sum : Sum f at
   pub first : s.triangles ≡ 0
   pub floats : three_finite (word_at f (at + 4)) (word_at f (at + 8)) (word_at f (at + 12)) && three_finite (word_at f (at + 16)) (word_at f (at + 20)) (word_at f (at + 24)) ≡ true
 
-pub vertex-told : (f : List ℕ) (at : ℕ) (s : Seen) → (found_at f at s).kind ≡ 1 → VertexTold f at s
+pub vertex-told : (f : List ℕ) (at : ℕ) (s : Counts) → (found_at f at s).kind ≡ 1 → VertexTold f at s
 unfolding bad_float
 vertex-told f at s e =
     let g = good-record f at s 0 e in
@@ -129,14 +131,14 @@ vertex-told f at s e =
       floats = not-false _ (second-false (eqb (word_at f at) 1) _ (eq-eqb (word_at f at) 1 k) g.faultless.float);
     }
 
-pub record TriangleTold (f : List ℕ) (at : ℕ) (s : Seen) : Type 0 where
+pub record TriangleTold (f : List ℕ) (at : ℕ) (s : Counts) : Type 0 where
   pub room : at + 32 ≤ length f
   pub kind : word_at f at ≡ 2
   pub sum : Sum f at
   pub zeros : all_zero 0 (word_at f (at + 16)) (word_at f (at + 20)) (word_at f (at + 24)) ≡ true
   pub below : ltb (word_at f (at + 4)) s.vertices && ltb (word_at f (at + 8)) s.vertices && ltb (word_at f (at + 12)) s.vertices ≡ true
 
-pub triangle-told : (f : List ℕ) (at : ℕ) (s : Seen) → (found_at f at s).kind ≡ 2 → TriangleTold f at s
+pub triangle-told : (f : List ℕ) (at : ℕ) (s : Counts) → (found_at f at s).kind ≡ 2 → TriangleTold f at s
 unfolding bad_zero bad_index
 triangle-told f at s e =
     let g = good-record f at s 1 e in
@@ -149,7 +151,7 @@ triangle-told f at s e =
       below = not-false _ (second-false (eqb (word_at f at) 2) _ (eq-eqb (word_at f at) 2 k) g.faultless.index);
     }
 
-pub record ClosingTold (f : List ℕ) (at : ℕ) (s : Seen) : Type 0 where
+pub record ClosingTold (f : List ℕ) (at : ℕ) (s : Counts) : Type 0 where
   pub length : length f ≡ at + 32
   pub kind : word_at f at ≡ 3
   pub sum : Sum f at
@@ -157,7 +159,7 @@ pub record ClosingTold (f : List ℕ) (at : ℕ) (s : Seen) : Type 0 where
   pub vertices : word_at f (at + 4) ≡ s.vertices
   pub triangles : word_at f (at + 8) ≡ s.triangles
 
-pub closing-told : (f : List ℕ) (at : ℕ) (s : Seen) → (found_at f at s).kind ≡ 3 → ClosingTold f at s
+pub closing-told : (f : List ℕ) (at : ℕ) (s : Counts) → (found_at f at s).kind ≡ 3 → ClosingTold f at s
 unfolding bad_zero bad_counts bad_end
 closing-told f at s e =
     let g = good-record f at s 2 e in

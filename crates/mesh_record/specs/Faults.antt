@@ -1,12 +1,15 @@
 -- Document 02, request 2: the faults of one record, "in one record the lowest number", and what reading finds at a place. Definitions only.
 -- Assumes nothing.
-use Rattle.std.specs.Prelude.{◌≡◌, ℕ, ◌+◌, Bool, true, false, cond, not, ◌&&◌, ◌||◌, ◌⊎◌, List, [], ◌∷◌, length, ◌==◌, from_bits, nat_lt, Float}
+use Rattle.std.specs.Prelude.{◌≡◌, ℕ, ◌+◌, Bool, true, false, cond, not, ◌&&◌, ◌||◌, ◌⊎◌, Result, Ok, Err, List, [], ◌∷◌, length, ◌==◌, from_bits, nat_lt, Float}
 use Rattle.std.specs.Float.{nan, inf, fin, binary32}
 use Rattle.mesh_record.specs.Record.{word_at, sum_of}
 use Rattle.mesh_record.specs.declared.Words.{Words}
-use Rattle.mesh_record.specs.declared.Seen.{Seen}
+use Rattle.mesh_record.specs.declared.Counts.{Counts}
 use Rattle.mesh_record.specs.declared.Step.{Step}
-use Rattle.mesh_record.specs.declared.Step.TheVariants.{Vertex, Triangle, Closed, Refused}
+use Rattle.mesh_record.specs.declared.Step.TheVariants.{Vertex, Triangle, Closed}
+use Rattle.mesh_record.specs.declared.refusal.Refusal.{Refusal}
+use Rattle.mesh_record.specs.declared.refusal.Refusal.TheVariants.{BadKind}
+use Rattle.mesh_record.specs.Refusal.{number_of_refusal}
 
 -- ---- the faults of one record, by its eight words and by what was seen before it
 
@@ -43,7 +46,7 @@ unfoldable pub bad_zero : Words → Bool
 bad_zero w = (w.kind == 2 && not (all_zero 0 w.d w.e w.f)) || (w.kind == 3 && not (all_zero w.c w.d w.e w.f))
 
 -- 25: "wrong counts"
-unfoldable pub bad_counts : Words → Seen → Bool
+unfoldable pub bad_counts : Words → Counts → Bool
 bad_counts w s = w.kind == 3 && not (w.a == s.vertices && w.b == s.triangles)
 
 -- 26: "an index without its vertex"
@@ -70,7 +73,7 @@ unfoldable pub bad_end : Words → Bool → Bool
 bad_end w more = w.kind == 3 && more
 
 -- "in one record the lowest number"; 0 for a good record
-unfoldable pub fault_of : Words → Seen → Bool → ℕ
+unfoldable pub fault_of : Words → Counts → Bool → ℕ
 fault_of w s more =
     cond (bad_sum w) 22
     (cond (bad_kind w.kind s.triangles) 23
@@ -93,14 +96,17 @@ good kind = record { kind = kind; fault = 0 }
 abbrev pub faulty : ℕ → Found
 faulty fault = record { kind = 0; fault = fault }
 
--- those numbers for each case of the code's enum
-abbrev pub numbers_of : Step → Found
-numbers_of Vertex = good 1
-numbers_of Triangle = good 2
-numbers_of Closed = good 3
-numbers_of (Refused n) = faulty n
+-- those numbers for each case of the code's enums
+abbrev pub numbers_of : Result Step Refusal → Found
+numbers_of (Ok Vertex) = good 1
+numbers_of (Ok Triangle) = good 2
+numbers_of (Ok Closed) = good 3
+numbers_of (Err r) = faulty (number_of_refusal r)
 
--- "Vertex: 1", "Triangle: 2", "Closing: 3"
+-- "Vertex: 1", "Triangle: 2", "Closing: 3", and no other
+abbrev pub step_of : ℕ → Result Step Refusal
+step_of kind = cond (kind == 1) (Ok Vertex) (cond (kind == 2) (Ok Triangle) (cond (kind == 3) (Ok Closed) (Err BadKind)))
+
 abbrev pub Known : ℕ → Type 0
 Known kind = (kind ≡ 1) ⊎ ((kind ≡ 2) ⊎ (kind ≡ 3))
 
@@ -108,8 +114,8 @@ abbrev pub found_of : ℕ → ℕ → Found
 found_of fault kind = cond (fault == 0) (good kind) (faulty fault)
 
 -- what reading finds at a place of a file, after so many vertices and triangles
-unfoldable pub found_at : List ℕ → ℕ → Seen → Found
+unfoldable pub found_at : List ℕ → ℕ → Counts → Found
 found_at f at s = cond (cut f at) (faulty 21) (found_of (fault_of (words_at f at) s (nat_lt (at + 32) (length f))) (word_at f at))
 
-abbrev pub seen : ℕ → ℕ → Seen
+abbrev pub seen : ℕ → ℕ → Counts
 seen v t = record { vertices = v; triangles = t }

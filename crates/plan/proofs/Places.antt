@@ -1,53 +1,29 @@
--- Lists by places: what stands at a place of a mapped list, sums over the first places, and whether some place passes a test. Assumes nothing.
-use Prim.Native.Nat.{ℕ, zero, suc, ◌+◌, ◌<◌}
-use native.Mathlib.Numerals.{add-one}
-use native.Mathlib.Omega.{arith}
-use mathlib.Core.Bool.{Bool, false, not, ◌||◌}
-use mathlib.Core.List.{List, [], ◌∷◌, map}
-use mathlib.Core.Path.{◌≡◌, refl, ap, ap₂, ◌∙◌}
-use lib.Dec.{T}
-use lib.Ieee.Bits.{is_false}
-use lib.ListN.{length, get_or}
-use Rattle.lists.specs.Lists.{some}
-use Rattle.lists.proofs.Tests.{or-first, or-second}
-use Rattle.lists.proofs.Lists.{total}
+-- Lists by places: what stands at a place of a mapped list, and what tests of all elements, or of some, say of each place. Assumes nothing.
+use Rattle.std.proofs.Common.{◌≡◌, ℕ, zero, suc, ◌<◌, Bool, not, T, List, [], ◌∷◌, map, length, get_or, arith, refl}
+use Rattle.std.specs.List.{list_any, list_all}
+use lib.Ieee.Fits.{and_i, and_l, and_r}
+use Rattle.lists.proofs.Tests.{nor-left, nor-right, nor-both}
 
 pub at_map : {A B : Type 0} (f : A → B) (l : List A) (i : ℕ) (d : A) (e : B) → i < length l → get_or (map f l) i e ≡ f (get_or l i d)
 at_map f [] i d e h = absurd (omega arith)
 at_map f (x ∷ xs) zero d e h = refl
 at_map f (x ∷ xs) (suc i) d e h = at_map f xs i d e (omega arith)
 
--- the sum of the first n
-unfoldable pub upto : (ℕ → ℕ) → ℕ → ℕ
-upto f zero = 0
-upto f (suc n) = upto f n + f n
+module _ {A : Type 0} (p : A → Bool) (d : A) where
+  pub all-places : (l : List A) → T (list_all p l) → (i : ℕ) → i < length l → T (p (get_or l i d))
+  all-places [] t i h = absurd (omega arith)
+  all-places (x ∷ xs) t zero h = and_l (p x) (list_all p xs) t
+  all-places (x ∷ xs) t (suc i) h = all-places xs (and_r (p x) (list_all p xs) t) i (omega arith)
 
-pub upto-one : (f : ℕ → ℕ) (n : ℕ) → upto f (n + 1) ≡ upto f n + f n
-unfolding upto
-upto-one f n = rw add-one refl
+  pub places-all : (l : List A) → ((i : ℕ) → i < length l → T (p (get_or l i d))) → T (list_all p l)
+  places-all [] h = tt
+  places-all (x ∷ xs) h = and_i (p x) (list_all p xs) (h 0 (omega arith)) (places-all xs (λ i k. h (suc i) (omega arith)))
 
-upto-first : (f : ℕ → ℕ) (n : ℕ) → upto f (suc n) ≡ f 0 + upto (λ i. f (suc i)) n
-unfolding upto
-upto-first f zero = omega arith
-upto-first f (suc n) = omega (arith, upto-first f n)
+  pub none-places : (l : List A) → T (not (list_any p l)) → (i : ℕ) → i < length l → T (not (p (get_or l i d)))
+  none-places [] t i h = absurd (omega arith)
+  none-places (x ∷ xs) t zero h = nor-left (p x) (list_any p xs) t
+  none-places (x ∷ xs) t (suc i) h = none-places xs (nor-right (p x) (list_any p xs) t) i (omega arith)
 
-pub upto-total : {A : Type 0} (g : A → ℕ) (d : A) (l : List A) → upto (λ i. g (get_or l i d)) (length l) ≡ total g l
-unfolding upto total
-upto-total g d [] = refl
-upto-total g d (x ∷ xs) = upto-first (λ i. g (get_or (x ∷ xs) i d)) (length xs) ∙ ap (λ n. g x + n) (upto-total g d xs)
-
-pub total-map : {A B : Type 0} (g : B → ℕ) (f : A → B) (l : List A) → total g (map f l) ≡ total (λ x. g (f x)) l
-unfolding total
-total-map g f [] = refl
-total-map g f (x ∷ xs) = ap (λ n. g (f x) + n) (total-map g f xs)
-
-pub some_at : {A : Type 0} (f : A → Bool) (l : List A) (i : ℕ) (d : A) → i < length l → T (f (get_or l i d)) → T (some f l)
-unfolding some
-some_at f [] i d h t = absurd (omega arith)
-some_at f (x ∷ xs) zero d h t = or-first (f x) (some f xs) t
-some_at f (x ∷ xs) (suc i) d h t = or-second (f x) (some f xs) (some_at f xs i d (omega arith) t)
-
-pub none-at : {A : Type 0} (f : A → Bool) (d : A) (l : List A) → ((i : ℕ) → i < length l → T (not (f (get_or l i d)))) → some f l ≡ false
-unfolding some
-none-at f d [] h = refl
-none-at f d (x ∷ xs) h = ap₂ ◌||◌ (is_false (f x) (h 0 (omega arith))) (none-at f d xs (λ i k. h (suc i) (omega arith)))
+  pub places-none : (l : List A) → ((i : ℕ) → i < length l → T (not (p (get_or l i d)))) → T (not (list_any p l))
+  places-none [] h = tt
+  places-none (x ∷ xs) h = nor-both (p x) (list_any p xs) (h 0 (omega arith)) (places-none xs (λ i k. h (suc i) (omega arith)))

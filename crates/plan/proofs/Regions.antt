@@ -17,8 +17,8 @@ use Rattle.lists.proofs.Lists.{all-each, many-map, many-same}
 use Rattle.rules.proofs.Ownership.{side, has, owned-sides}
 use Rattle.plan.specs.declared.Block.{Block}
 use Rattle.plan.specs.declared.region.Span.{Span}
-use Rattle.plan.specs.declared.region.Region.{Region}
-use Rattle.plan.specs.declared.region.Owned.{Owned}
+use Rattle.plan.specs.Triples.{Region}
+use Rattle.plan.specs.Triples.{Owned}
 use Rattle.plan.specs.Plan.{piece}
 use Rattle.plan.specs.Region.{owned_of, box_of, spans_meet, regions_meet, owned_meet, span_empty, span_within, region_inside, owned_inside}
 use Rattle.plan.proofs.Covering.{Covers, Within, Apart}

@@ -1,6 +1,6 @@
 -- Sizes in two words: the number that they stand for is the number of points, no word passes 2^48 for one box, and two sums are equal, carried once,
 -- exactly if their numbers are. Assumes nothing.
-use Prim.Native.Nat.{ℕ, ◌+◌, ◌-◌, ◌*◌, ◌/◌, ◌%◌, ◌^◌, ◌≤◌, ◌<◌}
+use Prim.Native.Nat.{ℕ, ◌+◌, ◌-◌, ◌*◌, ◌/◌, ◌%◌, ◌^◌, ◌≤◌}
 use native.Mathlib.Nat.{mul-le-mul, add-mul, mul_assoc, mul_comm, div-add-mod'}
 use native.Mathlib.Omega.{arith}
 use mathlib.Core.Bool.{Bool, true, false, not, ◌||◌, cond}
@@ -9,8 +9,8 @@ use lib.Dec.{T, ltb, eqb, eqb→eq, nltb→le}
 use lib.Ieee.Fits.{and_i, and_l, and_r, eq→eqb}
 use Rattle.lists.proofs.Tests.{nor-left, nor-right}
 use Rattle.plan.specs.declared.Block.{Block}
-use Rattle.plan.specs.declared.region.Region.{Region}
-use Rattle.plan.specs.declared.region.Owned.{Owned}
+use Rattle.plan.specs.Triples.{Region}
+use Rattle.plan.specs.Triples.{Owned}
 use Rattle.plan.specs.declared.size.Sum.{Sum}
 use Rattle.plan.specs.Plan.{bad_side, bad_piece, bad_block}
 use Rattle.plan.specs.Region.{box_of, owned_of}
@@ -28,7 +28,7 @@ pub size-value : (r : Region) → value (size_of r) ≡ volume (box_of r)
 unfolding size_of
 size-value r = parted (side_of r.x * side_of r.y) (side_of r.z)
 
--- ---- nothing overflows
+-- ---- no word is large
 
 pub plane-most : (a b : ℕ) → a ≤ 16777216 → b ≤ 16777216 → a * b ≤ 281474976710656
 plane-most a b h k = mul-le-mul h k
@@ -45,15 +45,6 @@ size-most r s = (
   high-most (side_of r.x * side_of r.y) (side_of r.z) (plane-most (side_of r.x) (side_of r.y) s.0 s.1) s.2,
   low-most (side_of r.x * side_of r.y) (side_of r.z) s.2,
 )
-
-pub plane-fits : (a b : ℕ) → a ≤ 16777216 → b ≤ 16777216 → a * b < 2 ^ 64
-plane-fits a b h k = omega (arith, plane-most a b h k)
-
-pub high_fits : (p z : ℕ) → p ≤ 281474976710656 → z ≤ 16777216 → p / 16777216 * z < 2 ^ 64
-high_fits p z h k = omega (arith, high-most p z h k)
-
-pub low_fits : (p z : ℕ) → z ≤ 16777216 → p % 16777216 * z < 2 ^ 64
-low_fits p z k = omega (arith, low-most p z k)
 
 -- a block that 42 does not refuse has no side above 2^24
 cap : (low high : ℕ) → T (not (bad_side low high)) → high ≤ 16777216

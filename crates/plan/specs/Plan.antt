@@ -1,10 +1,12 @@
 -- Document 02, request 10: a block as the rules have it, the two refusals, and what an answer with its yes or no says.
 -- Definitions only. Assumes nothing.
-use Rattle.std.specs.Prelude.{ℕ, Bool, ◌||◌, cond, List, ◌≡◌, T, ltb, length}
+use Rattle.std.specs.Prelude.{ℕ, Bool, false, ◌||◌, cond, List, ◌≡◌, T, ltb, length, Result, Ok, Err}
 use Rattle.lists.specs.Lists.{some}
 use Rattle.rules.specs.Grid.{Box}
 use Rattle.rules.specs.Cutting.{Piece, Plan}
 use Rattle.plan.specs.declared.Block.{Block}
+use Rattle.plan.specs.declared.refusal.Refusal.{Refusal}
+use Rattle.plan.specs.declared.refusal.Refusal.TheVariants.{TooMany, BadBox}
 
 -- the box and the flags of a block
 abbrev pub piece : Block → Piece
@@ -56,6 +58,21 @@ unfoldable pub plan_answer : List Piece → Piece → ℕ
 plan_answer ps w = cond (too_many (length ps)) 41 (cond (bad_piece w || some bad_piece ps) 42 0)
 
 -- ---- the answer and its yes or no
+
+-- the refusals by their numbers
+abbrev pub refusal_number : Refusal → ℕ
+refusal_number TooMany = 41
+refusal_number BadBox = 42
+
+-- the answer number of a result: 0, or the refusal's
+abbrev pub answer_number : {A : Type 0} → Result A Refusal → ℕ
+answer_number (Ok _) = 0
+answer_number (Err why) = refusal_number why
+
+-- its yes or no, which is no on a refusal
+abbrev pub is_yes : Result Bool Refusal → Bool
+is_yes (Ok yes') = yes'
+is_yes (Err _) = false
 
 -- "it says yes exactly if every edge the whole owns is owned by exactly one block and no block owns any other edge": `Plan` of the rules. A refusal
 -- says no.

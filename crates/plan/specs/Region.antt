@@ -4,8 +4,8 @@ use Rattle.std.specs.Prelude.{ℕ, ◌+◌, ◌-◌, Bool, ◌&&◌, ◌||◌, c
 use Rattle.rules.specs.Grid.{Box}
 use Rattle.plan.specs.declared.Block.{Block}
 use Rattle.plan.specs.declared.region.Span.{Span}
-use Rattle.plan.specs.declared.region.Region.{Region}
-use Rattle.plan.specs.declared.region.Owned.{Owned}
+use Rattle.plan.specs.Triples.{Region}
+use Rattle.plan.specs.Triples.{Owned}
 
 abbrev pub along_span : ℕ → ℕ → Bool → Span
 along_span low high plane = record { from = low; to = cond plane high (high - 1) }

@@ -2,10 +2,10 @@
 -- Definitions only. Assumes nothing.
 use Rattle.std.specs.Prelude.{ℕ, ◌+◌, ◌-◌, ◌*◌, ◌/◌, ◌%◌, ◌≤◌, Bool, ◌&&◌, eqb}
 use Rattle.plan.specs.declared.region.Span.{Span}
-use Rattle.plan.specs.declared.region.Region.{Region}
-use Rattle.plan.specs.declared.region.Owned.{Owned}
+use Rattle.plan.specs.Triples.{Region}
+use Rattle.plan.specs.Triples.{Owned}
 use Rattle.plan.specs.declared.size.Sum.{Sum}
-use Rattle.plan.specs.declared.size.Sums.{Sums}
+use Rattle.plan.specs.Triples.{Sums}
 
 abbrev pub side_of : Span → ℕ
 side_of a = a.to - a.from

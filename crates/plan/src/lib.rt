@@ -3,16 +3,21 @@
 // whole exactly if each of those boxes lies in the whole's, no two meet, and their sizes add up.
 #![tactic(auto)]
 
-pub mod progress;
+pub mod as_block;
+mod cover;
+pub mod refusal;
 pub mod region;
 mod size;
+pub mod triple;
 
 ghost use Rattle.std.specs.Prelude.{map};
-ghost use Rattle.plan.specs.Plan.{Checks, piece};
+ghost use Rattle.plan.specs.Plan.{Checks, piece, answer_number, is_yes};
+
+use crate::refusal::Refusal;
 
 // A box between two corners, with the max plane's flags. C hands them over, 28 bytes each.
 #[repr(C)]
-#[derive(Clone, Copy)]
+#[derive(Clone, Copy, Debug, PartialEq, Eq)]
 pub struct Block {
     pub min_x: u32,
     pub min_y: u32,
@@ -25,20 +30,10 @@ pub struct Block {
     pub max_plane_z: bool,
 }
 
-// Answer 0 with the yes or no, or a refusal, 41 or 42, with `holds` false.
-#[derive(Clone, Copy)]
-pub struct PlanAnswer {
-    pub answer: u32,
-    pub holds: bool,
-}
-
-// A turn compares two blocks, or weighs one: `progress` says which, and where the next turn stands. All that reads the list is here.
-pub fn check_plan(blocks: &[Block], whole: Block) -> PlanAnswer
-    ensures { Checks (map piece blocks.now) (piece whole) result.answer result.holds }
+// The yes or no, or a refusal. Every block is looked at before a no, since a refusal comes before it.
+pub fn check_plan(blocks: &[Block], whole: Block) -> Result<bool, Refusal>
+    ensures { Checks (map piece blocks.now) (piece whole) (answer_number result) (is_yes result) }
 {
-    let mut p = progress::start(blocks.len(), whole);
-    while p.at < p.count {
-        p = progress::turn(blocks[p.at], blocks[p.with], p);
-    }
-    progress::finish(p)
+    refusal::accept(blocks, whole)?;
+    Ok(cover::covers_once(blocks, whole))
 }

@@ -4,21 +4,17 @@ ghost use Rattle.std.specs.Prelude.{◌≡◌, ◌*◌, ◌^◌};
 ghost use Rattle.plan.specs.Size.{side_of, Small, size_of, sizes_of, SmallAll, added, added_all, Most, MostAll, same_sum, same_sums};
 
 use crate::region::{Owned, Region, Span};
+use crate::triple::Triple;
 
 // The number high · 2^24 + low.
-#[derive(Clone, Copy)]
+#[derive(Clone, Copy, Debug, PartialEq, Eq)]
 pub(crate) struct Sum {
     pub high: u64,
     pub low: u64,
 }
 
 // How many x, y and z edges.
-#[derive(Clone, Copy)]
-pub(crate) struct Sums {
-    pub x: Sum,
-    pub y: Sum,
-    pub z: Sum,
-}
+pub(crate) type Sums = Triple<Sum>;
 
 pub(crate) fn side(a: Span) -> u64
     ensures { result ≡ side_of a }
@@ -29,6 +25,7 @@ pub(crate) fn side(a: Span) -> u64
     a.to - a.from
 }
 
+#[tactic(auto, unfolding(crate::specs::Size::size_of))]
 pub(crate) fn size(a: Region) -> Sum
     requires { Small a }
     ensures { result ≡ size_of a }
@@ -47,11 +44,7 @@ pub(crate) fn sizes(a: Owned) -> Sums
     requires { SmallAll a }
     ensures { result ≡ sizes_of a }
 {
-    Sums {
-        x: size(a.x),
-        y: size(a.y),
-        z: size(a.z),
-    }
+    a.map(size)
 }
 
 pub(crate) fn add(a: Sum, b: Sum) -> Sum
@@ -68,14 +61,11 @@ pub(crate) fn add_all(a: Sums, b: Sums) -> Sums
     requires { MostAll (200 * 2 ^ 48) a × MostAll (2 ^ 48) b }
     ensures { result ≡ added_all a b }
 {
-    Sums {
-        x: add(a.x, b.x),
-        y: add(a.y, b.y),
-        z: add(a.z, b.z),
-    }
+    a.zip_with(b, add)
 }
 
 // Carried once.
+#[tactic(auto, unfolding(crate::specs::Size::same_sum))]
 pub(crate) fn same(a: Sum, b: Sum) -> bool
     requires { Most (200 * 2 ^ 48) a × Most (2 ^ 48) b }
     ensures { result ≡ same_sum a b }
@@ -88,5 +78,5 @@ pub(crate) fn same_all(a: Sums, b: Sums) -> bool
     requires { MostAll (200 * 2 ^ 48) a × MostAll (2 ^ 48) b }
     ensures { result ≡ same_sums a b }
 {
-    same(a.x, b.x) & same(a.y, b.y) & same(a.z, b.z)
+    a.zip_with(b, same).all()
 }

@@ -10,7 +10,7 @@ use contract.Lifetimes.{Lfts}
 use contract.Monad.{Fun, fact}
 use denote.Triple.Entry.{Args}
 use Rattle.plan.specs.Plan.{Checks, piece, block}
-use Rattle.plan.proofs.Once.{same_answer, same-holds}
+use Rattle.plan.proofs.Once.{same_answer, same-holds, same_result}
 use Rattle.plan.specs.contracts.check_plan as check
 use Rattle.bed.specs.contracts.plans.bed_check_plan as bed-check
 use Rattle.kept_mesh.proofs.ReaderOnce.{Outcome, Ensured, OneOutcome, both}
@@ -19,11 +19,8 @@ module _ {M : Type 1} {𝓤 : Ura M} (𝓛 : Logic 𝓤) (mem : Memory → SProp
   pub check-plan-once : OneOutcome 𝓤 check.ended (check.clauses 𝓛 mem run)
   check-plan-once κs a g o o' =
       both 𝓤 _ _ _ (λ l l'.
-      let ps = map piece a.0.now in
-      let w = piece a.1.0 in
-      let n = same_answer ps w l l' in
-      let h = same-holds ps w l l' in
-      λ i. record { result = record { answer = n i; holds = h i }; last = o.last })
+      let e = same_result (map piece a.0.now) (piece a.1.0) o.result o'.result l l' in
+      λ i. record { result = e i; last = o.last })
 
   -- the yes or no behind the last parameter too
   pub bed-check-plan-once : OneOutcome 𝓤 bed-check.ended (bed-check.clauses 𝓛 mem run)

@@ -2,71 +2,58 @@
 // is written; what is said here is that every list is read within its length. What cannot be written is left out, and the program goes on.
 #![tactic(auto)]
 
-pub fn text(rt: &impl Print, s: &[u8]) {
-    let _ = rt.write_all(s);
+use std::fmt;
+
+// A float by its bits, or by a word for not-a-number, which has no one pattern.
+#[derive(Clone, Copy)]
+pub struct Bits(pub f32);
+
+impl fmt::Display for Bits {
+    fn fmt<W: fmt::Write>(&self, f: &mut fmt::Formatter<W>) -> fmt::Result {
+        if self.0.is_nan() {
+            return f.write_str("nan");
+        }
+        let bits = marks::bits(self.0);
+        write!(f, "{bits:08x}")
+    }
 }
 
-// A label, and a number behind it.
-pub fn counted(rt: &impl Print, label: &[u8], n: u64) {
-    text(rt, label);
-    number(rt, n);
+// The first `count` numbers of a list, a blank before each.
+#[derive(Clone, Copy)]
+struct Row<'a, T> {
+    list: &'a [T],
+    count: usize,
 }
 
-pub fn number(rt: &impl Print, n: u64) {
-    let _ = print!(rt; "{n}");
+impl<T: fmt::Display> fmt::Display for Row<'_, T> {
+    fn fmt<W: fmt::Write>(&self, f: &mut fmt::Formatter<W>) -> fmt::Result {
+        for x in self.list.iter().take(self.count) {
+            write!(f, " {x}")?;
+        }
+        Ok(())
+    }
 }
 
-fn word(rt: &impl Print, n: u32) {
-    text(rt, b" ");
-    number(rt, n as u64);
+// Floats, a blank before each.
+#[derive(Clone, Copy)]
+struct Floats<'a>(&'a [f32]);
+
+impl fmt::Display for Floats<'_> {
+    fn fmt<W: fmt::Write>(&self, f: &mut fmt::Formatter<W>) -> fmt::Result {
+        for x in self.0 {
+            write!(f, " {}", Bits(*x))?;
+        }
+        Ok(())
+    }
 }
 
 // A line of the first `count` numbers of a list.
-pub fn words(rt: &impl Print, label: &[u8], list: &[u32], count: usize) {
-    text(rt, label);
-    let mut j = 0;
-    while j < list.len() && j < count {
-        word(rt, list[j]);
-        j += 1;
-    }
-    text(rt, b"\n");
-}
-
-// The same of bytes.
-pub fn bytes(rt: &impl Print, label: &[u8], list: &[u8], count: usize) {
-    text(rt, label);
-    let mut j = 0;
-    while j < list.len() && j < count {
-        word(rt, wide(list[j]));
-        j += 1;
-    }
-    text(rt, b"\n");
-}
-
-fn wide(byte: u8) -> u32 {
-    byte as u32
-}
-
-// A float's bits, or a word for not-a-number, which has no one pattern.
-fn float(rt: &impl Print, x: f32) {
-    if x != x {
-        text(rt, b" nan");
-        return;
-    }
-    text(rt, b" ");
-    let bits = marks::bits(x);
-    let _ = print!(rt; "{bits:08x}");
+pub fn numbers<T: fmt::Display>(rt: &impl Print, label: &str, list: &[T], count: usize) {
+    let _ = println!(rt; "{label}{}", Row { list, count });
 }
 
 // A line of the v-th three floats of a list.
-pub fn point(rt: &impl Print, label: &[u8], list: &[f32], v: usize) {
-    text(rt, label);
-    let mut j = 0;
-    while j < list.len() {
-        if j / 3 == v {
-            float(rt, list[j]);
-        }
-        j += 1;
-    }
-    text(rt, b"\n");
+pub fn point(rt: &impl Print, label: &str, list: &[f32], v: usize) {
+    let three = list.chunks(3).nth(v).unwrap_or(&[]);
+    let _ = println!(rt; "{label}{}", Floats(three));
 }

@@ -3,6 +3,7 @@
 -- the number of crossings, and the cutting law of what is written, faces and vertices; and that calls over whole numbers come to what those over floats do.
 pub mod OneOutcome
 pub mod Once
+pub mod OnceOfTypes
 pub mod Runs
 pub mod Asked
 pub mod Done

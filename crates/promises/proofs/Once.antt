@@ -1,13 +1,16 @@
 -- Document 01, "What a claim has to settle": "Show that two outcomes that fit are equal". For each public function of marks, grid, stores, row_signs, count, judge,
 -- layer_estimates, layer_vertices, layer_faces, whole_box, surface_nets and bed
 -- one outcome alone fits the contract: the result, and every list behind a `&mut` afterwards, refused calls too. Those of cube stand in
--- its own proofs/Unique, but for some_of_eight. Assumes nothing.
+-- its own proofs/Unique, but for some_of_eight, and those of functions over any type in OnceOfTypes. Assumes nothing.
 use Prim.Native.Nat.{ℕ}
 use mathlib.Core.List.{List}
 use mathlib.Core.Path.{◌≡◌, ◌∙◌, sym}
 use lib.Ieee.{Float}
 use Rattle.rules.specs.Call.{Buffers}
 use Rattle.grid.specs.declared.EachAxis.{EachAxis}
+use Rattle.grid.proofs.Faults.{fault-once}
+use Rattle.grid.proofs.Instances.{DistanceType}
+use Rattle.judge.proofs.Judging.{answer-once}
 use Rattle.promises.proofs.OneOutcome.{OneOutcome}
 use Rattle.grid.proofs.checks.bad_dimension.Kinds as bad-dimension-kinds
 use Rattle.grid.proofs.checks.bad_dimension.Reads as bad-dimension
@@ -21,20 +24,8 @@ use Rattle.grid.proofs.checks.bad_length.Kinds as bad-length-kinds
 use Rattle.grid.proofs.checks.bad_length.Reads as bad-length
 use Rattle.grid.proofs.checks.first_fault.Kinds as first-fault-kinds
 use Rattle.grid.proofs.checks.first_fault.Reads as first-fault
-use Rattle.grid.proofs.values.length_of.Kinds as length-of-kinds
-use Rattle.grid.proofs.values.length_of.Reads as length-of
 use Rattle.grid.proofs.values.value_at.Kinds as value-at-kinds
 use Rattle.grid.proofs.values.value_at.Reads as value-at
-use Rattle.grid.proofs.values.wholes.Kinds as wholes-kinds
-use Rattle.grid.proofs.values.wholes.Reads as wholes
-use Rattle.grid.proofs.values.first_fault_of.Kinds as first-fault-of-kinds
-use Rattle.grid.proofs.values.first_fault_of.Reads as first-fault-of
-use Rattle.grid.proofs.values.float_place.Kinds as float-place-kinds
-use Rattle.grid.proofs.values.float_place.Reads as float-place
-use Rattle.grid.proofs.values.sixteen_place.Kinds as sixteen-place-kinds
-use Rattle.grid.proofs.values.sixteen_place.Reads as sixteen-place
-use Rattle.grid.proofs.values.eight_place.Kinds as eight-place-kinds
-use Rattle.grid.proofs.values.eight_place.Reads as eight-place
 use Rattle.cube.proofs.some_of_eight.Kinds as some-of-eight-kinds
 use Rattle.cube.proofs.some_of_eight.Reads as some-of-eight
 use Rattle.count.proofs.count_layer.Kinds as count-layer-kinds
@@ -53,30 +44,12 @@ use Rattle.grid.proofs.scan.bad_distance.Kinds as bad-distance-kinds
 use Rattle.grid.proofs.scan.bad_distance.Reads as bad-distance
 use Rattle.marks.proofs.bits.Kinds as bits-kinds
 use Rattle.marks.proofs.bits.Reads as bits
-use Rattle.marks.proofs.mark_words.Kinds as mark-words-kinds
-use Rattle.marks.proofs.mark_words.Reads as mark-words
-use Rattle.marks.proofs.mark_floats.Kinds as mark-floats-kinds
-use Rattle.marks.proofs.mark_floats.Reads as mark-floats
-use Rattle.marks.proofs.words_kept.Kinds as words-kept-kinds
-use Rattle.marks.proofs.words_kept.Reads as words-kept
-use Rattle.marks.proofs.floats_kept.Kinds as floats-kept-kinds
-use Rattle.marks.proofs.floats_kept.Reads as floats-kept
 use Rattle.marks.proofs.map_kept.Kinds as map-kept-kinds
 use Rattle.marks.proofs.map_kept.Reads as map-kept
 use Rattle.marks.proofs.stored.word.Kinds as stored-word-kinds
 use Rattle.marks.proofs.stored.word.Reads as stored-word
-use Rattle.marks.proofs.stored.words_are.Kinds as words-are-kinds
-use Rattle.marks.proofs.stored.words_are.Reads as words_are
-use Rattle.marks.proofs.stored.floats_are.Kinds as floats-are-kinds
-use Rattle.marks.proofs.stored.floats_are.Reads as floats-are
-use Rattle.judge.proofs.answer_at.Kinds as answer-at-kinds
-use Rattle.judge.proofs.answer_at.Reads as answer_at
 use Rattle.judge.proofs.answer_for.Kinds as answer-for-kinds
 use Rattle.judge.proofs.answer_for.Reads as answer-for
-use Rattle.judge.proofs.answer_for_i16.Kinds as answer-for-i16-kinds
-use Rattle.judge.proofs.answer_for_i16.Reads as answer-for-i16
-use Rattle.judge.proofs.answer_for_i8.Kinds as answer-for-i8-kinds
-use Rattle.judge.proofs.answer_for_i8.Reads as answer-for-i8
 use Rattle.grid.proofs.scan.bad_layer.Kinds as bad-layer-kinds
 use Rattle.grid.proofs.scan.bad_layer.Reads as bad-layer
 use Rattle.grid.proofs.signs.counted.Kinds as counted-kinds
@@ -89,10 +62,6 @@ use Rattle.grid.proofs.corners.side_between.Kinds as side-between-kinds
 use Rattle.grid.proofs.corners.side_between.Reads as side-between
 use Rattle.stores.proofs.put_vector.Kinds as put-vector-kinds
 use Rattle.stores.proofs.put_vector.Reads as put_vector
-use Rattle.stores.proofs.put_three.Kinds as put-three-kinds
-use Rattle.stores.proofs.put_three.Reads as put_three
-use Rattle.stores.proofs.put_six.Kinds as put-six-kinds
-use Rattle.stores.proofs.put_six.Reads as put_six
 use Rattle.row_signs.proofs.mixed_code.Kinds as mixed-code-kinds
 use Rattle.row_signs.proofs.mixed_code.Reads as mixed-code
 use Rattle.row_signs.proofs.one_sign.Kinds as one-sign-kinds
@@ -111,10 +80,6 @@ use Rattle.whole_box.proofs.mesh_box.Kinds as mesh-box-kinds
 use Rattle.whole_box.proofs.mesh_box.Reads as mesh-box
 use Rattle.surface_nets.proofs.surface_nets.Kinds as surface-nets-kinds
 use Rattle.surface_nets.proofs.surface_nets.Reads as surface-nets
-use Rattle.surface_nets.proofs.surface_nets_i16.Kinds as surface-nets-i16-kinds
-use Rattle.surface_nets.proofs.surface_nets_i16.Reads as surface-nets-i16
-use Rattle.surface_nets.proofs.surface_nets_i8.Kinds as surface-nets-i8-kinds
-use Rattle.surface_nets.proofs.surface_nets_i8.Reads as surface-nets-i8
 use Rattle.bed.proofs.version.bed_version.Kinds as bed-version-kinds
 use Rattle.bed.proofs.version.bed_version.Reads as bed-version
 use Rattle.bed.proofs.bed_surface_nets.Kinds as bed-surface-nets-kinds
@@ -151,33 +116,15 @@ pub bad-length-once : OneOutcome 0 bad-length-kinds.ps bad-length-kinds.r bad-le
 bad-length-once κs a o o' l l' = let s = l ∙ sym l' in λ i. record { result = s i; last = o.last }
 
 pub first-fault-once : OneOutcome 0 first-fault-kinds.ps first-fault-kinds.r first-fault.Learnt
-first-fault-once κs a o o' l l' = let s = l ∙ sym l' in λ i. record { result = s i; last = o.last }
+first-fault-once κs a o o' l l' = let s = fault-once o.result o'.result (l ∙ sym l') in λ i. record { result = s i; last = o.last }
 
--- the distances at a width
-pub length-of-once : OneOutcome 3 length-of-kinds.ps length-of-kinds.r length-of.Learnt
-length-of-once κs a o o' l l' = let s = l ∙ sym l' in λ i. record { result = s i; last = o.last }
+pub value-at-once : (t : DistanceType) → OneOutcome 2 (value-at-kinds.ps t.type t.laws t.copy) (value-at-kinds.r t.type t.laws t.copy)
+    (value-at.Learnt t.type t.laws t.copy t.distance t.distance_dict t.clone t.clone_dict)
+value-at-once t κs a o o' l l' = let s = l ∙ sym l' in λ i. record { result = s i; last = o.last }
 
-pub value-at-once : OneOutcome 3 value-at-kinds.ps value-at-kinds.r value-at.Learnt
-value-at-once κs a o o' l l' = let s = l ∙ sym l' in λ i. record { result = s i; last = o.last }
-
--- it hands on what its lists tell, and leaves nothing
-pub wholes-once : OneOutcome 2 wholes-kinds.ps wholes-kinds.r wholes.Learnt
-wholes-once κs a o o' l l' = λ i. record { result = tt; last = o.last }
-
-pub first-fault-of-once : OneOutcome 3 first-fault-of-kinds.ps first-fault-of-kinds.r first-fault-of.Learnt
-first-fault-of-once κs a o o' l l' = let s = l.0 ∙ sym l'.0 in λ i. record { result = s i; last = o.last }
-
-pub float-place-once : OneOutcome 0 float-place-kinds.ps float-place-kinds.r float-place.Learnt
-float-place-once κs a o o' l l' = let s = l ∙ sym l' in λ i. record { result = s i; last = o.last }
-
-pub sixteen-place-once : OneOutcome 0 sixteen-place-kinds.ps sixteen-place-kinds.r sixteen-place.Learnt
-sixteen-place-once κs a o o' l l' = let s = l ∙ sym l' in λ i. record { result = s i; last = o.last }
-
-pub eight-place-once : OneOutcome 0 eight-place-kinds.ps eight-place-kinds.r eight-place.Learnt
-eight-place-once κs a o o' l l' = let s = l ∙ sym l' in λ i. record { result = s i; last = o.last }
-
-pub side-between-once : OneOutcome 6 side-between-kinds.ps side-between-kinds.r side-between.Learnt
-side-between-once κs a o o' l l' = let s = l ∙ sym l' in λ i. record { result = s i; last = o.last }
+pub side-between-once : (t : DistanceType) → OneOutcome 3 (side-between-kinds.ps t.type t.laws t.copy) (side-between-kinds.r t.type t.laws t.copy)
+    (side-between.Learnt t.type t.laws t.copy t.distance t.distance_dict t.clone t.clone_dict)
+side-between-once t κs a o o' l l' = let s = l ∙ sym l' in λ i. record { result = s i; last = o.last }
 
 pub some-of-eight-once : OneOutcome 0 some-of-eight-kinds.ps some-of-eight-kinds.r some-of-eight.Learnt
 some-of-eight-once κs a o o' l l' = let s = l ∙ sym l' in λ i. record { result = s i; last = o.last }
@@ -188,11 +135,13 @@ mixed-code-once κs a o o' l l' = let s = l ∙ sym l' in λ i. record { result 
 pub one-sign-once : OneOutcome 0 one-sign-kinds.ps one-sign-kinds.r one-sign.Learnt
 one-sign-once κs a o o' l l' = let s = l ∙ sym l' in λ i. record { result = s i; last = o.last }
 
-pub count-layer-once : OneOutcome 6 count-layer-kinds.ps count-layer-kinds.r count-layer.Learnt
-count-layer-once κs a o o' l l' = let s = l ∙ sym l' in λ i. record { result = s i; last = o.last }
+pub count-layer-once : (t : DistanceType) → OneOutcome 3 (count-layer-kinds.ps t.type t.laws t.copy) (count-layer-kinds.r t.type t.laws t.copy)
+    (count-layer.Learnt t.type t.laws t.copy t.distance t.distance_dict t.clone t.clone_dict)
+count-layer-once t κs a o o' l l' = let s = l ∙ sym l' in λ i. record { result = s i; last = o.last }
 
-pub count-box-once : OneOutcome 3 count-box-kinds.ps count-box-kinds.r count-box.Learnt
-count-box-once κs a o o' l l' =
+pub count-box-once : (t : DistanceType) → OneOutcome 2 (count-box-kinds.ps t.type t.laws t.copy) (count-box-kinds.r t.type t.laws t.copy)
+    (count-box.Learnt t.type t.laws t.copy t.distance t.distance_dict t.clone t.clone_dict)
+count-box-once t κs a o o' l l' =
     let b = l.0 ∙ sym l'.0 in
     let t = l.1 ∙ sym l'.1 in
     λ i. record { result = record { bad = b i; vertices = (t i).vertices; indices = (t i).indices }; last = o.last }
@@ -209,52 +158,32 @@ linearize-once κs a o o' l l' = let s = l ∙ sym l' in λ i. record { result =
 pub either-once : OneOutcome 0 either-kinds.ps either-kinds.r either.Learnt
 either-once κs a o o' l l' = let s = l ∙ sym l' in λ i. record { result = s i; last = o.last }
 
-pub bad-distance-once : OneOutcome 3 bad-distance-kinds.ps bad-distance-kinds.r bad-distance.Learnt
-bad-distance-once κs a o o' l l' = let s = l ∙ sym l' in λ i. record { result = s i; last = o.last }
+pub bad-distance-once : (t : DistanceType) → OneOutcome 2 (bad-distance-kinds.ps t.type t.laws t.copy) (bad-distance-kinds.r t.type t.laws t.copy)
+    (bad-distance.Learnt t.type t.laws t.copy t.distance t.distance_dict t.clone t.clone_dict)
+bad-distance-once t κs a o o' l l' = let s = l ∙ sym l' in λ i. record { result = s i; last = o.last }
 
-pub bad-layer-once : OneOutcome 3 bad-layer-kinds.ps bad-layer-kinds.r bad-layer.Learnt
-bad-layer-once κs a o o' l l' = let s = l ∙ sym l' in λ i. record { result = s i; last = o.last }
+pub bad-layer-once : (t : DistanceType) → OneOutcome 2 (bad-layer-kinds.ps t.type t.laws t.copy) (bad-layer-kinds.r t.type t.laws t.copy)
+    (bad-layer.Learnt t.type t.laws t.copy t.distance t.distance_dict t.clone t.clone_dict)
+bad-layer-once t κs a o o' l l' = let s = l ∙ sym l' in λ i. record { result = s i; last = o.last }
 
 pub counted-once : OneOutcome 0 counted-kinds.ps counted-kinds.r counted.Learnt
 counted-once κs a o o' l l' = let s = l.0 ∙ sym l'.0 in λ i. record { result = s i; last = o.last }
 
-pub side-negatives-once : OneOutcome 6 side-negatives-kinds.ps side-negatives-kinds.r side-negatives.Learnt
-side-negatives-once κs a o o' l l' = let s = l.0 ∙ sym l'.0 in λ i. record { result = s i; last = o.last }
+pub side-negatives-once : (t : DistanceType) → OneOutcome 3 (side-negatives-kinds.ps t.type t.laws t.copy) (side-negatives-kinds.r t.type t.laws t.copy)
+    (side-negatives.Learnt t.type t.laws t.copy t.distance t.distance_dict t.clone t.clone_dict)
+side-negatives-once t κs a o o' l l' = let s = l.0 ∙ sym l'.0 in λ i. record { result = s i; last = o.last }
 
 pub surface-count-once : OneOutcome 0 surface-count-kinds.ps surface-count-kinds.r surface-count.Learnt
 surface-count-once κs a o o' l l' = let s = l.0 ∙ sym l'.0 in λ i. record { result = s i; last = o.last }
 
--- the answer alone, at a width, for floats, for 16-bit and for 8-bit numbers
-pub answer-at-once : OneOutcome 3 answer-at-kinds.ps answer-at-kinds.r answer_at.Learnt
-answer-at-once κs a o o' l l' =
-    let s = l ∙ sym l' in
-    λ i. record { result = record { number = (s i).number; vertex_count = (s i).vertices; index_count = (s i).indices }; last = o.last }
-
-pub answer-for-once : OneOutcome 1 answer-for-kinds.ps answer-for-kinds.r answer-for.Learnt
-answer-for-once κs a o o' l l' =
-    let s = l ∙ sym l' in
-    λ i. record { result = record { number = (s i).number; vertex_count = (s i).vertices; index_count = (s i).indices }; last = o.last }
-
-pub answer-for-i16-once : OneOutcome 1 answer-for-i16-kinds.ps answer-for-i16-kinds.r answer-for-i16.Learnt
-answer-for-i16-once κs a o o' l l' =
-    let s = l ∙ sym l' in
-    λ i. record { result = record { number = (s i).number; vertex_count = (s i).vertices; index_count = (s i).indices }; last = o.last }
-
-pub answer-for-i8-once : OneOutcome 1 answer-for-i8-kinds.ps answer-for-i8-kinds.r answer-for-i8.Learnt
-answer-for-i8-once κs a o o' l l' =
-    let s = l ∙ sym l' in
-    λ i. record { result = record { number = (s i).number; vertex_count = (s i).vertices; index_count = (s i).indices }; last = o.last }
+pub answer-for-once : (t : DistanceType) → OneOutcome 2 (answer-for-kinds.ps t.type t.laws t.copy) (answer-for-kinds.r t.type t.laws t.copy)
+    (answer-for.Learnt t.type t.laws t.copy t.distance t.distance_dict t.clone t.clone_dict)
+answer-for-once t κs a o o' l l' = let s = answer-once o.result o'.result (l ∙ sym l') in λ i. record { result = s i; last = o.last }
 
 -- ---- the marks of the test programs
 
 pub bits-once : OneOutcome 0 bits-kinds.ps bits-kinds.r bits.Learnt
 bits-once κs a o o' l l' = let s = l ∙ sym l' in λ i. record { result = s i; last = o.last }
-
-pub words-kept-once : OneOutcome 1 words-kept-kinds.ps words-kept-kinds.r words-kept.Learnt
-words-kept-once κs a o o' l l' = let s = l ∙ sym l' in λ i. record { result = s i; last = o.last }
-
-pub floats-kept-once : OneOutcome 1 floats-kept-kinds.ps floats-kept-kinds.r floats-kept.Learnt
-floats-kept-once κs a o o' l l' = let s = l ∙ sym l' in λ i. record { result = s i; last = o.last }
 
 pub map-kept-once : OneOutcome 1 map-kept-kinds.ps map-kept-kinds.r map-kept.Learnt
 map-kept-once κs a o o' l l' = let s = l ∙ sym l' in λ i. record { result = s i; last = o.last }
@@ -262,54 +191,39 @@ map-kept-once κs a o o' l l' = let s = l ∙ sym l' in λ i. record { result = 
 pub stored-word-once : OneOutcome 1 stored-word-kinds.ps stored-word-kinds.r stored-word.Learnt
 stored-word-once κs a o o' l l' = let s = l ∙ sym l' in λ i. record { result = s i; last = o.last }
 
-pub words-are-once : OneOutcome 2 words-are-kinds.ps words-are-kinds.r words_are.Learnt
-words-are-once κs a o o' l l' = let s = l ∙ sym l' in λ i. record { result = s i; last = o.last }
-
-pub floats-are-once : OneOutcome 2 floats-are-kinds.ps floats-are-kinds.r floats-are.Learnt
-floats-are-once κs a o o' l l' = let s = l ∙ sym l' in λ i. record { result = s i; last = o.last }
-
-pub mark-words-once : OneOutcome 1 mark-words-kinds.ps mark-words-kinds.r mark-words.Learnt
-mark-words-once κs a o o' l l' = let s = l ∙ sym l' in λ i. record { result = tt; last = (s i, (tt, tt)) }
-
-pub mark-floats-once : OneOutcome 1 mark-floats-kinds.ps mark-floats-kinds.r mark-floats.Learnt
-mark-floats-once κs a o o' l l' = let s = l ∙ sym l' in λ i. record { result = tt; last = (s i, (tt, tt)) }
-
 -- ---- with lent lists
 
 -- a few numbers in a row
 pub put-vector-once : OneOutcome 1 put-vector-kinds.ps put-vector-kinds.r put_vector.Learnt
 put-vector-once κs a o o' l l' = let s = l ∙ sym l' in λ i. record { result = tt; last = (s i, (tt, (tt, tt))) }
 
-pub put-three-once : OneOutcome 1 put-three-kinds.ps put-three-kinds.r put_three.Learnt
-put-three-once κs a o o' l l' = let s = l ∙ sym l' in λ i. record { result = tt; last = (s i, (tt, (tt, (tt, (tt, tt))))) }
-
-pub put-six-once : OneOutcome 1 put-six-kinds.ps put-six-kinds.r put_six.Learnt
-put-six-once κs a o o' l l' = let s = l ∙ sym l' in λ i. record { result = tt; last = (s i, (tt, (tt, (tt, (tt, (tt, (tt, (tt, tt)))))))) }
-
 -- a row of points: how many of them are negative, and the list of codes
-pub read-row-once : OneOutcome 7 read-row-kinds.ps read-row-kinds.r read-row.Learnt
-read-row-once κs a o o' l l' =
+pub read-row-once : (t : DistanceType) → OneOutcome 4 (read-row-kinds.ps t.type t.laws t.copy) (read-row-kinds.r t.type t.laws t.copy)
+    (read-row.Learnt t.type t.laws t.copy t.distance t.distance_dict t.clone t.clone_dict)
+read-row-once t κs a o o' l l' =
     let n = l.0 ∙ sym l'.0 in
     let c = l.1 ∙ sym l'.1 in
-    λ i. record { result = n i; last = (tt, (tt, (tt, (tt, (tt, (tt, (tt, (tt, (tt, (c i, (tt, tt))))))))))) }
+    λ i. record { result = n i; last = (tt, (tt, (tt, (tt, (c i, (tt, tt)))))) }
 
 -- the vertices of a layer's surface cells: their three lists
-pub estimate-layer-once : OneOutcome 10 estimate-layer-kinds.ps estimate-layer-kinds.r estimate-layer.Learnt
-estimate-layer-once κs a o o' l l' =
+pub estimate-layer-once : (t : DistanceType) → OneOutcome 7 (estimate-layer-kinds.ps t.type t.laws t.copy) (estimate-layer-kinds.r t.type t.laws t.copy)
+    (estimate-layer.Learnt t.type t.laws t.copy t.distance t.distance_dict t.clone t.clone_dict)
+estimate-layer-once t κs a o o' l l' =
     let p = l.0 ∙ sym l'.0 in
     let n = l.1.0 ∙ sym l'.1.0 in
     let x = l.1.1 ∙ sym l'.1.1 in
-    λ i. record { result = tt; last = (tt, (tt, (tt, (tt, (tt, (tt, (tt, (tt, (tt, (tt, (tt, (p i, (n i, (x i, tt)))))))))))))) }
+    λ i. record { result = tt; last = (tt, (tt, (tt, (tt, (tt, (tt, (p i, (n i, (x i, tt))))))))) }
 
 -- a layer's vertices: how many, the five lists, and the layer's part of the map
-pub mark-layer-once : OneOutcome 12 mark-layer-kinds.ps mark-layer-kinds.r mark-layer.Learnt
-mark-layer-once κs a o o' l l' =
+pub mark-layer-once : (t : DistanceType) → OneOutcome 9 (mark-layer-kinds.ps t.type t.laws t.copy) (mark-layer-kinds.r t.type t.laws t.copy)
+    (mark-layer.Learnt t.type t.laws t.copy t.distance t.distance_dict t.clone t.clone_dict)
+mark-layer-once t κs a o o' l l' =
     let b = l.0 ∙ sym l'.0 in
     let n = l.1 ∙ sym l'.1 in
     λ i.
     record {
       result = n i;
-      last = (tt, (tt, (tt, (tt, (tt, (tt, (tt, (tt, (tt, (tt, ((b i).positions, ((b i).normals, ((b i).cells, ((b i).strides, ((b i).crossings, ((b i).map, tt))))))))))))))));
+      last = (tt, (tt, (tt, (tt, (tt, ((b i).positions, ((b i).normals, ((b i).cells, ((b i).strides, ((b i).crossings, ((b i).map, tt)))))))))));
     }
 
 -- the last layer's part of the map
@@ -317,52 +231,31 @@ pub clear-layer-once : OneOutcome 1 clear-layer-kinds.ps clear-layer-kinds.r cle
 clear-layer-once κs a o o' l l' = let s = l ∙ sym l' in λ i. record { result = tt; last = (tt, (s i, tt)) }
 
 -- a layer's faces: how many indices, and the list of them
-pub face-layer-once : OneOutcome 12 face-layer-kinds.ps face-layer-kinds.r face-layer.Learnt
-face-layer-once κs a o o' l l' =
+pub face-layer-once : (t : DistanceType) → OneOutcome 9 (face-layer-kinds.ps t.type t.laws t.copy) (face-layer-kinds.r t.type t.laws t.copy)
+    (face-layer.Learnt t.type t.laws t.copy t.distance t.distance_dict t.clone t.clone_dict)
+face-layer-once t κs a o o' l l' =
     let b = l.0 ∙ sym l'.0 in
     let n = l.1 ∙ sym l'.1 in
-    λ i. record { result = n i; last = (tt, (tt, (tt, (tt, (tt, (tt, (tt, (tt, (tt, (tt, (tt, (tt, (tt, (tt, (tt, (b i, (tt, tt))))))))))))))))) }
+    λ i. record { result = n i; last = (tt, (tt, (tt, (tt, (tt, (tt, (tt, (tt, (tt, (tt, (b i, (tt, tt)))))))))))) }
 
 -- the seven lists as they are left, and what stands behind the parameters after them
 abbrev seven : {A : Type 0} → Buffers → A → List Float × (List Float × (List ℕ × (List ℕ × (List ℕ × (List ℕ × (List ℕ × A))))))
 seven b rest = (b.positions, (b.normals, (b.cells, (b.strides, (b.crossings, (b.map, (b.indices, rest)))))))
 
 -- the whole box: the seven lists
-pub mesh-box-once : OneOutcome 10 mesh-box-kinds.ps mesh-box-kinds.r mesh-box.Learnt
-mesh-box-once κs a o o' l l' =
+pub mesh-box-once : (t : DistanceType) → OneOutcome 9 (mesh-box-kinds.ps t.type t.laws t.copy) (mesh-box-kinds.r t.type t.laws t.copy)
+    (mesh-box.Learnt t.type t.laws t.copy t.distance t.distance_dict t.clone t.clone_dict)
+mesh-box-once t κs a o o' l l' =
     let b = l ∙ sym l' in
-    λ i. record { result = tt; last = (tt, (tt, (tt, (tt, (tt, seven (b i) tt))))) }
+    λ i. record { result = tt; last = (tt, (tt, seven (b i) tt)) }
 
--- document 01's call: the answer with V and I, and the seven lists; of floats, of 16-bit and of 8-bit numbers
-pub surface-nets-once : OneOutcome 8 surface-nets-kinds.ps surface-nets-kinds.r surface-nets.Learnt
-surface-nets-once κs a o o' l l' =
-    let s = l.0 ∙ sym l'.0 in
+-- document 01's call: the answer with V and I, and the seven lists
+pub surface-nets-once : (t : DistanceType) → OneOutcome 9 (surface-nets-kinds.ps t.type t.laws t.copy) (surface-nets-kinds.r t.type t.laws t.copy)
+    (surface-nets.Learnt t.type t.laws t.copy t.distance t.distance_dict t.clone t.clone_dict)
+surface-nets-once t κs a o o' l l' =
+    let s = answer-once o.result o'.result (l.0 ∙ sym l'.0) in
     let b = l.1.0 ∙ sym l'.1.0 in
-    λ i.
-    record {
-      result = record { number = (s i).number; vertex_count = (s i).vertices; index_count = (s i).indices };
-      last = (tt, (tt, (tt, (tt, (tt, seven (b i) tt)))));
-    }
-
-pub surface-nets-i16-once : OneOutcome 8 surface-nets-i16-kinds.ps surface-nets-i16-kinds.r surface-nets-i16.Learnt
-surface-nets-i16-once κs a o o' l l' =
-    let s = l.0 ∙ sym l'.0 in
-    let b = l.1.0 ∙ sym l'.1.0 in
-    λ i.
-    record {
-      result = record { number = (s i).number; vertex_count = (s i).vertices; index_count = (s i).indices };
-      last = (tt, (tt, (tt, (tt, (tt, seven (b i) tt)))));
-    }
-
-pub surface-nets-i8-once : OneOutcome 8 surface-nets-i8-kinds.ps surface-nets-i8-kinds.r surface-nets-i8.Learnt
-surface-nets-i8-once κs a o o' l l' =
-    let s = l.0 ∙ sym l'.0 in
-    let b = l.1.0 ∙ sym l'.1.0 in
-    λ i.
-    record {
-      result = record { number = (s i).number; vertex_count = (s i).vertices; index_count = (s i).indices };
-      last = (tt, (tt, (tt, (tt, (tt, seven (b i) tt)))));
-    }
+    λ i. record { result = s i; last = (tt, (tt, (tt, (tt, (tt, seven (b i) tt))))) }
 
 -- the functions that C and Rust link: the answer number, the seven lists, and V and I behind the last two
 pub bed-surface-nets-once : OneOutcome 11 bed-surface-nets-kinds.ps bed-surface-nets-kinds.r bed-surface-nets.Learnt

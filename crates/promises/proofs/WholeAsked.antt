@@ -10,6 +10,7 @@ use borrow.Fn.Kinds.{Dens}
 use Rattle.rules.specs.Call.{Call, Room, answers, room}
 use Rattle.grid.specs.Block.{call_of}
 use Rattle.grid.specs.Values.{as_floats}
+use Rattle.grid.proofs.Instances.{DistanceType, float-type}
 use Rattle.judge.specs.AsRules.{answer_of, room_of}
 use Rattle.judge.proofs.Judging.{Enough}
 use Rattle.bed.specs.Boundary.{asked, room_asked, said}
@@ -18,57 +19,29 @@ use Rattle.promises.specs.Told.{Question, Tells}
 use Rattle.promises.proofs.OneOutcome.{Outcome, FitsContract}
 use Rattle.promises.proofs.Asked.{same-said, question-answered, question-then-done, bed_question}
 use Rattle.promises.proofs.WholeRuns.{BedSixteenRun, bed_sixteen_served, BedEightRun, bed_eight_served}
-use Rattle.judge.proofs.answer_for.Kinds as float-kinds
-use Rattle.judge.proofs.answer_for.Reads as float
-use Rattle.judge.proofs.answer_for_i16.Kinds as sixteen-kinds
-use Rattle.judge.proofs.answer_for_i16.Reads as sixteen
-use Rattle.judge.proofs.answer_for_i8.Kinds as eight-kinds
-use Rattle.judge.proofs.answer_for_i8.Reads as eight
+use Rattle.judge.proofs.answer_for.Kinds as answer-kinds
+use Rattle.judge.proofs.answer_for.Reads as answer-for
 use Rattle.bed.proofs.asking.bed_answer.Kinds as ask-kinds
 
--- ---- judge: answer_for, answer_for_i16, answer_for_i8
+-- ---- judge: answer_for, at any type of distances
 
-pub record Judged : Type 0 where
-  pub lifetimes : Lfts 1
-  pub args : Dens lifetimes float-kinds.ps
-  pub outcome : Outcome 1 float-kinds.ps float-kinds.r lifetimes args
-  pub fits : FitsContract 1 float-kinds.ps float-kinds.r float.Learnt lifetimes args outcome
+module _ (t : DistanceType) where
+  pub record Judged : Type 0 where
+    pub lifetimes : Lfts 2
+    pub args : Dens lifetimes (answer-kinds.ps t.type t.laws t.copy)
+    pub outcome : Outcome 2 (answer-kinds.ps t.type t.laws t.copy) (answer-kinds.r t.type t.laws t.copy) lifetimes args
+    pub fits : FitsContract 2 (answer-kinds.ps t.type t.laws t.copy) (answer-kinds.r t.type t.laws t.copy)
+        (answer-for.Learnt t.type t.laws t.copy t.distance t.distance_dict t.clone t.clone_dict) lifetimes args outcome
 
-pub record Judged16 : Type 0 where
-  pub lifetimes : Lfts 1
-  pub args : Dens lifetimes sixteen-kinds.ps
-  pub outcome : Outcome 1 sixteen-kinds.ps sixteen-kinds.r lifetimes args
-  pub fits : FitsContract 1 sixteen-kinds.ps sixteen-kinds.r sixteen.Learnt lifetimes args outcome
+  abbrev pub judged : Judged → Question
+  judged u =
+      let (sdf, (k, (lengths, _))) = u.args in
+      record { call = call_of (t.distance.floats sdf.now) k; rooms = room_of lengths; says = answer_of u.outcome.result; answered = u.fits }
 
-pub record Judged8 : Type 0 where
-  pub lifetimes : Lfts 1
-  pub args : Dens lifetimes eight-kinds.ps
-  pub outcome : Outcome 1 eight-kinds.ps eight-kinds.r lifetimes args
-  pub fits : FitsContract 1 eight-kinds.ps eight-kinds.r eight.Learnt lifetimes args outcome
-
-abbrev pub judged : Judged → Question
-judged u =
-    let (sdf, (k, (lengths, _))) = u.args in
-    record { call = call_of sdf.now k; rooms = room_of lengths; says = answer_of u.outcome.result; answered = u.fits }
-
-abbrev pub judged16 : Judged16 → Question
-judged16 u =
-    let (sdf, (k, (lengths, _))) = u.args in
-    record { call = call_of (as_floats sdf.now) k; rooms = room_of lengths; says = answer_of u.outcome.result; answered = u.fits }
-
-abbrev pub judged8 : Judged8 → Question
-judged8 u =
-    let (sdf, (k, (lengths, _))) = u.args in
-    record { call = call_of (as_floats sdf.now) k; rooms = room_of lengths; says = answer_of u.outcome.result; answered = u.fits }
-
--- the same box and lengths, and the grid of the floats of those numbers
-pub answer-for-i16-as-floats : (u : Judged16) (v : Judged) → v.args.0.now ≡ as_floats u.args.0.now
-    → v.args.1.0 ≡ u.args.1.0 → v.args.1.1.0 ≡ u.args.1.1.0 → (judged v).says ≡ (judged16 u).says
-answer-for-i16-as-floats u v g k r = same-said (judged v) (judged16 u) (λ i. call_of (g i) (k i)) (λ i. room_of (r i))
-
-pub answer-for-i8-as-floats : (u : Judged8) (v : Judged) → v.args.0.now ≡ as_floats u.args.0.now
-    → v.args.1.0 ≡ u.args.1.0 → v.args.1.1.0 ≡ u.args.1.1.0 → (judged v).says ≡ (judged8 u).says
-answer-for-i8-as-floats u v g k r = same-said (judged v) (judged8 u) (λ i. call_of (g i) (k i)) (λ i. room_of (r i))
+-- the same box and lengths, and the grid of the floats of those numbers: so of 16-bit and of 8-bit numbers as of floats
+pub answer-for-as-floats : (t : DistanceType) (u : Judged t) (v : Judged float-type) → v.args.0.now ≡ t.distance.floats u.args.0.now
+    → v.args.1.0 ≡ u.args.1.0 → v.args.1.1.0 ≡ u.args.1.1.0 → (judged float-type v).says ≡ (judged t u).says
+answer-for-as-floats t u v g k r = same-said (judged float-type v) (judged t u) (λ i. call_of (g i) (k i)) (λ i. room_of (r i))
 
 -- ---- bed_answer_i16, bed_answer_i8
 

@@ -10,97 +10,66 @@ use Rattle.grid.specs.declared.Extent.{Extent}
 use Rattle.grid.specs.declared.EachAxis.{EachAxis}
 use Rattle.grid.specs.Values.{as_floats}
 use Rattle.grid.proofs.Widths.{wholes-fit}
-use Rattle.judge.specs.AsRules.{answer_of}
+use Rattle.grid.proofs.Instances.{sixteen-type, eight-type}
 use Rattle.whole_box.specs.LentLists.{buffers, buffers_given}
 use Rattle.surface_nets.specs.AsRules.{call_made}
 use Rattle.bed.specs.Boundary.{said}
 use Rattle.bed.specs.Words12 as words12
 use Rattle.promises.specs.Served.{Served}
 use Rattle.promises.proofs.OneOutcome.{Outcome, FitsContract}
-use Rattle.surface_nets.proofs.surface_nets_i16.Kinds as sixteen-kinds
-use Rattle.surface_nets.proofs.surface_nets_i16.Reads as sixteen
-use Rattle.surface_nets.proofs.surface_nets_i8.Kinds as eight-kinds
-use Rattle.surface_nets.proofs.surface_nets_i8.Reads as eight
+use Rattle.promises.proofs.Runs.{RunOf, numbers_in, dims_in, low_in, high_in, plane_in, served_of}
 use Rattle.bed.proofs.wholes.bed_surface_nets_i16.Kinds as bed-sixteen-kinds
 use Rattle.bed.proofs.wholes.bed_surface_nets_i16.Reads as bed-sixteen
 use Rattle.bed.proofs.wholes.bed_surface_nets_i8.Kinds as bed-eight-kinds
 use Rattle.bed.proofs.wholes.bed_surface_nets_i8.Reads as bed-eight
 
--- ---- surface_nets_i16
+-- ---- surface_nets over 16-bit numbers
 
-pub record SixteenRun : Type 0 where
-  pub lifetimes : Lfts 8
-  pub args : Dens lifetimes sixteen-kinds.ps
-  pub outcome : Outcome 8 sixteen-kinds.ps sixteen-kinds.r lifetimes args
-  pub fits : FitsContract 8 sixteen-kinds.ps sixteen-kinds.r sixteen.Learnt lifetimes args outcome
+abbrev pub SixteenRun : Type 0
+SixteenRun = RunOf sixteen-type
 
 -- the numbers as they were lent, and the other arguments that are not lent for writing
 abbrev pub sixteen_numbers : SixteenRun → List ℤ
-sixteen_numbers u = u.args.0.now
+sixteen_numbers = numbers_in sixteen-type
 
 abbrev pub sixteen_dims : SixteenRun → Extent
-sixteen_dims u = u.args.1.0
+sixteen_dims = dims_in sixteen-type
 
 abbrev pub sixteen_low : SixteenRun → Extent
-sixteen_low u = u.args.1.1.0
+sixteen_low = low_in sixteen-type
 
 abbrev pub sixteen_high : SixteenRun → Extent
-sixteen_high u = u.args.1.1.1.0
+sixteen_high = high_in sixteen-type
 
 abbrev pub sixteen_plane : SixteenRun → EachAxis
-sixteen_plane u = u.args.1.1.1.1.0
+sixteen_plane = plane_in sixteen-type
 
 abbrev pub sixteen_served : SixteenRun → Served
-sixteen_served u =
-    let (positions, (normals, (cells, (strides, (crossings, (map, (indices, _))))))) = u.args.1.1.1.1.1 in
-    let (positions', (normals', (cells', (strides', (crossings', (map', (indices', _))))))) = u.outcome.last.1.1.1.1.1 in
-    record {
-      call = call_made (as_floats (sixteen_numbers u)) (sixteen_dims u) (sixteen_low u) (sixteen_high u) (sixteen_plane u);
-      before = buffers_given positions normals cells strides crossings map indices;
-      says = answer_of u.outcome.result;
-      after = buffers positions' normals' cells' strides' crossings' map' indices';
-      answered = u.fits.0;
-      left = u.fits.1.0;
-      numbers = wholes-fit (sixteen_numbers u);
-    }
+sixteen_served = served_of sixteen-type
 
--- ---- surface_nets_i8
+-- ---- surface_nets over 8-bit numbers
 
-pub record EightRun : Type 0 where
-  pub lifetimes : Lfts 8
-  pub args : Dens lifetimes eight-kinds.ps
-  pub outcome : Outcome 8 eight-kinds.ps eight-kinds.r lifetimes args
-  pub fits : FitsContract 8 eight-kinds.ps eight-kinds.r eight.Learnt lifetimes args outcome
+abbrev pub EightRun : Type 0
+EightRun = RunOf eight-type
 
 -- the numbers as they were lent, and the other arguments that are not lent for writing
 abbrev pub eight_numbers : EightRun → List ℤ
-eight_numbers u = u.args.0.now
+eight_numbers = numbers_in eight-type
 
 abbrev pub eight_dims : EightRun → Extent
-eight_dims u = u.args.1.0
+eight_dims = dims_in eight-type
 
 abbrev pub eight_low : EightRun → Extent
-eight_low u = u.args.1.1.0
+eight_low = low_in eight-type
 
 abbrev pub eight_high : EightRun → Extent
-eight_high u = u.args.1.1.1.0
+eight_high = high_in eight-type
 
 abbrev pub eight_plane : EightRun → EachAxis
-eight_plane u = u.args.1.1.1.1.0
+eight_plane = plane_in eight-type
 
 abbrev pub eight_served : EightRun → Served
-eight_served u =
-    let (positions, (normals, (cells, (strides, (crossings, (map, (indices, _))))))) = u.args.1.1.1.1.1 in
-    let (positions', (normals', (cells', (strides', (crossings', (map', (indices', _))))))) = u.outcome.last.1.1.1.1.1 in
-    record {
-      call = call_made (as_floats (eight_numbers u)) (eight_dims u) (eight_low u) (eight_high u) (eight_plane u);
-      before = buffers_given positions normals cells strides crossings map indices;
-      says = answer_of u.outcome.result;
-      after = buffers positions' normals' cells' strides' crossings' map' indices';
-      answered = u.fits.0;
-      left = u.fits.1.0;
-      numbers = wholes-fit (eight_numbers u);
-    }
+eight_served = served_of eight-type
 
 -- ---- bed_surface_nets_i16: the twelve words taken apart, and V and I behind the last two parameters
 

@@ -1,134 +1,72 @@
 // One stored call, made through the library and compared.
-ghost use Rattle.std.specs.Prelude.{◌≤◌};
-
-use crate::stored::{Asked, Expected, Head, Tail};
-use crate::tally::Differs;
+use crate::outcome::{Fault, Part};
+use crate::stored::{Asked, Expected};
 use crate::{list, stored};
 use grid::Block;
-use judge::{Answer, Lengths};
-use marked_mesh::{Lists, mesh_marked};
+use judge::{Lengths, Refusal, Tally};
+use marked_mesh::{Lists, Meshed, mesh_marked};
 use std::io::Read;
 
-// What came of a call: it was compared, or the file ends in it, or it is not as the layout says.
-#[derive(Clone, Copy)]
-pub(crate) enum Replayed {
-    Compared(Differs),
-    Cut,
-    Malformed,
-}
-
-fn least(a: usize, b: usize) -> usize
-    ensures { result ≤ b }
-{
-    if a < b { a } else { b }
-}
-
-fn distances(list: &[f32], length: usize) -> &[f32] {
-    let n = least(length, list.len());
-    &list[0..n]
-}
-
 // The first of the answer, V and I that differs.
-fn answers_differ(a: Answer, e: Expected) -> Differs {
-    if a.number != e.answer {
-        return Differs::Answer;
+fn answer_differs(a: Result<Tally, Refusal>, e: Expected) -> Option<Part> {
+    let (number, counts) = judge::numbers(a);
+    if number != e.answer {
+        return Some(Part::Answer);
     }
-    if a.vertex_count != e.vertex_count as u64 {
-        return Differs::Vertices;
+    if counts.vertices != e.vertex_count as usize {
+        return Some(Part::Vertices);
     }
-    if a.index_count != e.index_count as u64 {
-        return Differs::Indices;
+    if counts.indices != e.index_count as usize {
+        return Some(Part::Indices);
     }
-    Differs::Nowhere
+    None
 }
 
-// What differed before, or else this list, if it does.
-fn then(before: Differs, agrees: bool, here: Differs) -> Differs {
-    if agrees {
-        return before;
-    }
-    match before {
-        Differs::Nowhere => here,
-        _ => before,
-    }
-}
-
-// The stored lists follow in this order: positions and normals, cells and strides, map and indices.
-fn compare_floats(from: &mut impl Read, n: Lengths, before: Differs, lists: Lists) -> Differs {
-    let positions = lists.positions;
-    let normals = lists.normals;
-    let d = then(
-        before,
-        list::floats_agree(from, &positions, n.positions),
-        Differs::PositionList,
-    );
-    then(
-        d,
-        list::floats_agree(from, &normals, n.normals),
-        Differs::NormalList,
-    )
-}
-
-fn compare_cells(from: &mut impl Read, n: Lengths, before: Differs, lists: Lists) -> Differs {
-    let cells = lists.cells;
-    let strides = lists.strides;
-    let d = then(
-        before,
-        list::words_agree(from, &cells, n.cells),
-        Differs::CellList,
-    );
-    then(
-        d,
-        list::words_agree(from, &strides, n.strides),
-        Differs::StrideList,
-    )
-}
-
-fn compare_faces(from: &mut impl Read, n: Lengths, before: Differs, lists: Lists) -> Differs {
-    let map = lists.map;
-    let indices = lists.indices;
-    let d = then(
-        before,
-        list::words_agree(from, &map, n.map),
-        Differs::MapList,
-    );
-    then(
-        d,
-        list::words_agree(from, &indices, n.indices),
-        Differs::IndexList,
-    )
+// The first of the lists that differs. The stored ones follow in this order, and all are read in any case.
+fn lists_differ(from: &mut impl Read, n: Lengths, lists: &Lists) -> Option<Part> {
+    let agree = [
+        (
+            Part::PositionList,
+            list::agrees(from, &lists.positions, n.positions),
+        ),
+        (
+            Part::NormalList,
+            list::agrees(from, &lists.normals, n.normals),
+        ),
+        (Part::CellList, list::agrees(from, &lists.cells, n.cells)),
+        (
+            Part::StrideList,
+            list::agrees(from, &lists.strides, n.strides),
+        ),
+        (Part::MapList, list::agrees(from, &lists.map, n.map)),
+        (
+            Part::IndexList,
+            list::agrees(from, &lists.indices, n.indices),
+        ),
+    ];
+    let (part, _) = agree.iter().find(|(_, agrees)| !*agrees)?;
+    Some(*part)
 }
 
 // The lists hold what the layout says before the call.
-fn made(from: &mut impl Read, grid: &[f32], block: Block, e: Expected) -> Differs {
-    let lent = e.lent;
-    let m = mesh_marked(grid, block, lent);
-    let lists = m.lists;
-    let d = answers_differ(m.answer, e);
-    let d = compare_floats(from, lent, d, lists);
-    let d = compare_cells(from, lent, d, lists);
-    compare_faces(from, lent, d, lists)
+fn made(from: &mut impl Read, grid: &[f32], block: Block, e: Expected) -> Option<Part> {
+    let Meshed { answer, lists } = mesh_marked(grid, block, e.lent);
+    let in_lists = lists_differ(from, e.lent, &lists);
+    answer_differs(answer, e).or(in_lists)
 }
 
-fn replay_asked(from: &mut impl Read, a: Asked) -> Replayed {
+fn replay_asked(from: &mut impl Read, a: Asked) -> Result<Option<Part>, Fault> {
     let mut stored = [0u8; 1024];
     let mut grid = [0.0f32; 256];
-    if !list::read(from, a.grid, &mut stored) {
-        return Replayed::Cut;
-    }
+    list::read(from, a.grid, &mut stored)?;
     list::take_distances(&mut grid, &stored);
-    match stored::read_tail(from) {
-        Tail::Cut => Replayed::Cut,
-        Tail::Malformed => Replayed::Malformed,
-        Tail::Answer(e) => Replayed::Compared(made(from, distances(&grid, a.grid), a.block, e)),
-    }
+    let e = stored::read_tail(from)?;
+    let n = a.grid.min(grid.len());
+    Ok(made(from, &grid[..n], a.block, e))
 }
 
-// The file's next call.
-pub(crate) fn replay(from: &mut impl Read) -> Replayed {
-    match stored::read_head(from) {
-        Head::Cut => Replayed::Cut,
-        Head::Malformed => Replayed::Malformed,
-        Head::Call(a) => replay_asked(from, a),
-    }
+// The file's next call: the first part in which it differs from what is stored, if it does.
+pub(crate) fn replay(from: &mut impl Read) -> Result<Option<Part>, Fault> {
+    let asked = stored::read_head(from)?;
+    replay_asked(from, asked)
 }

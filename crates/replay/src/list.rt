@@ -1,47 +1,35 @@
 // Lists of stored numbers: little-endian words of 32 bits, the next of an open file.
-use marks::stored;
-use marks::stored::word;
+use crate::outcome::Fault;
+use marks::Mark;
+use marks::stored::{begins_with, word};
 use std::io::Read;
 
-// Reads the file's next n numbers; no if it does not hold them all, or the room does not.
-pub(crate) fn read(from: &mut impl Read, n: usize, room: &mut [u8]) -> bool {
+// Reads the file's next n numbers; it is cut short if it does not hold them all, or the room does not.
+pub(crate) fn read(from: &mut impl Read, n: usize, room: &mut [u8]) -> Result<(), Fault> {
     if room.len() / 4 < n {
-        return false;
+        return Err(Fault::Cut);
     }
     let end = 4 * n;
-    from.read_exact(&mut room[0..end]).is_ok()
+    from.read_exact(&mut room[..end]).map_err(|_| Fault::Cut)
 }
 
 // The distance with these bits; every pattern of a not-a-number is not-a-number.
 fn distance(bits: u32) -> f32 {
     if 0x7F800000 < bits % 0x80000000 {
-        return 0.0 / 0.0;
+        return f32::NAN;
     }
     f32::from_bits(bits)
 }
 
 // The stored distances; places past them get 0.0, which are not lent.
 pub(crate) fn take_distances(grid: &mut [f32], stored: &[u8]) {
-    let mut j = 0;
-    while j < grid.len() {
-        grid[j] = distance(word(stored, j));
-        j += 1;
+    for (j, d) in grid.iter_mut().enumerate() {
+        *d = distance(word(stored, j));
     }
 }
 
 // The list begins with the file's next n numbers. They are read in any case.
-pub(crate) fn floats_agree(from: &mut impl Read, list: &[f32], n: usize) -> bool {
+pub(crate) fn agrees<M: Mark>(from: &mut impl Read, list: &[M], n: usize) -> bool {
     let mut bytes = [0u8; 2048];
-    if !read(from, n, &mut bytes) {
-        return false;
-    }
-    stored::floats_are(list, &bytes, n)
-}
-
-pub(crate) fn words_agree(from: &mut impl Read, list: &[u32], n: usize) -> bool {
-    let mut bytes = [0u8; 2048];
-    if !read(from, n, &mut bytes) {
-        return false;
-    }
-    stored::words_are(list, &bytes, n)
+    read(from, n, &mut bytes).is_ok() && begins_with(list, &bytes, n)
 }

@@ -7,20 +7,23 @@
 
 mod call;
 mod list;
-mod said;
+mod outcome;
 mod stored;
-mod tally;
 
 ghost use Rattle.std.specs.Prelude.{◌≤◌, length};
 
-use call::Replayed;
 use marks::stored::word;
+use outcome::{Stop, Tally};
 use std::env::{Env, FillError};
 use std::fs::File;
 use std::io::Read;
 use std::rt::Files;
 use std::str;
-use tally::Outcome;
+
+const HEAD: &str =
+    "# Stored answers of the published Rust, replayed through the proved library: the answer, V, I and every number of the six
+# lent buffers after each call. The library must agree with every call of answers.bin. In answers-changed.bin one bit is
+# changed in 24 of the stored answers, and exactly those must be found (oracle/stored/README.md).";
 
 // Whether the file goes on.
 fn goes_on(from: &mut impl Read) -> bool {
@@ -29,29 +32,22 @@ fn goes_on(from: &mut impl Read) -> bool {
 }
 
 // Call after call, to the end of the file, which must come right after the last.
-fn replay(from: &mut impl Read, calls: u32) -> Outcome {
-    let mut tally = tally::NONE;
-    let mut done = 0u32;
-    while done < calls {
-        match call::replay(from) {
-            Replayed::Cut => return Outcome::Cut(done),
-            Replayed::Malformed => return Outcome::Malformed(done),
-            Replayed::Compared(d) => tally = tally::counted(tally, d),
-        }
-        done += 1;
+fn replay(from: &mut impl Read, calls: u32) -> Result<Tally, Stop> {
+    let mut tally = Tally::of(calls);
+    for done in 0..calls {
+        let differs = call::replay(from).map_err(|fault| Stop::After(done, fault))?;
+        tally.count(differs);
     }
     if goes_on(from) {
-        return Outcome::LeftOver;
+        return Err(Stop::LeftOver);
     }
-    Outcome::Done(calls, tally)
+    Ok(tally)
 }
 
 // The first number is that of the calls.
-fn replay_open(from: &mut impl Read) -> Outcome {
+fn replay_open(from: &mut impl Read) -> Result<Tally, Stop> {
     let mut first = [0u8; 4];
-    if !list::read(from, 1, &mut first) {
-        return Outcome::Cut(0);
-    }
+    list::read(from, 1, &mut first).map_err(|fault| Stop::After(0, fault))?;
     replay(from, word(&first, 0))
 }
 
@@ -61,14 +57,16 @@ fn open_read<R: Files>(rt: &R, path: &[u8]) -> Option<R::File> {
     File::open(rt, path).ok()
 }
 
+// A name need not be text, and is printed as it is.
 fn replay_file(rt: &(impl Files + Print), name: &[u8]) {
     let file = open_read(rt, name);
-    said::name(rt, name);
-    let Some(mut file) = file else {
-        printed::text(rt, b"cannot be opened\n");
-        return;
+    let _ = rt.write_all(name);
+    let _ = print!(rt; ": ");
+    let _ = match file.map(|mut from| replay_open(&mut from)) {
+        None => println!(rt; "cannot be opened"),
+        Some(Ok(tally)) => println!(rt; "{tally}"),
+        Some(Err(stop)) => println!(rt; "{stop}"),
     };
-    said::outcome(rt, replay_open(&mut file));
 }
 
 // Puts an argument at the start of the buffer, and answers its length: 0 where it does not fit.
@@ -96,11 +94,8 @@ fn arg_count(rt: &impl Env) -> usize {
 }
 
 fn main(rt: HostRuntime) {
-    said::head(&rt);
-    let n = arg_count(&rt);
-    let mut i = 1usize;
-    while i < n {
+    let _ = println!(&rt; "{HEAD}");
+    for i in 1..arg_count(&rt) {
         replay_argument(&rt, i);
-        i += 1;
     }
 }

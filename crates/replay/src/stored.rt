@@ -1,5 +1,6 @@
 // A stored call, read from an open file: what is asked, and what it must answer.
 use crate::list::read;
+use crate::outcome::Fault;
 use grid::{Block, EachAxis, Extent};
 use judge::Lengths;
 use marks::stored::word;
@@ -19,21 +20,6 @@ pub(crate) struct Expected {
     pub(crate) answer: u32,
     pub(crate) vertex_count: u32,
     pub(crate) index_count: u32,
-}
-
-// Malformed: a max plane that is above 7, or a list that is too long.
-#[derive(Clone, Copy)]
-pub(crate) enum Head {
-    Call(Asked),
-    Cut,
-    Malformed,
-}
-
-#[derive(Clone, Copy)]
-pub(crate) enum Tail {
-    Answer(Expected),
-    Cut,
-    Malformed,
 }
 
 const LONGEST_GRID: u32 = 256;
@@ -73,18 +59,14 @@ fn asked_in(head: &[u8]) -> Asked {
     }
 }
 
-pub(crate) fn read_head(from: &mut impl Read) -> Head {
+// Malformed where a max plane is above 7, or the grid is too long.
+pub(crate) fn read_head(from: &mut impl Read) -> Result<Asked, Fault> {
     let mut head = [0u8; 44];
-    if !read(from, 11, &mut head) {
-        return Head::Cut;
+    read(from, 11, &mut head)?;
+    if 7 < word(&head, 9) || LONGEST_GRID < word(&head, 10) {
+        return Err(Fault::Malformed);
     }
-    if 7 < word(&head, 9) {
-        return Head::Malformed;
-    }
-    if LONGEST_GRID < word(&head, 10) {
-        return Head::Malformed;
-    }
-    Head::Call(asked_in(&head))
+    Ok(asked_in(&head))
 }
 
 // The crossings are not stored: as many are lent as strides, so that no stored answer is another for them.
@@ -109,25 +91,12 @@ fn expected_in(tail: &[u8]) -> Expected {
     }
 }
 
-// Whether one of the six lengths is too long.
-fn too_long(tail: &[u8]) -> bool {
-    let mut j = 0usize;
-    while j < 6 {
-        if LONGEST_LIST < word(tail, j) {
-            return true;
-        }
-        j += 1;
-    }
-    false
-}
-
-pub(crate) fn read_tail(from: &mut impl Read) -> Tail {
+// Malformed where one of the six lengths is too long.
+pub(crate) fn read_tail(from: &mut impl Read) -> Result<Expected, Fault> {
     let mut tail = [0u8; 36];
-    if !read(from, 9, &mut tail) {
-        return Tail::Cut;
+    read(from, 9, &mut tail)?;
+    if (0..6).any(|j| LONGEST_LIST < word(&tail, j)) {
+        return Err(Fault::Malformed);
     }
-    if too_long(&tail) {
-        return Tail::Malformed;
-    }
-    Tail::Answer(expected_in(&tail))
+    Ok(expected_in(&tail))
 }

@@ -5,62 +5,45 @@
 
 ghost use Rattle.std.specs.Prelude.{◌≡◌, ◌+◌, ◌≤◌, length};
 ghost use Rattle.std.proofs.lemmas.List.Edits.{sets};
-ghost use Rattle.grid.specs.Values.{grid_given, grid_before};
 ghost use Rattle.row_signs.specs.Signs.{negatives_run, row_start, row_points, row_negatives, one_sign};
 ghost use Rattle.row_signs.specs.Codes.{codes_run, row_kept, mixed_code};
 
 use grid::Block;
 use grid::signs::counted;
+use grid::values::{Distance, value_at};
 
 // How many of n distances from p on are negative.
-fn negatives(width: u32, a: &[f32], a16: &[i16], a8: &[i8], p: usize, n: usize) -> u32
-    requires n_in_bounds { p + n ≤ length (grid_given width a a16 a8) }
+fn negatives<D: Distance>(a: &[D], p: usize, n: usize) -> u32
+    requires n_in_bounds { p + n ≤ length (D.floats a.now) }
     requires n_bound { n ≤ 16777217 }
-    ensures { result ≡ negatives_run (grid_before width a a16 a8) p n }
+    ensures { result ≡ negatives_run (D.floats a.now) p n }
 {
     let mut count = 0u32;
     for j in 0usize..n {
-        count += counted(cube::negative(grid::values::value_at(width, a, a16, a8, p + j)));
+        count += counted(cube::negative(value_at(a, p + j)));
     }
     count
 }
 
 // How many of n places from `at` on are negative, in both layers; and the code of each, to a list from a place on.
-fn code_run(
-    width: u32,
-    lower: &[f32],
-    upper: &[f32],
-    lower16: &[i16],
-    upper16: &[i16],
-    lower8: &[i8],
-    upper8: &[i8],
+fn code_run<D: Distance>(
+    lower: &[D],
+    upper: &[D],
     at: usize,
     n: usize,
     codes: &mut [u32],
     from: usize,
 ) -> u32
-    requires n_in_bounds { (at + n ≤ length (grid_given width lower lower16 lower8)) × (at + n ≤ length (grid_given width upper upper16 upper8)) }
+    requires n_in_bounds { (at + n ≤ length (D.floats lower.now)) × (at + n ≤ length (D.floats upper.now)) }
     requires n_bound { (n ≤ 1024) × (from + n ≤ length codes.old) }
-    ensures value { result ≡ negatives_run (grid_before width lower lower16 lower8) at n + negatives_run (grid_before width upper upper16 upper8) at n }
+    ensures value { result ≡ negatives_run (D.floats lower.now) at n + negatives_run (D.floats upper.now) at n }
     ensures codes_after { codes.new
-        ≡ sets codes.old from (codes_run (grid_before width lower lower16 lower8) (grid_before width upper upper16 upper8) at n) }
+        ≡ sets codes.old from (codes_run (D.floats lower.now) (D.floats upper.now) at n) }
 {
     let mut count = 0u32;
     for j in 0usize..n {
-        let low = counted(cube::negative(grid::values::value_at(
-            width,
-            lower,
-            lower16,
-            lower8,
-            at + j,
-        )));
-        let high = counted(cube::negative(grid::values::value_at(
-            width,
-            upper,
-            upper16,
-            upper8,
-            at + j,
-        )));
+        let low = counted(cube::negative(value_at(lower, at + j)));
+        let high = counted(cube::negative(value_at(upper, at + j)));
         codes[from + j] = low + 8 * high;
         count += low + high;
     }
@@ -68,37 +51,30 @@ fn code_run(
 }
 
 // How many of the box's points in the row y are negative, in both layers. A row of at most 1,024 points leaves its codes in the list from a place on.
-pub fn read_row(
-    width: u32,
-    lower: &[f32],
-    upper: &[f32],
-    lower16: &[i16],
-    upper16: &[i16],
-    lower8: &[i8],
-    upper8: &[i8],
+pub fn read_row<D: Distance>(
+    lower: &[D],
+    upper: &[D],
     k: Block,
     y: u32,
     codes: &mut [u32],
     from: usize,
 ) -> usize
     requires x_le_x { (k.low.x ≤ k.high.x) × (row_points k ≤ 16777217) }
-    requires k_in_bounds { row_start k y + row_points k ≤ length (grid_given width lower lower16 lower8) }
-    requires k_in_bounds_2 { row_start k y + row_points k ≤ length (grid_given width upper upper16 upper8) }
+    requires k_in_bounds { row_start k y + row_points k ≤ length (D.floats lower.now) }
+    requires k_in_bounds_2 { row_start k y + row_points k ≤ length (D.floats upper.now) }
     requires from_in_bounds { from + 1024 ≤ length codes.old }
-    ensures value { result ≡ row_negatives (grid_before width lower lower16 lower8) (grid_before width upper upper16 upper8) k y }
+    ensures value { result ≡ row_negatives (D.floats lower.now) (D.floats upper.now) k y }
     ensures codes_after { codes.new
-        ≡ row_kept (grid_before width lower lower16 lower8) (grid_before width upper upper16 upper8) k y from codes.old }
+        ≡ row_kept (D.floats lower.now) (D.floats upper.now) k y from codes.old }
 {
     let at = (k.low.x as usize) + (k.dims.x as usize) * (y as usize);
     let points = ((k.high.x - k.low.x) as usize) + 1;
     if points <= 1024 {
-        let both = code_run(
-            width, lower, upper, lower16, upper16, lower8, upper8, at, points, codes, from,
-        );
+        let both = code_run(lower, upper, at, points, codes, from);
         return both as usize;
     }
-    let below = negatives(width, lower, lower16, lower8, at, points);
-    let above = negatives(width, upper, upper16, upper8, at, points);
+    let below = negatives(lower, at, points);
+    let above = negatives(upper, at, points);
     (below as usize) + (above as usize)
 }
 

@@ -132,5 +132,13 @@ bit-there n p h = shl_exact {a = 1} 1 (n - p) 64 (omega arith) (omega arith) ∙
 pub bit-some : (n p : ℕ) → n < p + 64 → 1 ≤ 1 * 2 ^ (n - p) % 18446744073709551616
 bit-some n p h = omega (arith, bit-there n p h, pow_pos (n - p))
 
-pub bit_below : (n p : ℕ) → p ≤ n → n < p + 64 → 1 * 2 ^ (n - p) % 18446744073709551616 - 1 ≡ word (λ j. ltb j n) p 64
-bit_below n p h l = omega (arith, bit-there n p l, word_below n p 64 h (omega arith))
+-- none of them where n is below p
+pub bit_below : (n p : ℕ) → n < p + 64 → 1 * 2 ^ (n - p) % 18446744073709551616 - 1 ≡ word (λ j. ltb j n) p 64
+bit_below n p l = go (less-or-not n p)
+  where
+    none : n ≤ p → 2 ^ (n - p) - 1 ≡ word (λ j. ltb j n) p 64
+    none h = let e : n - p ≡ 0 = omega arith in rw (e, word-past n p 64 h)
+
+    go : (n < p) ⊎ (p ≤ n) → 1 * 2 ^ (n - p) % 18446744073709551616 - 1 ≡ word (λ j. ltb j n) p 64
+    go (inl h) = omega (arith, bit-there n p l, none (omega arith))
+    go (inr h) = omega (arith, bit-there n p l, word_below n p 64 h (omega arith))

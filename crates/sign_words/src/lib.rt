@@ -2,11 +2,11 @@
 // layer and in the one above it, and its other four corners are the next points of these lines.
 #![tactic(auto)]
 
-ghost use Rattle.std.specs.Prelude.{◌≡◌, ◌+◌, ◌<◌, min, length};
+ghost use Rattle.std.specs.Prelude.{◌≡◌, ◌+◌, ◌<◌, length};
 ghost use Rattle.sign_words.specs.Words.{onward_of, below_mask, ends_at, mixed_of};
 
 // Where the words of the four lines stand in a list.
-#[derive(Clone, Copy)]
+#[derive(Clone, Copy, Debug, PartialEq, Eq)]
 pub struct Lines {
     pub near: usize,
     pub far: usize,
@@ -15,19 +15,10 @@ pub struct Lines {
 }
 
 // Of the four points at each of 64 places: where some is negative, and where all are.
-#[derive(Clone, Copy)]
+#[derive(Clone, Copy, Debug, PartialEq, Eq)]
 pub struct Ends {
     pub some: u64,
     pub all: u64,
-}
-
-pub fn lesser(a: usize, b: usize) -> usize
-    ensures { result ≡ min a b }
-{
-    if a < b {
-        return a;
-    }
-    b
 }
 
 // A word moved on by one, its last bit being the first of the next word.
@@ -42,14 +33,12 @@ pub fn below_mask(n: usize, i: usize) -> u64
     requires { i < 16777216 }
     ensures { result ≡ below_mask n i }
 {
-    let from = 64 * i;
-    if n <= from {
-        return 0;
+    let places = n.saturating_sub(64 * i);
+    if places < 64 {
+        (1u64 << (places as u32)) - 1
+    } else {
+        u64::MAX
     }
-    if from + 64 <= n {
-        return 18446744073709551615;
-    }
-    (1u64 << ((n - from) as u32)) - 1
 }
 
 pub fn ends_at(words: &[u64], l: Lines, i: usize) -> Ends

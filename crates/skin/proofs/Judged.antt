@@ -12,10 +12,9 @@ use Rattle.grid.specs.declared.Extent.{Extent}
 use Rattle.grid.specs.declared.Block.{Block}
 use Rattle.grid.specs.Faults.{first_fault}
 use Rattle.grid.proofs.Faults.{Faultless, first-answers}
-use Rattle.skin.specs.declared.Enclosed.{Enclosed}
 use Rattle.skin.specs.Links.{link, same_link, links}
 use Rattle.skin.specs.Enclosed.{enclosed}
-use Rattle.skin.specs.Scan.{stray_box, answers, judged}
+use Rattle.skin.specs.Scan.{Tested, stray_box, answers, judged}
 use Rattle.skin.proofs.Premise.{skin-closed}
 use Rattle.skin.proofs.Scans.{box-is}
 
@@ -37,7 +36,7 @@ module _ (g : Field) (b : Box) (size : ℕ) where
 -- ---- what the answer says of the mesh
 
 answered : {n m : ℕ} {x y : Bool} → answers n x ≡ answers m y → (n ≡ m) × (x ≡ y)
-answered e = (ap (λ (r : Enclosed). r.answer) e, ap (λ (r : Enclosed). r.enclosed) e)
+answered e = (ap (λ (r : Tested). r.answer) e, ap (λ (r : Tested). r.enclosed) e)
 
 -- answer 0 and yes: no hole, for any flags
 pub yes-closed : (g : Field) (b : Box) (size : ℕ) → judged g b size ≡ answers 0 true → (m : Flags) (i j : ℕ)

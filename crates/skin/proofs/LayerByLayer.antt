@@ -6,7 +6,7 @@ use native.Mathlib.Omega.{arith}
 use mathlib.Core.Bool.{Bool, true, false, not, ◌||◌, ◌&&◌}
 use mathlib.Core.List.{List}
 use mathlib.Core.Path.{◌≡◌, refl, sym, ap, subst, ◌∙◌}
-use borrow.Author.Tests.{le-ltb, lt-ltb, eq-eqb, ne_eqb}
+use borrow.Author.Tests.{le-ltb, eq-eqb, ne_eqb}
 use lib.Dec.{T, T_not, not_T, eqb, eqb→eq, ltb, leb, le→leb}
 use lib.Ieee.{Float, nan}
 use lib.Ieee.Bits.{is_true}
@@ -31,9 +31,8 @@ use Rattle.grid.specs.Inside.{Inside}
 use Rattle.grid.specs.Layers.{in_layer}
 use Rattle.grid.proofs.Bounds.{few, fits}
 use Rattle.grid.proofs.Layers.{in-plane}
-use Rattle.skin.specs.declared.Enclosed.{Enclosed}
 use Rattle.skin.specs.Enclosed.{inner, stray, enclosed}
-use Rattle.skin.specs.Scan.{stray_at, stray_row, stray_layer, answers, judged, layer_enclosed, judged_layer, layer_grid, grid_of, box_from, examined, examined_layer}
+use Rattle.skin.specs.Scan.{Tested, stray_at, stray_row, stray_layer, answers, judged, layer_enclosed, outside, judged_layer, layer_grid, grid_of, box_from, examined, examined_layer}
 use Rattle.skin.proofs.Judged.{block_of}
 use Rattle.skin.proofs.Scans.{layer-is}
 
@@ -110,22 +109,21 @@ module _ (g : Field) (b : Box) (size z : ℕ) where
     layer-2 e = rw (d, e)
 
     module _ (e : bad_box g.dims b ≡ false) where
-      pub layer_below : z < b.low.z → answers 77 false ≡ judged_layer g b size z
+      pub layer-outside : outside b z ≡ true → answers 77 false ≡ judged_layer g b size z
       unfolding judged_layer
-      layer_below h = rw (d, e, lt-ltb z b.low.z h)
+      layer-outside o = rw (d, e, o)
 
-      pub layer-above : b.low.z ≤ z → b.high.z < z → answers 77 false ≡ judged_layer g b size z
-      unfolding judged_layer
-      layer-above l h = rw (d, e, le-ltb z b.low.z l, lt-ltb b.high.z z h)
-
-      module _ (l : b.low.z ≤ z) (h : z ≤ b.high.z) where
+      module _ (within' : outside b z ≡ false) where
         pub layer-3 : (size ≡ g.dims.x * g.dims.y → ⊥) → answers 3 false ≡ judged_layer g b size z
         unfolding judged_layer
-        layer-3 n = rw (d, e, le-ltb z b.low.z l, le-ltb b.high.z z h, ne_eqb size (g.dims.x * g.dims.y) n)
+        layer-3 n = rw (d, e, within', ne_eqb size (g.dims.x * g.dims.y) n)
 
         pub layer-0 : size ≡ g.dims.x * g.dims.y → (found : Bool) → not found ≡ layer_enclosed g b z → answers 0 (not found) ≡ judged_layer g b size z
         unfolding judged_layer
-        layer-0 s found q = rw (d, e, le-ltb z b.low.z l, le-ltb b.high.z z h, eq-eqb size (g.dims.x * g.dims.y) s, q)
+        layer-0 s found q = rw (d, e, within', eq-eqb size (g.dims.x * g.dims.y) s, q)
+
+not-outside : (b : Box) (z : ℕ) → b.low.z ≤ z → z ≤ b.high.z → outside b z ≡ false
+not-outside b z l h = rw (le-ltb z b.low.z l, le-ltb b.high.z z h)
 
 -- ---- of every layer of the box
 
@@ -235,7 +233,7 @@ module _ (sdf : List Float) (dims low high : Extent) (i : Inside sdf (block_of d
       let e = layer_enclosed g b z in
       ap (answers 0) (sym (twice e))
       ∙ layer-0 g b (length (layer_of sdf dims z)) z (is_false (bad_dimensions (point dims)) (T_not (bad_dimensions (point dims)) i.dims))
-      (is_false (bad_box (point dims) b) (T_not (bad_box (point dims) b) i.box)) l h (layer-length z h) (not e) (twice e)
+      (is_false (bad_box (point dims) b) (T_not (bad_box (point dims) b) i.box)) (not-outside b z l h) (layer-length z h) (not e) (twice e)
 
   -- "yes" of every layer exactly if it is the grid's answer
   pub every-yes : ((z : ℕ) → low.z ≤ z → z ≤ high.z → examined_layer (layer_of sdf dims z) dims low high z ≡ answers 0 true) → examined sdf dims low high ≡ answers 0 true
@@ -243,7 +241,7 @@ module _ (sdf : List Float) (dims low high : Extent) (i : Inside sdf (block_of d
   every-yes each =
       let g = grid_of sdf dims in
       let b = box_from low high in
-      let t : T (enclosed g b) = layers-then-grid (λ z l h. is-test _ (ap (λ (r : Enclosed). r.enclosed) (layer-answered z l h ∙ each z l h))) in
+      let t : T (enclosed g b) = layers-then-grid (λ z l h. is-test _ (ap (λ (r : Tested). r.enclosed) (layer-answered z l h ∙ each z l h))) in
       rw (
         is_false (bad_dimensions (point dims)) (T_not (bad_dimensions (point dims)) i.dims),
         is_false (bad_box (point dims) b) (T_not (bad_box (point dims) b) i.box),

@@ -9,5 +9,6 @@ pub mod Premise
 pub mod Instances
 pub mod Scans
 pub mod Judged
+pub mod Said
 pub mod LayerByLayer
 pub mod LayerCases

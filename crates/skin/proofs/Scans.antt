@@ -1,58 +1,23 @@
--- The scan for stray points: one axis of a point as the code tests it, three tests one after the other, and the rows and layers that make up
--- the points of the box. Assumes nothing.
+-- The scan for stray points: the rows and layers that make up the points of the box, and a row of which the ends alone need be read. Assumes nothing.
 use Prim.Native.Nat.{ℕ, ◌+◌, ◌-◌, ◌<◌, ◌≤◌}
 use native.Mathlib.Omega.{arith}
 use mathlib.Core.Bool.{Bool, true, false, ◌&&◌, ◌||◌, not}
 use mathlib.Core.List.{List, [], ◌∷◌, ◌++◌, map}
 use mathlib.Core.Path.{◌≡◌, refl, sym, ap, ap₂, ◌∙◌}
-use borrow.Author.Tests.{not-true, not-false}
-use lib.Dec.{T, leb, leb→le, le→leb}
+use lib.Dec.{T, leb, leb→le}
 use lib.Ieee.Bits.{is_true}
 use lib.Ieee.Fits.{and_l, and_r}
 use Rattle.lists.specs.Lists.{some, up_to}
 use Rattle.rules.specs.Grid.{Box, Field, value}
 use Rattle.rules.specs.Cell.{negative}
 use Rattle.rules.specs.Faces.{layer_points, points, point_layers}
-use Rattle.lists.proofs.Tests.{same_test, is_false, is-test}
+use Rattle.lists.proofs.Tests.{is-test}
 use Rattle.lists.proofs.Lists.{all-each}
 use Rattle.lists.proofs.Runs.{up_to-split, up_to-each}
 use Rattle.lists.proofs.Some.{some-append, some-joined, some-map, some_same}
 use Rattle.skin.specs.Enclosed.{inner_side, inner, stray, enclosed}
 use Rattle.skin.specs.Scan.{stray_at, stray_part, stray_row, stray_layer, stray_box}
-use Rattle.skin.proofs.Premise.{side-says, says-side}
-
--- ---- one axis of a point
-
-module _ (low high n : ℕ) where
-  pub too-low : n ≤ low → false ≡ inner_side low high n
-  too-low h = sym (is_false (inner_side low high n) (λ t. omega (arith, side-says low high n t)))
-
-  pub too-high : high ≤ n → false ≡ inner_side low high n
-  too-high h = sym (is_false (inner_side low high n) (λ t. omega (arith, side-says low high n t)))
-
-  pub two-left : low < n → n < high → leb 2 (high - n) ≡ inner_side low high n
-  two-left h k =
-      same_test (leb 2 (high - n)) (inner_side low high n)
-      (λ t. says-side low high n (omega (arith, leb→le 2 (high - n) t)))
-      (λ t. le→leb 2 (high - n) (omega (arith, side-says low high n t)))
-
--- ---- tests one after the other
-
--- r and s are what the code found of a and b
-pub not_first : {a r : Bool} (b c : Bool) → r ≡ a → not r ≡ true → false ≡ (a && (b && c))
-not_first {r = r} b c e h = rw (← e, not-true r h)
-
-pub not-second : {a b r s : Bool} (c : Bool) → r ≡ a → not r ≡ false → s ≡ b → not s ≡ true → false ≡ (a && (b && c))
-not-second {r = r} {s = s} c e h f k = rw (← e, ← f, not-false r h, not-true s k)
-
-pub the-third : {a b r s : Bool} (c : Bool) → r ≡ a → not r ≡ false → s ≡ b → not s ≡ false → c ≡ (a && (b && c))
-the-third {r = r} {s = s} c e h f k = rw (← e, ← f, not-false r h, not-false s k)
-
-pub not_negative : {a r : Bool} (b : Bool) → r ≡ a → not r ≡ true → false ≡ (a && b)
-not_negative {r = r} b e h = rw (← e, not-true r h)
-
-pub but-negative : {a b r s : Bool} → r ≡ a → not r ≡ false → s ≡ b → not s ≡ (a && not b)
-but-negative {r = r} e h f = rw (← e, ← f, not-false r h)
+use Rattle.skin.proofs.Premise.{says-side}
 
 -- ---- rows and layers
 
@@ -77,9 +42,6 @@ none_of (x ∷ xs) = none_of xs
 and_no : (t : Bool) → (t && false) ≡ false
 and_no true = refl
 and_no false = refl
-
-pub middle-wide : (p q : Bool) (wide : ℕ) → (p && (q && leb 3 wide)) ≡ true → 3 ≤ wide
-middle-wide p q wide e = leb→le 3 wide (and_r q (leb 3 wide) (and_r p (q && leb 3 wide) (is-test (p && (q && leb 3 wide)) e)))
 
 module _ (g : Field) (f b : Box) (place z y : ℕ) (same : (f.low.x ≡ b.low.x) × (f.high.x ≡ b.high.x)) where
   abbrev at : ℕ → Bool

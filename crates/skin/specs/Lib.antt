@@ -3,3 +3,4 @@
 pub mod Links
 pub mod Enclosed
 pub mod Scan
+pub mod Answer

@@ -1,111 +1,56 @@
 // The premise of document 02's request 8 for one layer of a grid that comes layer by layer: no negative point of the layer z of the box is stray. Of every layer
 // of the box yes exactly if `is_enclosed` says yes of the grid (proofs/LayerByLayer).
-ghost use Rattle.std.specs.Prelude.{false, ◌≡◌};
-ghost use Rattle.skin.specs.Scan.{answers, examined_layer};
-ghost use Rattle.grid.specs.Values.{as_floats, grid_before};
+ghost use Rattle.std.specs.Prelude.{◌≡◌};
+ghost use Rattle.grid.specs.Block.{box_of};
+ghost use Rattle.skin.specs.Answer.{answer_of};
+ghost use Rattle.skin.specs.Scan.{outside, examined_layer};
 
-use crate::{Enclosed, scan};
+use crate::{Refusal, scan};
+use grid::checks::{Fault, bad_box, bad_dimensions};
+use grid::values::Distance;
 use grid::{Block, EachAxis, Extent};
 
-fn refused(answer: u32) -> Enclosed
-    ensures { result ≡ answers answer false }
+fn is_outside(k: Block, z: u32) -> bool
+    ensures { result ≡ outside (box_of k) z }
 {
-    Enclosed {
-        answer,
-        enclosed: false,
-    }
+    z < k.low.z || k.high.z < z
 }
 
-fn examine_layer(
-    width: u32,
-    layer: &[f32],
-    layer16: &[i16],
-    layer8: &[i8],
+// Conditions 1 and 2, then a z outside the box, then condition 3: a layer whose length is not X·Y.
+pub fn is_enclosed_layer<D: Distance>(
+    layer: &[D],
     dims: Extent,
     low: Extent,
     high: Extent,
     z: u32,
-) -> Enclosed
-    ensures { result ≡ examined_layer (grid_before width layer layer16 layer8) dims low high z }
+) -> Result<bool, Refusal>
+    ensures { answer_of result ≡ examined_layer (D.floats layer.now) dims low high z }
 {
-    let max_plane = EachAxis {
-        x: false,
-        y: false,
-        z: false,
-    };
+    let max_plane = EachAxis::NONE;
     let k = Block {
         dims,
         low,
         high,
         max_plane,
     };
-    if grid::checks::bad_dimensions(dims) {
-        return refused(1);
+    if bad_dimensions(dims) {
+        return Err(Refusal::Grid(Fault::Dimensions));
     }
-    if grid::checks::bad_box(k) {
-        return refused(2);
+    if bad_box(k) {
+        return Err(Refusal::Grid(Fault::Box));
     }
-    if z < low.z {
-        return refused(77);
-    }
-    if high.z < z {
-        return refused(77);
+    if is_outside(k, z) {
+        return Err(Refusal::Outside);
     }
     let plane = (dims.x as usize) * (dims.y as usize);
-    if grid::values::length_of(width, layer, layer16, layer8) != plane {
-        return refused(3);
+    if layer.len() != plane {
+        return Err(Refusal::Grid(Fault::Length));
     }
     let flat = Block {
-        dims: Extent {
-            x: dims.x,
-            y: dims.y,
-            z: 1,
-        },
-        low: Extent {
-            x: low.x,
-            y: low.y,
-            z: 0,
-        },
-        high: Extent {
-            x: high.x,
-            y: high.y,
-            z: 0,
-        },
+        dims: Extent { z: 1, ..dims },
+        low: Extent { z: 0, ..low },
+        high: Extent { z: 0, ..high },
         max_plane,
     };
-    Enclosed {
-        answer: 0,
-        enclosed: !scan::stray_layer(width, layer, layer16, layer8, flat, k, 0, z),
-    }
-}
-
-// Answer 0 with the test's outcome for the layer z, or a refusal: 1, 2, 77 for a z outside the box, 3 for a layer whose length is not X·Y.
-pub fn is_enclosed_layer(layer: &[f32], dims: Extent, low: Extent, high: Extent, z: u32) -> Enclosed
-    ensures { result ≡ examined_layer layer.now dims low high z }
-{
-    examine_layer(32, layer, &[], &[], dims, low, high, z)
-}
-
-pub fn is_enclosed_layer_i16(
-    layer: &[i16],
-    dims: Extent,
-    low: Extent,
-    high: Extent,
-    z: u32,
-) -> Enclosed
-    ensures { result ≡ examined_layer (as_floats layer.now) dims low high z }
-{
-    examine_layer(16, &[], layer, &[], dims, low, high, z)
-}
-
-pub fn is_enclosed_layer_i8(
-    layer: &[i8],
-    dims: Extent,
-    low: Extent,
-    high: Extent,
-    z: u32,
-) -> Enclosed
-    ensures { result ≡ examined_layer (as_floats layer.now) dims low high z }
-{
-    examine_layer(8, &[], &[], layer, dims, low, high, z)
+    Ok(!scan::stray_layer(layer, flat, k, 0, z))
 }

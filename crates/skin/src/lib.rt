@@ -6,66 +6,57 @@ pub mod layer;
 mod scan;
 
 ghost use Rattle.std.specs.Prelude.{◌≡◌};
+ghost use Rattle.skin.specs.Answer.{number_of, answer_of};
 ghost use Rattle.skin.specs.Scan.{examined};
-ghost use Rattle.grid.specs.Values.{as_floats, grid_before};
 
+use grid::checks::{Fault, first_fault};
+use grid::values::Distance;
 use grid::{Block, EachAxis, Extent};
 
-// Answer 0 with the test's outcome, or a refusal of document 01, 1, 2 or 3, with `enclosed` false.
-#[derive(Clone, Copy)]
-pub struct Enclosed {
-    pub answer: u32,
-    pub enclosed: bool,
+// Why nothing is tested: one of document 01's conditions 1 to 3, or a layer that lies outside of the box.
+#[derive(Clone, Copy, Debug, PartialEq, Eq)]
+pub enum Refusal {
+    Grid(Fault),
+    Outside,
 }
 
-fn examine(
-    width: u32,
-    sdf: &[f32],
-    sdf16: &[i16],
-    sdf8: &[i8],
+impl From<Fault> for Refusal {
+    ghost use Rattle.skin.specs.declared.Refusal.TheVariants.{Grid};
+
+    ghost from_gives = { λ fault refusal. refusal ≡ Grid fault };
+
+    fn from(fault: Fault) -> Refusal {
+        Refusal::Grid(fault)
+    }
+}
+
+// The number that C gets: document 01's, or 77.
+impl From<Refusal> for u32 {
+    ghost from_gives = { λ refusal number. number ≡ number_of refusal };
+
+    fn from(refusal: Refusal) -> u32 {
+        match refusal {
+            Refusal::Grid(fault) => u32::from(fault),
+            Refusal::Outside => 77,
+        }
+    }
+}
+
+// Whether no negative point of the box is stray. Any numbers may come.
+pub fn is_enclosed<D: Distance>(
+    sdf: &[D],
     dims: Extent,
     low: Extent,
     high: Extent,
-) -> Enclosed
-    ensures { result ≡ examined (grid_before width sdf sdf16 sdf8) dims low high }
+) -> Result<bool, Refusal>
+    ensures { answer_of result ≡ examined (D.floats sdf.now) dims low high }
 {
     let k = Block {
         dims,
         low,
         high,
-        max_plane: EachAxis {
-            x: false,
-            y: false,
-            z: false,
-        },
+        max_plane: EachAxis::NONE,
     };
-    let fault = grid::values::first_fault_of(k, width, sdf, sdf16, sdf8);
-    if fault != 0 {
-        return Enclosed {
-            answer: fault,
-            enclosed: false,
-        };
-    }
-    Enclosed {
-        answer: 0,
-        enclosed: !scan::stray_box(width, sdf, sdf16, sdf8, k),
-    }
-}
-
-pub fn is_enclosed(sdf: &[f32], dims: Extent, low: Extent, high: Extent) -> Enclosed
-    ensures { result ≡ examined sdf.now dims low high }
-{
-    examine(32, sdf, &[], &[], dims, low, high)
-}
-
-pub fn is_enclosed_i16(sdf: &[i16], dims: Extent, low: Extent, high: Extent) -> Enclosed
-    ensures { result ≡ examined (as_floats sdf.now) dims low high }
-{
-    examine(16, &[], sdf, &[], dims, low, high)
-}
-
-pub fn is_enclosed_i8(sdf: &[i8], dims: Extent, low: Extent, high: Extent) -> Enclosed
-    ensures { result ≡ examined (as_floats sdf.now) dims low high }
-{
-    examine(8, &[], &[], sdf, dims, low, high)
+    first_fault(k, sdf.len())?;
+    Ok(!scan::stray_box(sdf, k))
 }

@@ -6,16 +6,7 @@ ghost use Rattle.std.proofs.lemmas.List.Edits.{sets};
 
 use cube::Point;
 
-pub fn put_vector(list: &mut [f32], at: usize, p: Point)
-    requires { at + 2 < length list.old }
-    ensures { list.new ≡ sets list.old at (p.x ∷ p.y ∷ p.z ∷ []) }
-{
-    list[at] = p.x;
-    list[at + 1] = p.y;
-    list[at + 2] = p.z;
-}
-
-pub fn put_three(list: &mut [u32], at: usize, x: u32, y: u32, z: u32)
+pub fn put_three<T: Copy>(list: &mut [T], at: usize, x: T, y: T, z: T)
     requires { at + 2 < length list.old }
     ensures { list.new ≡ sets list.old at (x ∷ y ∷ z ∷ []) }
 {
@@ -24,7 +15,14 @@ pub fn put_three(list: &mut [u32], at: usize, x: u32, y: u32, z: u32)
     list[at + 2] = z;
 }
 
-pub fn put_six(list: &mut [u32], at: usize, a: u32, b: u32, c: u32, d: u32, e: u32, f: u32)
+pub fn put_vector(list: &mut [f32], at: usize, p: Point)
+    requires { at + 2 < length list.old }
+    ensures { list.new ≡ sets list.old at (p.x ∷ p.y ∷ p.z ∷ []) }
+{
+    put_three(list, at, p.x, p.y, p.z);
+}
+
+pub fn put_six<T: Copy>(list: &mut [T], at: usize, a: T, b: T, c: T, d: T, e: T, f: T)
     requires { at + 5 < length list.old }
     ensures { list.new ≡ sets list.old at (a ∷ b ∷ c ∷ d ∷ e ∷ f ∷ []) }
 {

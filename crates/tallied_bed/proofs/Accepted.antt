@@ -14,8 +14,7 @@ use Rattle.levels.specs.Columns.{columns}
 use Rattle.levels.proofs.Answering.{Accepted, layer-offered}
 use Rattle.levelled_bed.specs.Layers.{layer_at, below_nth}
 use Rattle.levelled_bed.proofs.Layered.{layer-accepted}
-use Rattle.tally.specs.declared.Told.{Told}
-use Rattle.tally.specs.Call.{told, counts_of, tally_answer, tallied}
+use Rattle.tally.specs.Call.{Told, told, counts_of, tally_answer, tallied}
 use Rattle.tally.proofs.Answering.{Good, tallied-0}
 
 -- the conditions in their order

@@ -25,9 +25,8 @@ use Rattle.bounded_mesh.specs.Bounded.{whole_of, Bounded}
 use Rattle.bounded_mesh.proofs.Bounds.{volume-bounded, own-volume-bounded}
 use Rattle.bounded_mesh.proofs.Asked.{yes-says}
 use Rattle.tally.specs.declared.Counts.{Counts}
-use Rattle.tally.specs.declared.Told.{Told}
 use Rattle.tally.specs.Cells.{whole_cells}
-use Rattle.tally.specs.Call.{counted}
+use Rattle.tally.specs.Call.{Told, counted}
 use Rattle.tallied_bed.specs.Calls.{Whole}
 use Rattle.tallied_bed.specs.Between.{Between}
 use Rattle.tallied_bed.proofs.Accepted.{accepted, counts-told, done-told}

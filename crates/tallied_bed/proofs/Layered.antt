@@ -37,9 +37,8 @@ use Rattle.levels.proofs.Answering.{Accepted}
 use Rattle.levelled_bed.specs.Layers.{layer_at}
 use Rattle.levelled_bed.proofs.Layered.{read_at}
 use Rattle.tally.specs.declared.Counts.{Counts}
-use Rattle.tally.specs.declared.Told.{Told}
 use Rattle.tally.specs.Cells.{all_negative}
-use Rattle.tally.specs.Call.{counted, nothing, told, plus, counts_of, too_many, layer_counts, layer_told}
+use Rattle.tally.specs.Call.{Told, counted, nothing, told, plus, counts_of, too_many, layer_counts, layer_told}
 use Rattle.tally.proofs.Answering.{good-first, good-0, layer-done, taken-first, taken_next}
 use Rattle.tally.proofs.Boxes.{none_yet, layer-tally, counts-alike}
 use Rattle.tallied_bed.specs.Calls.{Whole, Offer, last_of, InTurn}

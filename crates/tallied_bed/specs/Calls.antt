@@ -3,8 +3,7 @@ use Rattle.std.specs.Prelude.{ℕ, suc, ◌+◌, ◌-◌, ◌≤◌, List, ◌�
 use Rattle.grid.specs.declared.Block.{Block}
 use Rattle.grid.specs.Block.{point, box_of}
 use Rattle.tally.specs.declared.Counts.{Counts}
-use Rattle.tally.specs.declared.Told.{Told}
-use Rattle.tally.specs.Call.{tallied, layer_told}
+use Rattle.tally.specs.Call.{Told, tallied, layer_told}
 use Rattle.levelled_bed.specs.Layers.{layer_at, below_nth}
 
 pub record Whole : Type 0 where

@@ -24,6 +24,15 @@ use Rattle.grid.proofs.Layers.{in-plane}
 use Rattle.levels.specs.Columns.{across, columns}
 use Rattle.levels.specs.Call.{outside, bad_layers, bad_distances, bad_room, layer_answer as levels_answer}
 use Rattle.levels.proofs.Answering.{upper_long, lower_long}
+use Rattle.std.specs.Prelude.{Result, Ok, Err, is_ok}
+use Rattle.grid.specs.declared.checks.Fault.{Fault}
+use Rattle.grid.specs.declared.checks.Fault.TheVariants.{Dimensions, Box as BoxFault, Length}
+use Rattle.grid.specs.Faults.{number_of as fault_number}
+use Rattle.levels.specs.declared.answers.Refusal.{Refusal as LevelsRefusal}
+use Rattle.levels.specs.declared.answers.Refusal.TheVariants.{Grid as LevelsGrid, Distance as LevelsDistance, Outside as LevelsOutside, Room}
+use Rattle.levels.specs.Answers.{answer_of as levels_of}
+use Rattle.tally.specs.declared.refusal.Refusal.{Refusal}
+use Rattle.tally.specs.Answers.{number_of, answer_of, unless_room}
 use Rattle.tally.specs.declared.Counts.{Counts}
 use Rattle.tally.specs.Call.{nothing, told, plus, counts_of, tally_answer, tallied, too_many, bad_counts, layer_counts, taken, layer_answer, layer_told}
 
@@ -125,6 +134,48 @@ module _ (lower upper : List Float) (k : Block) (z : ℕ) {found : ℕ} (e : fou
           where
             never : false ≡ true → ⊥
             never h' = subst (λ (t : Bool). T (not t)) h' tt
+
+-- the same of the levels' answer as the code has it, and of what it means here
+refused-good : {r : Refusal} {u : Unit {0}} → ◌≡◌ {A = Result (Unit {0}) Refusal} (Err r) (Ok u) → ⊥
+refused-good h = subst (λ (x : Result (Unit {0}) Refusal). T (not (is_ok x))) h tt
+
+good-refused : {r : Refusal} {u : Unit {0}} → ◌≡◌ {A = Result (Unit {0}) Refusal} (Ok u) (Err r) → ⊥
+good-refused h = subst (λ (x : Result (Unit {0}) Refusal). T (is_ok x)) h tt
+
+low-fault : (f : Fault) → fault_number f ≤ 3
+low-fault Dimensions = omega arith
+low-fault BoxFault = omega arith
+low-fault Length = omega arith
+
+module _ (lower upper : List Float) (k : Block) (z : ℕ) where
+  abbrev Found : Result (Unit {0}) LevelsRefusal → Type 0
+  Found r = levels_of r ≡ levels_answer lower upper (point k.dims) (box_of k) z 0
+
+  -- no layers are good with room for no level
+  some-answer : {n : ℕ} → n ≡ 0 → n ≡ levels_answer lower upper (point k.dims) (box_of k) z 0 → ⊥
+  some-answer {n} o e = let w = found-other lower upper k z e nothing (λ h. omega arith) (λ h. omega arith) in let p : 0 < n = w.1 in omega arith
+
+  pub unless-good : (r : Result (Unit {0}) LevelsRefusal) → Found r → {u : Unit {0}} → unless_room r ≡ Ok u → Good lower upper k z
+  unless-good (Ok v) e h = absurd (some-answer refl e)
+  unless-good (Err Room) e h = found-good lower upper k z e refl
+  unless-good (Err (LevelsGrid f)) e h = absurd (refused-good h)
+  unless-good (Err LevelsDistance) e h = absurd (refused-good h)
+  unless-good (Err LevelsOutside) e h = absurd (refused-good h)
+
+  pub unless-other : (r : Result (Unit {0}) LevelsRefusal) → Found r → {s : Refusal} → unless_room r ≡ Err s → (sofar : Counts)
+      → (number_of s ≡ layer_answer lower upper k z sofar) × (0 < number_of s)
+  unless-other (Ok v) e h sofar = absurd (good-refused h)
+  unless-other (Err Room) e h sofar = absurd (good-refused h)
+  unless-other (Err (LevelsGrid f)) e h sofar =
+      let l = low-fault f in
+      let w = found-other lower upper k z e sofar (λ m. omega arith) (λ m. omega arith) in
+      rw (← ap answer_of h) w
+  unless-other (Err LevelsDistance) e h sofar =
+      let w = found-other lower upper k z e sofar (λ m. omega arith) (λ m. omega arith) in
+      rw (← ap answer_of h) w
+  unless-other (Err LevelsOutside) e h sofar =
+      let n : 91 ≡ layer_answer lower upper k z sofar = found-outside lower upper k z e sofar refl in
+      rw (← ap answer_of h) (n, omega arith)
 
 module _ {lower upper : List Float} {k : Block} {z : ℕ} (g : Good lower upper k z) (sofar : Counts) where
   pub good-first : z ≡ k.low.z → 0 ≡ layer_answer lower upper k z sofar

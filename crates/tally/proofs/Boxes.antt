@@ -20,10 +20,10 @@ use Rattle.rules.proofs.Locality.{values_same}
 use Rattle.grid.specs.declared.Block.{Block}
 use Rattle.grid.specs.Block.{point, box_of, flags_of, field_of}
 use Rattle.grid.specs.Inside.{Inside}
-use Rattle.grid.specs.Layers.{layer_dist, two_layers, InLayers}
+use Rattle.grid.specs.Layers.{layer_dist, two_layers, InLayers, part, rest}
 use Rattle.grid.proofs.Layers.{somewhere}
 use Rattle.grid.proofs.Order.{layer-ends}
-use Rattle.grid.proofs.Parts.{part, rest, layers-agree}
+use Rattle.grid.proofs.Parts.{layers-agree}
 use Rattle.grid.proofs.Rows.{layer-short}
 use Rattle.grid.proofs.Slab.{slab, slab-cells, grid, layer-alike, edges-alike}
 use Rattle.count.specs.declared.Tally.{Tally}

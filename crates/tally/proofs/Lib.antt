@@ -3,3 +3,4 @@ pub mod Rows
 pub mod Boxes
 pub mod Answering
 pub mod Cases
+pub mod Once

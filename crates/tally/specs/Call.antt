@@ -1,6 +1,6 @@
 -- The calls: the answers in document 01's order, and the three counts: the cells wholly in the sludge, and V and I as document 01 has them. Of a whole grid,
 -- and layer by layer from min z up, with 91 for a z outside the box and 92 for counts so far that no box has. Definitions only. Assumes nothing.
-use Rattle.std.specs.Prelude.{ℕ, ◌+◌, ◌-◌, ◌*◌, Bool, false, ◌||◌, cond, List, ltb, eqb, length, Float}
+use Rattle.std.specs.Prelude.{ℕ, ◌+◌, ◌-◌, ◌*◌, Bool, false, ◌||◌, cond, List, ltb, eqb, length, Float, Result, Ok, Err}
 use Rattle.rules.specs.Grid.{Box, Field}
 use Rattle.rules.specs.Vertices.{layer_vertices, vertices}
 use Rattle.rules.specs.Faces.{Flags, layer_edges, indices}
@@ -10,7 +10,8 @@ use Rattle.grid.specs.Block.{point, box_of, flags_of, field_of}
 use Rattle.grid.specs.Layers.{two_layers}
 use Rattle.levels.specs.Call.{outside, bad_layers, bad_distances}
 use Rattle.tally.specs.declared.Counts.{Counts}
-use Rattle.tally.specs.declared.Told.{Told}
+use Rattle.tally.specs.declared.refusal.Refusal.{Refusal}
+use Rattle.tally.specs.Answers.{number_of}
 use Rattle.tally.specs.Cells.{whole_cells, whole_in_layer}
 
 abbrev pub counted : ℕ → ℕ → ℕ → Counts
@@ -19,8 +20,18 @@ counted a v i = record { whole = a; vertices = v; indices = i }
 abbrev pub nothing : Counts
 nothing = counted 0 0 0
 
+-- the answer number with the counts
+pub record Told : Type 0 where
+  pub answer : ℕ
+  pub counts : Counts
+
 abbrev pub told : ℕ → Counts → Told
 told n c = record { answer = n; counts = c }
+
+-- what the code answers, with the counts that stand beside a refusal
+abbrev pub told_of : Counts → Result Counts Refusal → Told
+told_of kept (Ok c) = told 0 c
+told_of kept (Err r) = told (number_of r) kept
 
 -- ---- the whole grid: "Conditions are tried in this order; the first that holds answers", 1, 2, 3 and 5
 

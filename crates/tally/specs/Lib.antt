@@ -3,3 +3,4 @@
 pub mod Cells
 pub mod Runs
 pub mod Call
+pub mod Answers

@@ -1,56 +1,47 @@
--- The answers, by the tests that led to each. Assumes nothing.
+-- The answers: what one tells of the call, and what each failed test says. Assumes nothing.
 use Prim.Native.Nat.{ℕ, ◌/◌, ◌%◌, ◌≤◌}
-use mathlib.Core.Bool.{Bool, true, false, not, ◌||◌, true≢false}
+use mathlib.Core.Bool.{Bool, true, false, not, ◌||◌, cond, true≢false}
 use mathlib.Core.List.{List}
-use mathlib.Core.Path.{◌≡◌, refl}
+use mathlib.Core.Path.{◌≡◌, refl, sym, ap, ◌∙◌}
 use borrow.Author.Tests.{eqb-true, ltb-false}
 use lib.Dec.{eqb}
-use lib.IntN.{pos}
+use lib.IntN.{ℤ}
 use lib.ListN.{length}
 use lib.Ieee.{Float}
-use Rattle.volume.specs.Volume.{sixfold}
-use Rattle.volume.specs.Answers.{not_threes, too_many, some_outside, some_without, weighed, weighing}
+use Rattle.lists.proofs.Either.{or_right}
+use Rattle.std.specs.Prelude.{Result, Ok, Err}
+use Rattle.volume.specs.declared.Refusal.{Refusal}
+use Rattle.volume.specs.declared.Refusal.TheVariants.{NotThrees, TooMany, Outside, NoVertex}
+use Rattle.volume.specs.Answers.{Weighed, not_threes, too_many, told_by}
 
 -- 61, by the lengths of the positions and the indices
 abbrev pub bad_threes : List Float → List ℕ → Bool
 bad_threes p i = not_threes (length p) || not_threes (length i)
 
-module _ (p : List Float) (i : List ℕ) where
-  pub said-61 : bad_threes p i ≡ true → weighing p i ≡ weighed 61 (pos 0)
-  unfolding weighing
-  said-61 a = rw a refl
+-- ---- what a call gives is told by its numbers alone
 
-  module _ (threes : bad_threes p i ≡ false) where
-    pub said-62 : too_many (length i) ≡ true → weighing p i ≡ weighed 62 (pos 0)
-    unfolding weighing
-    said-62 b = rw (threes, b) refl
+abbrev outcome : Weighed → Result ℤ Refusal
+outcome w =
+    cond (eqb w.answer 0) (Ok w.volume) (cond (eqb w.answer 61) (Err NotThrees) (cond (eqb w.answer 62) (Err TooMany) (cond (eqb w.answer 63) (Err Outside) (Err NoVertex))))
 
-    module _ (few : too_many (length i) ≡ false) where
-      pub said-63 : some_outside p ≡ true → weighing p i ≡ weighed 63 (pos 0)
-      unfolding weighing
-      said-63 b = rw (threes, few, b) refl
+outcome-back : (r : Result ℤ Refusal) → outcome (told_by r) ≡ r
+outcome-back (Ok v) = refl
+outcome-back (Err NotThrees) = refl
+outcome-back (Err TooMany) = refl
+outcome-back (Err Outside) = refl
+outcome-back (Err NoVertex) = refl
 
-      module _ (inside : some_outside p ≡ false) where
-        pub said-64 : some_without p i ≡ true → weighing p i ≡ weighed 64 (pos 0)
-        unfolding weighing
-        said-64 b = rw (threes, few, inside, b) refl
-
-        pub said-0 : some_without p i ≡ false → weighing p i ≡ weighed 0 (sixfold p i)
-        unfolding weighing
-        said-0 b = rw (threes, few, inside, b) refl
+pub told-once : (r s : Result ℤ Refusal) → told_by r ≡ told_by s → r ≡ s
+told-once r s e = sym (outcome-back r) ∙ ap outcome e ∙ outcome-back s
 
 -- ---- what failed tests say
-
-or-second : (s t : Bool) → (s || t) ≡ false → t ≡ false
-or-second true t e = absurd (true≢false e)
-or-second false t e = e
 
 not-no : (t : Bool) → not t ≡ false → t ≡ true
 not-no true e = refl
 not-no false e = absurd (true≢false e)
 
 pub in-threes : (p : List Float) (i : List ℕ) → bad_threes p i ≡ false → length i % 3 ≡ 0
-in-threes p i e = eqb-true (length i % 3) 0 (not-no (eqb (length i % 3) 0) (or-second (not_threes (length p)) (not_threes (length i)) e))
+in-threes p i e = eqb-true (length i % 3) 0 (not-no (eqb (length i % 3) 0) (or_right (not_threes (length p)) (not_threes (length i)) e))
 
 pub few-enough : (i : List ℕ) → too_many (length i) ≡ false → length i / 3 ≤ 16384
 few-enough i e = ltb-false 16384 (length i / 3) e

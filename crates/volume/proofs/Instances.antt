@@ -8,14 +8,14 @@ use lib.Count.{count_trailing_zeros}
 use lib.IntN.{pos, negsuc}
 use lib.Ieee.{Float, fin, binary32, odd, of_fields, of_bits}
 use Rattle.lists.specs.Lists.{some}
-use Rattle.volume.specs.Steps.{outside, steps}
+use Rattle.volume.specs.Steps.{past, outside, steps}
 use Rattle.volume.specs.Volume.{determinant, sum_over}
 use Rattle.volume.specs.Answers.{weighed, weighing}
 use Rattle.volume.specs.Triangles.{turned_round}
 
 -- what a computed test opens
 opened : Unit {0}
-unfolding some outside steps determinant sum_over weighing turned_round odd of_fields of_bits count_trailing_zeros
+unfolding some past steps determinant sum_over weighing turned_round odd of_fields of_bits count_trailing_zeros
 opened = tt
 
 -- the float with these bits: whether it is refused, and its steps

@@ -1,5 +1,7 @@
 -- Laws that the proofs of the code lean on, and those of the definitions. Assumes nothing.
+pub mod Searching
 pub mod Coordinate
+pub mod Corners
 pub mod Whole
 pub mod Bounds
 pub mod Summing

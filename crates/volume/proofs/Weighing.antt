@@ -1,7 +1,7 @@
 -- The laws over the call's whole answer, refusals included: the same tests pass, and the sums are in the law's relation. Assumes nothing.
 use Prim.Native.Nat.{ℕ, suc, ◌*◌, ◌/◌, ◌%◌, ◌≤◌}
 use native.Mathlib.Omega.{arith}
-use mathlib.Core.Bool.{Bool, true, false, ◌||◌, cond, true≢false}
+use mathlib.Core.Bool.{Bool, true, false, ◌||◌, cond}
 use mathlib.Core.List.{List, [], ◌∷◌, ◌++◌}
 use mathlib.Core.Path.{◌≡◌, refl, sym, ap, ap₂, ◌∙◌}
 use borrow.Author.Tests.{eq-eqb, le-ltb}
@@ -9,13 +9,16 @@ use lib.IntN.{ℤ, pos, neg_ℤ, ◌+ℤ◌}
 use lib.ListN.{length, length-append}
 use lib.Ieee.{Float}
 use Rattle.lists.specs.Lists.{some}
+use Rattle.lists.proofs.Either.{or_left, or-none}
 use Rattle.lists.proofs.Permutation.{Perm, nil, skip, swap, trans, perm-length}
 use Rattle.lists.proofs.Some.{some-append}
-use Rattle.volume.specs.declared.Weighed.{Weighed}
+use Rattle.std.specs.Prelude.{Result, Ok, Err}
+use Rattle.volume.specs.declared.Refusal.{Refusal}
+use Rattle.volume.specs.declared.Refusal.TheVariants.{NotThrees, TooMany, Outside, NoVertex}
 use Rattle.volume.specs.Volume.{corner_at, sixfold}
-use Rattle.volume.specs.Answers.{not_threes, too_many, some_outside, no_vertex, some_without, weighed, weighing}
+use Rattle.volume.specs.Answers.{Weighed, not_threes, too_many, some_outside, no_vertex, some_without, weighed, weighing, told_by}
 use Rattle.volume.specs.Triangles.{turned_round, Rolled, same, kept, rolled, Triangle, triangles}
-use Rattle.volume.proofs.Answering.{bad_threes, said-0, in-threes}
+use Rattle.volume.proofs.Answering.{bad_threes, in-threes}
 use Rattle.volume.proofs.Laws.{round-sum, joined-sum, rolled-sum, order-sum}
 
 -- ---- the tests, and what an accepted call says of them
@@ -27,6 +30,23 @@ picked t u v w z = cond t (weighed 61 (pos 0)) (cond u (weighed 62 (pos 0)) (con
 weighing-is : (p : List Float) (i : List ℕ) → weighing p i ≡ picked (bad_threes p i) (too_many (length i)) (some_outside p) (some_without p i) (sixfold p i)
 unfolding weighing
 weighing-is p i = refl
+
+-- a call that gives this answer, whatever the lists
+abbrev picked-of : Bool → Bool → Bool → Bool → ℤ → Result ℤ Refusal
+picked-of t u v w z = cond t (Err NotThrees) (cond u (Err TooMany) (cond v (Err Outside) (cond w (Err NoVertex) (Ok z))))
+
+picked-told : (t u v w : Bool) (z : ℤ) → told_by (picked-of t u v w z) ≡ picked t u v w z
+picked-told true u v w z = refl
+picked-told false true v w z = refl
+picked-told false false true w z = refl
+picked-told false false false true z = refl
+picked-told false false false false z = refl
+
+abbrev pub given : List Float → List ℕ → Result ℤ Refusal
+given p i = picked-of (bad_threes p i) (too_many (length i)) (some_outside p) (some_without p i) (sixfold p i)
+
+pub given-told : (p : List Float) (i : List ℕ) → told_by (given p i) ≡ weighing p i
+given-told p i = picked-told (bad_threes p i) (too_many (length i)) (some_outside p) (some_without p i) (sixfold p i) ∙ sym (weighing-is p i)
 
 -- answer 0: none of the four tests passed
 pub record Accepted (p : List Float) (i : List ℕ) : Type 0 where
@@ -48,7 +68,7 @@ accepted p i e =
     record { threes = r.0; few = r.1; inside = r.2; vertices = r.3 }
 
 pub weighs : (p : List Float) (i : List ℕ) → Accepted p i → weighing p i ≡ weighed 0 (sixfold p i)
-weighs p i a = said-0 p i a.threes a.few a.inside a.vertices
+weighs p i a = weighing-is p i ∙ (λ k. picked (a.threes k) (a.few k) (a.inside k) (a.vertices k) (sixfold p i))
 
 -- ---- two calls with the same tests
 
@@ -166,15 +186,8 @@ order-weighs p i j h k q =
 
 -- ---- one list after the other
 
-or_no : (a b : Bool) → a ≡ false → b ≡ false → (a || b) ≡ false
-or_no a b e f = ap₂ ◌||◌ e f
-
 pub three-is : (n : ℕ) → n % 3 ≡ 0 → not_threes n ≡ false
 three-is n h = rw (eq-eqb (n % 3) 0 h) refl
-
-or_left : (a b : Bool) → (a || b) ≡ false → a ≡ false
-or_left true b e = absurd (true≢false e)
-or_left false b e = refl
 
 -- "For two triangle lists over the same positions, the answer for one after the other is the sum of the two, where the joined list is within
 -- the count."
@@ -183,11 +196,11 @@ pub joined-weighs : (p : List Float) (i j : List ℕ) → (weighing p i).answer 
 joined-weighs p i j g h few =
     weighs p (i ++ j)
     (record {
-      threes = or_no (not_threes (length p)) (not_threes (length (i ++ j))) (or_left (not_threes (length p)) (not_threes (length i)) a.threes)
+      threes = or-none (not_threes (length p)) (not_threes (length (i ++ j))) (or_left (not_threes (length p)) (not_threes (length i)) a.threes)
           (three-is (length (i ++ j)) (omega (arith, length-append i j, u, v)));
       few = le-ltb 16384 (length (i ++ j) / 3) few;
       inside = a.inside;
-      vertices = some-append (no_vertex (length p / 3)) i j ∙ or_no (some_without p i) (some_without p j) a.vertices b.vertices;
+      vertices = some-append (no_vertex (length p / 3)) i j ∙ or-none (some_without p i) (some_without p j) a.vertices b.vertices;
     })
     ∙ ap (weighed 0) (joined-sum (corner_at p) i j u ∙ ap₂ (λ (y z : ℤ). y +ℤ z) (sym (volume-is i a)) (sym (volume-is j b)))
   where

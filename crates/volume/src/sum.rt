@@ -6,7 +6,7 @@ ghost use Rattle.volume.specs.Volume.{Near, corner_at, falling, rising, determin
 ghost use Rattle.volume.specs.Answers.{no_vertex};
 
 use crate::Corner;
-use crate::steps::steps_of;
+use crate::steps::corner_at;
 
 // ---- one triangle
 
@@ -31,19 +31,7 @@ fn determinant(a: Corner, b: Corner, c: Corner) -> i64
     falling as i64 - rising as i64
 }
 
-fn corner_at(positions: &[f32], v: usize) -> Corner
-    requires v_in_bounds { 3 * v + 3 ≤ length positions.now }
-    requires positions_value { some outside positions.now ≡ false }
-    ensures value { result ≡ corner_at positions.now v }
-    ensures near { Near result }
-{
-    let at = 3 * v;
-    let x = steps_of(positions[at]);
-    let y = steps_of(positions[at + 1]);
-    let z = steps_of(positions[at + 2]);
-    Corner { x, y, z }
-}
-
+#[tactic(auto, using(crate::proofs::Corners::all_within, crate::proofs::Corners::near_corner))]
 fn triangle(positions: &[f32], a: usize, b: usize, c: usize) -> i64
     requires a_in_bounds { 3 * a + 3 ≤ length positions.now }
     requires b_in_bounds { 3 * b + 3 ≤ length positions.now }
@@ -61,19 +49,7 @@ fn triangle(positions: &[f32], a: usize, b: usize, c: usize) -> i64
 
 // ---- all of them
 
-pub(crate) fn some_without_vertex(indices: &[u32], vertices: usize) -> bool
-    ensures { result ≡ some (no_vertex vertices) indices.now }
-{
-    let mut i = 0;
-    while i < indices.len() {
-        if vertices <= indices[i] as usize {
-            return true;
-        }
-        i += 1;
-    }
-    false
-}
-
+#[tactic(auto, using(crate::proofs::Corners::vertex_in_chunk))]
 pub(crate) fn sum_over(positions: &[f32], indices: &[u32]) -> i64
     requires indices_len { length indices.now % 3 ≡ 0 }
     requires indices_len_bound { length indices.now / 3 ≤ 16384 }
@@ -81,16 +57,10 @@ pub(crate) fn sum_over(positions: &[f32], indices: &[u32]) -> i64
     requires indices_value { some (no_vertex (length positions.now / 3)) indices.now ≡ false }
     ensures { result ≡ sixfold positions.now indices.now }
 {
-    let n = indices.len() / 3;
+    let (triangles, _) = indices.as_chunks::<3>();
     let mut sum: i64 = 0;
-    for k in 0..n {
-        let i = 3 * k;
-        sum += triangle(
-            positions,
-            indices[i] as usize,
-            indices[i + 1] as usize,
-            indices[i + 2] as usize,
-        );
+    for &[a, b, c] in triangles {
+        sum += triangle(positions, a as usize, b as usize, c as usize);
     }
     sum
 }

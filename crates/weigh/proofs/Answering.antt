@@ -1,39 +1,30 @@
--- The answers, by the tests that led to each. Assumes nothing.
-use Rattle.std.proofs.Common.{◌≡◌, ℕ, ◌+◌, ◌-◌, ◌*◌, ◌/◌, ◌^◌, ◌<◌, ◌≤◌, true, false, cond, ltb, leb, List, length, refl, arith, ltb-false, leb-false}
-use lib.Ieee.{Float}
+-- The answers: what one tells of the call, and what each failed test says. Assumes nothing.
+use Rattle.std.proofs.Common.{◌≡◌, ℕ, ◌+◌, ◌-◌, ◌*◌, ◌/◌, ◌^◌, ◌<◌, ◌≤◌, false, cond, eqb, ltb, leb, List, length, sym, refl, ap, ◌∙◌, arith, ltb-false, leb-false}
 use Rattle.lists.proofs.Either.{or_left, or_right}
-use Rattle.volume.proofs.Answering.{bad_threes}
+use Rattle.std.specs.Prelude.{Result, Ok, Err}
 use Rattle.weigh.specs.declared.Weight.{Weight}
-use Rattle.weigh.specs.Sums.{corner_from, pillars, shadows}
-use Rattle.weigh.specs.Answers.{some_beyond, no_vertex, some_without, too_many, some_wide, says, refuses, weight}
+use Rattle.weigh.specs.declared.Refusal.{Refusal}
+use Rattle.weigh.specs.declared.Refusal.TheVariants.{NotThrees, Beyond, NoVertex, TooMany, Wide}
+use Rattle.weigh.specs.Answers.{Answer, no_vertex, too_many, told_by}
 
--- what is left when none of the first four tests passed
-abbrev pub summed : List Float → ℕ → List ℕ → Weight
-summed p f i = cond (some_wide (corner_from p f) i) (refuses 76) (says 0 (pillars p f i) (shadows p f i))
+-- ---- what a call gives is told by its numbers alone
 
-module _ (p : List Float) (f : ℕ) (i : List ℕ) where
-  pub said-61 : bad_threes p i ≡ true → weight p f i ≡ refuses 61
-  unfolding weight
-  said-61 a = rw a refl
+abbrev outcome : Answer → Result Weight Refusal
+outcome a =
+    cond (eqb a.answer 0) (Ok (record { low = a.low; high = a.high; shadow = a.shadow }))
+    (cond (eqb a.answer 61) (Err NotThrees)
+    (cond (eqb a.answer 63) (Err Beyond) (cond (eqb a.answer 64) (Err NoVertex) (cond (eqb a.answer 75) (Err TooMany) (Err Wide)))))
 
-  module _ (threes : bad_threes p i ≡ false) where
-    pub said-63 : some_beyond p ≡ true → weight p f i ≡ refuses 63
-    unfolding weight
-    said-63 b = rw (threes, b) refl
+outcome-back : (r : Result Weight Refusal) → outcome (told_by r) ≡ r
+outcome-back (Ok w) = refl
+outcome-back (Err NotThrees) = refl
+outcome-back (Err Beyond) = refl
+outcome-back (Err NoVertex) = refl
+outcome-back (Err TooMany) = refl
+outcome-back (Err Wide) = refl
 
-    module _ (inside : some_beyond p ≡ false) where
-      pub said-64 : some_without p f i ≡ true → weight p f i ≡ refuses 64
-      unfolding weight
-      said-64 b = rw (threes, inside, b) refl
-
-      module _ (used : some_without p f i ≡ false) where
-        pub said-75 : too_many (length i) ≡ true → weight p f i ≡ refuses 75
-        unfolding weight
-        said-75 b = rw (threes, inside, used, b) refl
-
-        pub said-summed : too_many (length i) ≡ false → weight p f i ≡ summed p f i
-        unfolding weight
-        said-summed b = rw (threes, inside, used, b) refl
+pub told-once : (r s : Result Weight Refusal) → told_by r ≡ told_by s → r ≡ s
+told-once r s e = sym (outcome-back r) ∙ ap outcome e ∙ outcome-back s
 
 -- ---- what failed tests say
 
@@ -41,8 +32,8 @@ pub few-enough : (i : List ℕ) → too_many (length i) ≡ false → length i /
 few-enough i e = ltb-false (2 ^ 33) (length i / 3) e
 
 -- an index that is not without its vertex
-pub has-vertex : (first n v : ℕ) → no_vertex first (n / 3) v ≡ false → (first ≤ v) × (3 * (v - first) + 3 ≤ n)
-has-vertex first n v e =
+pub has_vertex : (first n v : ℕ) → no_vertex first (n / 3) v ≡ false → (first ≤ v) × (3 * (v - first) + 3 ≤ n)
+has_vertex first n v e =
     let h : first ≤ v = ltb-false v first (or_left (ltb v first) (leb (first + n / 3) v) e) in
     let k : v < first + n / 3 = leb-false (first + n / 3) v (or_right (ltb v first) (leb (first + n / 3) v) e) in
     (h, omega arith)

@@ -5,24 +5,23 @@ use Rattle.std.proofs.Common.{◌≡◌, ℕ, ◌+◌, ◌*◌, ◌^◌, Bool, t
 use lib.Count.{count_trailing_zeros}
 use lib.Ieee.{Float, fin, binary32, odd, of_fields, of_bits}
 use Rattle.lists.specs.Lists.{some}
-use Rattle.volume.specs.Steps.{outside, steps}
+use Rattle.volume.specs.Steps.{past, steps}
 use Rattle.volume.specs.Volume.{determinant, sum_over}
 use Rattle.volume.specs.Answers.{weighed, weighing}
-use Rattle.weigh.specs.declared.Weight.{Weight}
 use Rattle.weigh.specs.Sums.{shadow_of, pillar_of, sum_of}
 use Rattle.weigh.specs.Words.{high_of, low_of}
-use Rattle.weigh.specs.Answers.{beyond, too_many, some_wide, refuses, weight}
+use Rattle.weigh.specs.Answers.{Answer, beyond, too_many, some_wide, refuses, weight}
 
 -- what a computed test opens
 opened : Unit {0}
-unfolding some outside beyond steps determinant sum_over weighing shadow_of pillar_of sum_of high_of low_of some_wide weight odd of_fields of_bits count_trailing_zeros
+unfolding some past steps determinant sum_over weighing shadow_of pillar_of sum_of high_of low_of some_wide weight odd of_fields of_bits count_trailing_zeros
 opened = tt
 
 abbrev f : ℕ → Float
 f bits = of_bits binary32 bits
 
 -- an answer 0: the two words and the shadow
-abbrev answers : ℕ → ℤ → ℤ → Weight
+abbrev answers : ℕ → ℤ → ℤ → Answer
 answers low high shadow = record { answer = 0; low = low; high = high; shadow = shadow }
 
 -- ---- one triangle: (1.5, 2.25, 3.75), (2.5, 2.75, 5), (1.75, 4, 0.5)

@@ -2,10 +2,9 @@
 use Rattle.std.proofs.Common.{◌≡◌, ℕ, ◌+◌, ◌*◌, ◌^◌, ◌<◌, ◌≤◌, Bool, true, false, cond, List, length, drop, ℤ, pos, ◌+ℤ◌, ◌-ℤ◌, sym, refl, ap, ◌∙◌, ap₂, arith}
 use lib.IntN.{+ℤ_idl, +ℤ_idr}
 use Rattle.volume.specs.declared.Corner.{Corner}
-use Rattle.weigh.specs.declared.Weight.{Weight}
 use Rattle.weigh.specs.declared.total.Total.{Total}
 use Rattle.weigh.specs.Sums.{shadow_of, pillar_of, sum_of}
-use Rattle.weigh.specs.Answers.{wide, some_wide, refuses, says}
+use Rattle.weigh.specs.Answers.{Answer, wide, some_wide, refuses, says}
 use Rattle.weigh.specs.Biased.{Holds, Adds, kept}
 use Rattle.weigh.proofs.Summing.{first, second, third, one_more, wide-found, wide-passed, sum_past, wide-past}
 
@@ -38,7 +37,7 @@ module _ (at : ℕ → Corner) (l : List ℕ) where
   }
 
   -- the answer where a triangle is wide, and where none is
-  abbrev ended : Weight
+  abbrev ended : Answer
   ended = cond (some_wide at l) (refuses 76) (says 0 (sum_of pillar_of at l) (sum_of shadow_of at l))
 
   pub wide-answer : (k : ℕ) (t : Total) (a b c : Corner) → 3 * k + 2 < length l → Summed at l k t

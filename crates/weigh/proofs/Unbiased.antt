@@ -1,9 +1,8 @@
 -- The biases of n triangles taken off a total: as if there were 2^33, so that one subtraction, of 2^24 from the upper word, is left. Assumes nothing.
 use Rattle.std.proofs.Common.{◌≡◌, ℕ, ◌+◌, ◌-◌, ◌*◌, ◌/◌, ◌%◌, ◌^◌, ◌<◌, ◌≤◌, ℤ, pos, ◌-ℤ◌, sym, ap, ◌∙◌, ap₂, lt_of_lt_of_le, lt_of_le_of_lt, div-le_self, arith, lit≤, w64, SFits, to_z, of_z}
 use Rattle.volume.proofs.Bounds.{fits-64}
-use Rattle.weigh.specs.declared.Weight.{Weight}
 use Rattle.weigh.specs.Words.{high_of, low_of}
-use Rattle.weigh.specs.Answers.{says}
+use Rattle.weigh.specs.Answers.{Answer, says}
 use Rattle.weigh.proofs.Whole.{same-difference}
 use Rattle.weigh.proofs.Words.{high-minus, low-minus, minus-fits, minus-read, plain}
 
@@ -49,7 +48,7 @@ module _ (high low shadow n : ℕ) (l : low < 2 ^ 32) (s : high * 2 ^ 32 + low �
   pub shadow-fits : SFits w64 (to_z w64 shadow -ℤ to_z w64 (n * 2097152))
   shadow-fits = rw shadow-read (minus-fits shadow (n * 2097152) (omega arith) (omega arith))
 
-  pub unbiased : ◌≡◌ {A = Weight}
+  pub unbiased : ◌≡◌ {A = Answer}
       (record {
         answer = 0;
         low = filled % 4294967296 * 4294967296 + low;

@@ -3,7 +3,9 @@
 use Rattle.std.proofs.Common.{◌≡◌, ℕ, ◌+◌, ◌*◌, ◌/◌, ◌%◌, ◌^◌, ◌≤◌, Bool, true, false, cond, ◌||◌, List, [], ◌∷◌, ◌++◌, length, ℤ, pos, ◌+ℤ◌, neg_ℤ, sym, refl, ap, ◌∙◌, ap₂, arith, length-append, ltb-false, le-ltb}
 use lib.Ieee.{Float}
 use Rattle.lists.specs.Lists.{some}
-use Rattle.lists.proofs.Either.{or_left, or_right}
+use mathlib.Core.Bool.{or_assoc}
+use Rattle.std.proofs.Math.Bool.{or_comm}
+use Rattle.lists.proofs.Either.{or_left, or_right, or-none}
 use Rattle.lists.proofs.Permutation.{Perm, perm-length}
 use Rattle.lists.proofs.Some.{some-append}
 use Rattle.volume.specs.declared.Corner.{Corner}
@@ -11,17 +13,16 @@ use Rattle.volume.specs.Answers.{not_threes}
 use Rattle.volume.specs.Triangles.{turned_round, Rolled, Triangle, triangles}
 use Rattle.volume.proofs.Answering.{bad_threes, in-threes}
 use Rattle.volume.proofs.Weighing.{round-length, round-some, triangles-length, some-triangles, perm-some, three-is}
-use Rattle.weigh.specs.declared.Weight.{Weight}
 use Rattle.weigh.specs.Words.{high_of, low_of}
 use Rattle.weigh.specs.Sums.{corner_from, shadow_of, pillar_of, pillars, shadows}
-use Rattle.weigh.specs.Answers.{some_beyond, no_vertex, some_without, too_many, apart, wide, some_wide, says, refuses, weight, sum_in}
+use Rattle.weigh.specs.Answers.{Answer, some_beyond, no_vertex, some_without, too_many, apart, wide, some_wide, says, refuses, weight, sum_in}
 use Rattle.weigh.proofs.Words.{words-make}
 use Rattle.weigh.proofs.Laws.{shadow-turns, shadow-rolls, pillar-turns, pillar-rolls, round-sum, joined-sum, rolled-sum, order-sum}
 
 -- ---- the tests, and what an accepted call says of them
 
 -- the answer by its five tests
-abbrev picked : Bool → Bool → Bool → Bool → Bool → ℤ → ℤ → Weight
+abbrev picked : Bool → Bool → Bool → Bool → Bool → ℤ → ℤ → Answer
 picked t u v w x y z = cond t (refuses 61) (cond u (refuses 63) (cond v (refuses 64) (cond w (refuses 75) (cond x (refuses 76) (says 0 y z)))))
 
 weight_is : (p : List Float) (f : ℕ) (i : List ℕ)
@@ -48,7 +49,7 @@ picked-0 false false false false false y z e = (refl, refl, refl, refl, refl)
 pub accepted : (p : List Float) (f : ℕ) (i : List ℕ) → (weight p f i).answer ≡ 0 → Accepted p f i
 accepted p f i e =
     let r = picked-0 (bad_threes p i) (some_beyond p) (some_without p f i) (too_many (length i)) (some_wide (corner_from p f) i) (pillars p f i) (shadows p f i)
-    (ap (λ (w : Weight). w.answer) (sym (weight_is p f i)) ∙ e) in
+    (ap (λ (w : Answer). w.answer) (sym (weight_is p f i)) ∙ e) in
     record { threes = r.0; inside = r.1; used = r.2; few = r.3; narrow = r.4 }
 
 pub weighs : (p : List Float) (f : ℕ) (i : List ℕ) → Accepted p f i → weight p f i ≡ says 0 (pillars p f i) (shadows p f i)
@@ -60,11 +61,11 @@ module _ (p : List Float) (f : ℕ) (i : List ℕ) (done : (weight p f i).answer
   sum_told = ap sum_in (weighs p f i (accepted p f i done)) ∙ words-make (pillars p f i)
 
   pub shadow-told : (weight p f i).shadow ≡ shadows p f i
-  shadow-told = ap (λ (w : Weight). w.shadow) (weighs p f i (accepted p f i done))
+  shadow-told = ap (λ (w : Answer). w.shadow) (weighs p f i (accepted p f i done))
 
 -- ---- two calls with the same tests
 
-abbrev under : (ℤ → ℤ) → Weight → Weight
+abbrev under : (ℤ → ℤ) → Answer → Answer
 under g w = says w.answer (g (sum_in w)) (g w.shadow)
 
 picked-alike : (g : ℤ → ℤ) → g (pos 0) ≡ pos 0 → (t u v w x : Bool) (y z : ℤ) → picked t u v w x (g y) (g z) ≡ under g (picked t u v w x y z)
@@ -93,19 +94,13 @@ module _ (p : List Float) (f : ℕ) (i j : List ℕ) (long : length j ≡ length
 
 -- ---- turned round
 
-or_swap : (a b : Bool) → (a || b) ≡ (b || a)
-or_swap true true = refl
-or_swap true false = refl
-or_swap false true = refl
-or_swap false false = refl
-
 round-wide : (at : ℕ → Corner) (l : List ℕ) → some_wide at (turned_round l) ≡ some_wide at l
 unfolding some_wide turned_round
 round-wide at [] = refl
 round-wide at (i ∷ []) = refl
 round-wide at (i ∷ j ∷ []) = refl
 round-wide at (i ∷ j ∷ k ∷ is) =
-    ap₂ ◌||◌ (or_swap (apart (at i).x (at k).x || apart (at i).y (at k).y) (apart (at i).x (at j).x || apart (at i).y (at j).y)) (round-wide at is)
+    ap₂ ◌||◌ (or_comm (apart (at i).x (at k).x || apart (at i).y (at k).y) (apart (at i).x (at j).x || apart (at i).y (at j).y)) (round-wide at is)
 
 -- every triangle turned round: the same answer number, and sum and shadow negated
 pub round-weighs : (p : List Float) (f : ℕ) (i : List ℕ)
@@ -147,14 +142,7 @@ wide-append at [] t h = refl
 wide-append at (i ∷ []) t h = absurd (omega arith)
 wide-append at (i ∷ j ∷ []) t h = absurd (omega arith)
 wide-append at (i ∷ j ∷ k ∷ is) t h =
-    ap (λ (b : Bool). wide (at i) (at j) (at k) || b) (wide-append at is t (omega arith)) ∙ or-in (wide (at i) (at j) (at k)) (some_wide at is) (some_wide at t)
-  where
-    or-in : (a b c : Bool) → (a || (b || c)) ≡ ((a || b) || c)
-    or-in true b c = refl
-    or-in false b c = refl
-
-or_no : (a b : Bool) → a ≡ false → b ≡ false → (a || b) ≡ false
-or_no a b e g = ap₂ ◌||◌ e g
+    ap (λ (b : Bool). wide (at i) (at j) (at k) || b) (wide-append at is t (omega arith)) ∙ sym (or_assoc (wide (at i) (at j) (at k)) (some_wide at is) (some_wide at t))
 
 module _ (p : List Float) (f : ℕ) (i j : List ℕ) where
   both-accepted : Accepted p f i → Accepted p f j → length (i ++ j) / 3 ≤ 2 ^ 33 → Accepted p f (i ++ j)
@@ -162,12 +150,12 @@ module _ (p : List Float) (f : ℕ) (i j : List ℕ) where
       let u : length i % 3 ≡ 0 = in-threes p i a.threes in
       let v : length j % 3 ≡ 0 = in-threes p j b.threes in
       record {
-        threes = or_no (not_threes (length p)) (not_threes (length (i ++ j))) (or_left (not_threes (length p)) (not_threes (length i)) a.threes)
+        threes = or-none (not_threes (length p)) (not_threes (length (i ++ j))) (or_left (not_threes (length p)) (not_threes (length i)) a.threes)
             (three-is (length (i ++ j)) (omega (arith, length-append i j, u, v)));
         inside = a.inside;
-        used = some-append (no_vertex f (length p / 3)) i j ∙ or_no (some_without p f i) (some_without p f j) a.used b.used;
+        used = some-append (no_vertex f (length p / 3)) i j ∙ or-none (some_without p f i) (some_without p f j) a.used b.used;
         few = le-ltb (2 ^ 33) (length (i ++ j) / 3) few;
-        narrow = wide-append (corner_from p f) i j u ∙ or_no (some_wide (corner_from p f) i) (some_wide (corner_from p f) j) a.narrow b.narrow;
+        narrow = wide-append (corner_from p f) i j u ∙ or-none (some_wide (corner_from p f) i) (some_wide (corner_from p f) j) a.narrow b.narrow;
       }
 
   -- two lists that are answered 0
@@ -193,17 +181,17 @@ module _ (p : List Float) (f : ℕ) (i j : List ℕ) where
       let s : (some_without p f i || some_without p f j) ≡ false = sym (some-append (no_vertex f (length p / 3)) i j) ∙ a.used in
       let x : (some_wide (corner_from p f) i || some_wide (corner_from p f) j) ≡ false = sym (wide-append (corner_from p f) i j u) ∙ a.narrow in
       let left : Accepted p f i = record {
-        threes = or_no (not_threes (length p)) (not_threes (length i)) t (three-is (length i) u);
+        threes = or-none (not_threes (length p)) (not_threes (length i)) t (three-is (length i) u);
         inside = a.inside;
         used = or_left (some_without p f i) (some_without p f j) s;
         few = le-ltb (2 ^ 33) (length i / 3) (omega arith);
         narrow = or_left (some_wide (corner_from p f) i) (some_wide (corner_from p f) j) x;
       } in
       let right : Accepted p f j = record {
-        threes = or_no (not_threes (length p)) (not_threes (length j)) t (three-is (length j) v);
+        threes = or-none (not_threes (length p)) (not_threes (length j)) t (three-is (length j) v);
         inside = a.inside;
         used = or_right (some_without p f i) (some_without p f j) s;
         few = le-ltb (2 ^ 33) (length j / 3) (omega arith);
         narrow = or_right (some_wide (corner_from p f) i) (some_wide (corner_from p f) j) x;
       } in
-      (ap (λ (y : Weight). y.answer) (weighs p f i left), ap (λ (y : Weight). y.answer) (weighs p f j right))
+      (ap (λ (y : Answer). y.answer) (weighs p f i left), ap (λ (y : Answer). y.answer) (weighs p f j right))

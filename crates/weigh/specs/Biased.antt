@@ -1,6 +1,6 @@
 -- How the code keeps its numbers without a sign: within which bounds, and with which bias. Nothing here is in a public contract. Definitions only.
 -- Assumes nothing.
-use Rattle.std.specs.Prelude.{◌≡◌, ℕ, ◌+◌, ◌-◌, ◌*◌, ◌^◌, ◌<◌, ◌≤◌, cond, pos, ◌-ℤ◌, nat_lt}
+use Rattle.std.specs.Prelude.{◌≡◌, ℕ, ◌+◌, ◌*◌, ◌^◌, ◌<◌, ◌≤◌, pos, ◌-ℤ◌}
 use Rattle.volume.specs.declared.Corner.{Corner}
 use Rattle.weigh.specs.Sums.{shadow_of, pillar_of}
 use Rattle.weigh.specs.declared.total.Total.{Total}
@@ -10,10 +10,6 @@ pub record Low (a : Corner) : Type 0 where
   pub x : a.x ≤ 2 ^ 32
   pub y : a.y ≤ 2 ^ 32
   pub z : a.z ≤ 2 ^ 32
-
--- by how many places the digits of a float with this exponent field are shifted
-abbrev pub places_of : ℕ → ℕ
-places_of e = cond (nat_lt e 118) 33 (151 - e)
 
 -- at most 512 steps apart
 pub record Close (m n : ℕ) : Type 0 where

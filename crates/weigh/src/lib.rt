@@ -2,65 +2,77 @@
 // z = 0, and the area seen from above. The terms are small where no triangle is wide, so that no count but 2^33 bounds the list.
 #![tactic(auto)]
 
-mod steps;
 mod sum;
 mod total;
 mod triangle;
 
-ghost use Rattle.std.specs.Prelude.{◌≡◌, ◌||◌};
-ghost use Rattle.volume.specs.Answers.{not_threes};
-ghost use Rattle.weigh.specs.Answers.{too_many, refuses, weight};
+ghost use Rattle.std.specs.Prelude.{◌≡◌};
+ghost use Rattle.lists.specs.Lists.{some};
+ghost use Rattle.weigh.specs.Answers.{beyond, number_of, told_by, weight};
 
-use steps::some_beyond;
-use sum::{some_without_vertex, sum_over};
+use sum::sum_over;
+use volume::asked::{has_more_triangles, not_in_threes, some_past, some_without_vertex};
 
-// The answer number; the sum, high · 2^64 + low; twice the area seen from above. All 0 but the number on a refusal.
-#[derive(Clone, Copy)]
+// Why a mesh is not weighed.
+#[derive(Clone, Copy, Debug, PartialEq, Eq)]
+pub enum Refusal {
+    // the positions or the indices are not in threes
+    NotThrees,
+    // a coordinate is not finite or not from 0 to 16,777,216
+    Beyond,
+    // an index has no vertex among those lent
+    NoVertex,
+    // more than 2^33 triangles
+    TooMany,
+    // a triangle's second or third corner is more than 512 steps from its first in x or in y
+    Wide,
+}
+
+// The number of each, as C has it.
+impl From<Refusal> for u32 {
+    ghost from_gives = { λ refusal number. number ≡ number_of refusal };
+
+    fn from(refusal: Refusal) -> u32 {
+        match refusal {
+            Refusal::NotThrees => 61,
+            Refusal::Beyond => 63,
+            Refusal::NoVertex => 64,
+            Refusal::TooMany => 75,
+            Refusal::Wide => 76,
+        }
+    }
+}
+
+// The sum, high · 2^64 + low; twice the area seen from above.
+#[derive(Clone, Copy, Debug, PartialEq, Eq, Default)]
 pub struct Weight {
-    pub answer: u32,
     pub low: u64,
     pub high: i64,
     pub shadow: i64,
 }
 
-pub(crate) fn refused(answer: u32) -> Weight
-    ensures { result ≡ refuses answer }
+fn some_beyond(positions: &[f32]) -> bool
+    ensures { result ≡ some beyond positions.now }
 {
-    Weight {
-        answer,
-        low: 0,
-        high: 0,
-        shadow: 0,
-    }
-}
-
-fn bad_lengths(positions: usize, indices: usize) -> bool
-    ensures { result ≡ (not_threes positions || not_threes indices) }
-{
-    (positions % 3 != 0) | (indices % 3 != 0)
-}
-
-fn too_many(indices: usize) -> bool
-    ensures { result ≡ too_many indices }
-{
-    8589934592 < indices / 3
+    some_past(positions, 16777216.0)
 }
 
 // `first` is the number of the first vertex lent.
-pub fn weigh(positions: &[f32], first: u32, indices: &[u32]) -> Weight
-    ensures { result ≡ weight positions.now first indices.now }
+#[tactic(auto, unfolding(crate::specs::Answers::weight))]
+pub fn weigh(positions: &[f32], first: u32, indices: &[u32]) -> Result<Weight, Refusal>
+    ensures { told_by result ≡ weight positions.now first indices.now }
 {
-    if bad_lengths(positions.len(), indices.len()) {
-        return refused(61);
+    if not_in_threes(positions, indices) {
+        return Err(Refusal::NotThrees);
     }
     if some_beyond(positions) {
-        return refused(63);
+        return Err(Refusal::Beyond);
     }
-    if some_without_vertex(positions, first, indices) {
-        return refused(64);
+    if some_without_vertex(indices, first, first as usize + positions.len() / 3) {
+        return Err(Refusal::NoVertex);
     }
-    if too_many(indices.len()) {
-        return refused(75);
+    if has_more_triangles(indices, 8589934592) {
+        return Err(Refusal::TooMany);
     }
     sum_over(positions, first, indices)
 }

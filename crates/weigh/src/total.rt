@@ -1,6 +1,6 @@
 // The two sums so far, each with a bias for each triangle, and what they are without.
 ghost use Rattle.std.specs.Prelude.{◌≡◌, ◌+◌, ◌*◌, ◌^◌, ◌<◌, ◌≤◌, false, pos, ◌-ℤ◌};
-ghost use Rattle.weigh.specs.Answers.{wide, says};
+ghost use Rattle.weigh.specs.Answers.{wide, says, told};
 ghost use Rattle.weigh.specs.Biased.{Low, Holds, Adds, kept};
 
 use crate::Weight;
@@ -8,7 +8,7 @@ use crate::triangle::{pillar_of, shadow_of};
 use volume::Corner;
 
 // The sum is high · 2^32 + low.
-#[derive(Clone, Copy)]
+#[derive(Clone, Copy, Debug, PartialEq, Eq, Default)]
 pub(crate) struct Total {
     pub high: u64,
     pub low: u64,
@@ -16,17 +16,6 @@ pub(crate) struct Total {
 }
 
 impl Total {
-    pub(crate) fn new() -> Total
-        ensures holds { Holds 0 result }
-        ensures result_value { (kept result ≡ 0) × (result.shadow ≡ 0) }
-    {
-        Total {
-            high: 0,
-            low: 0,
-            shadow: 0,
-        }
-    }
-
     fn add(self, pillar: u64, shadow: u64) -> Total
         requires holds { Holds (2 ^ 33) self }
         requires pillar_bound { pillar ≤ 2 ^ 57 }
@@ -60,14 +49,13 @@ impl Total {
     pub(crate) fn without_bias(self, triangles: u64) -> Weight
         requires holds { Holds triangles self }
         requires triangles_bound { triangles ≤ 2 ^ 33 }
-        ensures { result ≡ says 0 (pos (kept self) -ℤ pos (triangles * 2 ^ 55)) (pos self.shadow -ℤ pos (triangles * 2 ^ 21)) }
+        ensures { told 0 result.low result.high result.shadow ≡ says 0 (pos (kept self) -ℤ pos (triangles * 2 ^ 55)) (pos self.shadow -ℤ pos (triangles * 2 ^ 21)) }
     {
         let high = self.high + (8589934592 - triangles) * 8388608;
         let low = high % 4294967296 * 4294967296 + self.low;
         let above = (high / 4294967296) as i64;
         let shadow = self.shadow as i64;
         Weight {
-            answer: 0,
             low,
             high: above - 16777216,
             shadow: shadow - (triangles * 2097152) as i64,

@@ -12,7 +12,7 @@ fn is_apart(m: u64, n: u64) -> bool
     ensures { result ≡ apart m n }
 {
     // n + 512 - m wraps round where m is larger, and is then above 2^63
-    1024 < std::num::wrapping_sub_u64(n + 512, m)
+    1024 < (n + 512).wrapping_sub(m)
 }
 
 pub(crate) fn is_wide(a: Corner, b: Corner, c: Corner) -> bool

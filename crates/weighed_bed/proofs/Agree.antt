@@ -11,13 +11,12 @@ use Rattle.skin.specs.Links.{Link, links}
 use Rattle.skin.specs.Enclosed.{Enclosed}
 use Rattle.skin.proofs.Skin.{skin-law}
 use Rattle.volume.specs.declared.Corner.{Corner}
-use Rattle.volume.specs.declared.Weighed.{Weighed}
 use Rattle.volume.specs.Volume.{corner_at, falling, rising, determinant, sum_over, sixfold}
+use Rattle.volume.specs.Answers.{Weighed}
 use Rattle.volume.proofs.Whole.{exchange, minus_plus}
 use Rattle.volume.proofs.Weighing.{accepted, weighs}
-use Rattle.weigh.specs.declared.Weight.{Weight}
 use Rattle.weigh.specs.Sums.{shadow_of, pillar_of, sum_of, pillars}
-use Rattle.weigh.specs.Answers.{weight, sum_in}
+use Rattle.weigh.specs.Answers.{Answer, weight, sum_in}
 use Rattle.weigh.proofs.Terms.{forth, back, height, shadow-parts, pillar-parts}
 use Rattle.weigh.proofs.Weighing.{sum_told}
 use Rattle.promises.specs.Served.{Served, Done}
@@ -145,7 +144,7 @@ both-agree t v b even =
     let i = v.indices in
     let e : t.says ≡ weight p 0 i = t.told ∙ (λ k. weight (b.positions k) (b.first k) (b.indices k)) in
     ap sum_in e
-    ∙ sum_told p 0 i (sym (ap (λ (w : Weight). w.answer) e) ∙ b.weighed)
+    ∙ sum_told p 0 i (sym (ap (λ (w : Answer). w.answer) e) ∙ b.weighed)
     ∙ pillars-sixfold p i even
     ∙ sym (ap (λ (w : Weighed). w.volume) (v.told ∙ weighs p i (accepted p i (sym (ap (λ (w : Weighed). w.answer) v.told) ∙ b.volumed))))
 

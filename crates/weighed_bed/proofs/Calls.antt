@@ -8,8 +8,7 @@ use lib.ListN.{length}
 use Rattle.lists.proofs.Permutation.{Perm}
 use Rattle.skin.specs.Links.{links}
 use Rattle.volume.specs.Triangles.{turned_round, Rolled, triangles}
-use Rattle.weigh.specs.declared.Weight.{Weight}
-use Rattle.weigh.specs.Answers.{says, weight, sum_in}
+use Rattle.weigh.specs.Answers.{Answer, says, weight, sum_in}
 use Rattle.weigh.proofs.Answering.{few-enough}
 use Rattle.weigh.proofs.Weighing.{accepted, round-weighs, order-weighs, rolled-weighs, joined-weighs, part-weighs}
 use Rattle.promises.specs.Served.{Done}
@@ -73,7 +72,7 @@ module _ (t u : Told) (a : Alike u t) where
   told-round i =
       says_of u t a.positions a.first i
       ∙ round-weighs t.positions t.first t.indices
-      ∙ ap (λ (w : Weight). says w.answer (neg_ℤ (sum_in w)) (neg_ℤ w.shadow)) (sym t.told)
+      ∙ ap (λ (w : Answer). says w.answer (neg_ℤ (sum_in w)) (neg_ℤ w.shadow)) (sym t.told)
 
   -- the triangles in another order
   pub told-order : length t.indices % 3 ≡ 0 → length u.indices % 3 ≡ 0 → Perm (triangles t.indices) (triangles u.indices) → u.says ≡ t.says
@@ -83,7 +82,7 @@ module _ (t u : Told) (a : Alike u t) where
   pub told-rolled : Rolled t.indices u.indices → t.says.answer ≡ 0 → u.says.answer ≡ 0 → u.says ≡ t.says
   told-rolled r g h =
       let e : u.says ≡ weight t.positions t.first u.indices = says_of u t a.positions a.first refl in
-      e ∙ rolled-weighs t.positions t.first r (sym (ap (λ (w : Weight). w.answer) t.told) ∙ g) (sym (ap (λ (w : Weight). w.answer) e) ∙ h) ∙ sym t.told
+      e ∙ rolled-weighs t.positions t.first r (sym (ap (λ (w : Answer). w.answer) t.told) ∙ g) (sym (ap (λ (w : Answer). w.answer) e) ∙ h) ∙ sym t.told
 
 -- one list after the other: v has t's triangles and then u's
 module _ (t u v : Told) (a : Alike u t) (b : Alike v t) (i : v.indices ≡ t.indices ++ u.indices) where
@@ -97,17 +96,17 @@ module _ (t u v : Told) (a : Alike u t) (b : Alike v t) (i : v.indices ≡ t.ind
       → v.says ≡ says 0 (sum_in t.says +ℤ sum_in u.says) (t.says.shadow +ℤ u.says.shadow)
   told-joined g h few =
       whole
-      ∙ joined-weighs t.positions t.first t.indices u.indices (sym (ap (λ (w : Weight). w.answer) t.told) ∙ g)
-      (sym (ap (λ (w : Weight). w.answer) second) ∙ h) (subst (λ (l : List ℕ). length l / 3 ≤ 2 ^ 33) i few)
-      ∙ ap₂ (λ (y z : Weight). says 0 (sum_in y +ℤ sum_in z) (y.shadow +ℤ z.shadow)) (sym t.told) (sym second)
+      ∙ joined-weighs t.positions t.first t.indices u.indices (sym (ap (λ (w : Answer). w.answer) t.told) ∙ g)
+      (sym (ap (λ (w : Answer). w.answer) second) ∙ h) (subst (λ (l : List ℕ). length l / 3 ≤ 2 ^ 33) i few)
+      ∙ ap₂ (λ (y z : Answer). says 0 (sum_in y +ℤ sum_in z) (y.shadow +ℤ z.shadow)) (sym t.told) (sym second)
 
   -- a list that is answered 0, cut between two triangles: so are both parts, and they add up
   pub told-parts : length t.indices % 3 ≡ 0 → v.says.answer ≡ 0
       → (t.says.answer ≡ 0) × (u.says.answer ≡ 0) × (v.says ≡ says 0 (sum_in t.says +ℤ sum_in u.says) (t.says.shadow +ℤ u.says.shadow))
   told-parts threes done =
-      let d : (weight t.positions t.first (t.indices ++ u.indices)).answer ≡ 0 = sym (ap (λ (w : Weight). w.answer) whole) ∙ done in
+      let d : (weight t.positions t.first (t.indices ++ u.indices)).answer ≡ 0 = sym (ap (λ (w : Answer). w.answer) whole) ∙ done in
       let r = part-weighs t.positions t.first t.indices u.indices threes d in
       let few : length (t.indices ++ u.indices) / 3 ≤ 2 ^ 33 = few-enough (t.indices ++ u.indices) (accepted t.positions t.first (t.indices ++ u.indices) d).few in
-      let g : t.says.answer ≡ 0 = ap (λ (w : Weight). w.answer) t.told ∙ r.0 in
-      let h : u.says.answer ≡ 0 = ap (λ (w : Weight). w.answer) second ∙ r.1 in
+      let g : t.says.answer ≡ 0 = ap (λ (w : Answer). w.answer) t.told ∙ r.0 in
+      let h : u.says.answer ≡ 0 = ap (λ (w : Answer). w.answer) second ∙ r.1 in
       (g, h, told-joined g h (subst (λ (l : List ℕ). length l / 3 ≤ 2 ^ 33) (sym i) few))

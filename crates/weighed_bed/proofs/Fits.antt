@@ -26,10 +26,10 @@ use Rattle.rules.proofs.Seen.{length-vectors}
 use Rattle.cube.proofs.ClosedCell.{InCell}
 use Rattle.cube.proofs.UnderCaps.{cell-counted, under-caps}
 use Rattle.volume.specs.declared.Corner.{Corner}
+use Rattle.volume.specs.Steps.{past}
 use Rattle.volume.specs.Answers.{not_threes}
 use Rattle.volume.proofs.Weighing.{three-is}
-use Rattle.weigh.specs.declared.Weight.{Weight}
-use Rattle.weigh.specs.Answers.{beyond, no_vertex, some_wide, says, weight, sum_in}
+use Rattle.weigh.specs.Answers.{Answer, beyond, no_vertex, some_wide, says, weight, sum_in}
 use Rattle.weigh.proofs.Words.{words-make}
 use Rattle.weigh.proofs.Weighing.{Accepted, weighs}
 use Rattle.promises.specs.Served.{Served, Done}
@@ -48,7 +48,7 @@ none_passes f (more {x = x} {xs = l} h hs) = or-none (f x) (some f l) h (none_pa
 -- ---- 63: a coordinate in a cell below 2^24
 
 pub in-cell-permitted : (n : ℕ) (x : Float) → n < 2 ^ 24 → InCell n x → beyond x ≡ false
-unfolding beyond
+unfolding past
 in-cell-permitted n nan l h = absurd h.0
 in-cell-permitted n (inf s) l h = absurd h.0
 in-cell-permitted n (fin true m e) l h = absurd h.0
@@ -153,10 +153,10 @@ module _ (u : Served) (t : Told) (d : Done u) (o : OwnMesh u t) where
   own-mesh-weighs = t.told ∙ (λ i. weight (o.positions i) (o.first i) (o.indices i)) ∙ mesh-weighs u d
 
   pub own-mesh-done : t.says.answer ≡ 0
-  own-mesh-done = ap (λ (w : Weight). w.answer) own-mesh-weighs
+  own-mesh-done = ap (λ (w : Answer). w.answer) own-mesh-weighs
 
   pub own-mesh-sum : sum_in t.says ≡ pillars_of u
   own-mesh-sum = ap sum_in own-mesh-weighs ∙ words-make (pillars_of u)
 
   pub own-mesh-shadow : t.says.shadow ≡ shadows_of u
-  own-mesh-shadow = ap (λ (w : Weight). w.shadow) own-mesh-weighs
+  own-mesh-shadow = ap (λ (w : Answer). w.shadow) own-mesh-weighs

@@ -14,12 +14,11 @@ use Rattle.rules.specs.Cell.{one32, fraction, point_between, crossing_point, cro
 use Rattle.rules.specs.Vertices.{row_cells, layer_cells, layer_vertices, vertices, first_vertex, vertex_position}
 use Rattle.rules.specs.Faces.{all_three, owned, changes, cell_edges, layer_edges, edges, shorter, face_cells, layer_indices, indices}
 use Rattle.rules.specs.Call.{flat_vectors}
-use Rattle.volume.specs.Steps.{steps}
+use Rattle.volume.specs.Steps.{past, steps}
 use Rattle.volume.specs.Volume.{determinant, sum_over, sixfold}
-use Rattle.weigh.specs.declared.Weight.{Weight}
 use Rattle.weigh.specs.Sums.{shadow_of, pillar_of, sum_of}
 use Rattle.weigh.specs.Words.{high_of, low_of}
-use Rattle.weigh.specs.Answers.{beyond, some_wide, told, weight}
+use Rattle.weigh.specs.Answers.{Answer, some_wide, told, weight}
 use Rattle.weighed_bed.specs.Layered.{layer_positions, layer_first, layer_triangles}
 
 abbrev point : ℕ → ℕ → ℕ → GridPoint
@@ -28,7 +27,7 @@ point x y z = record { x = x; y = y; z = z }
 opened : Unit {0}
 unfolding run up_to keep many some joined place fraction point_between crossing_point crossing_points summed crossings centroid position row_cells layer_cells layer_vertices vertices
     first_vertex owned changes cell_edges layer_edges edges shorter face_cells layer_indices indices add sub mul div lt of_int round size units odd neg sum span climb count_trailing_zeros
-    steps determinant sum_over shadow_of pillar_of sum_of high_of low_of beyond some_wide weight
+    steps determinant sum_over shadow_of pillar_of sum_of high_of low_of past some_wide weight
 opened = tt
 
 -- dimensions 4, 4, 5, 1.0 but for -1.0 at (1,1,1) and (1,1,2), box to (3,3,4)
@@ -42,7 +41,7 @@ column =
 abbrev box_to4 : Box
 box_to4 = record { low = point 0 0 0; high = point 3 3 4 }
 
-abbrev layer_weight : ℕ → Weight
+abbrev layer_weight : ℕ → Answer
 layer_weight z = weight (layer_positions column box_to4 z) (layer_first column box_to4 z) (layer_triangles column box_to4 (all_three false) z)
 
 -- the floor of the column: 213 steps high, 85 by 85 wide, facing down

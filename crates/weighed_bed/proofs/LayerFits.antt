@@ -27,9 +27,8 @@ use Rattle.cube.proofs.UnderCaps.{cell-counted, under-caps}
 use Rattle.volume.specs.declared.Corner.{Corner}
 use Rattle.volume.specs.Answers.{not_threes}
 use Rattle.volume.proofs.Weighing.{three-is}
-use Rattle.weigh.specs.declared.Weight.{Weight}
 use Rattle.weigh.specs.Sums.{shadow_of, pillar_of, corner_from}
-use Rattle.weigh.specs.Answers.{beyond, no_vertex, some_wide, weight, sum_in}
+use Rattle.weigh.specs.Answers.{Answer, beyond, no_vertex, some_wide, weight, sum_in}
 use Rattle.weigh.proofs.Weighing.{Accepted, weighs}
 use Rattle.weigh.proofs.Words.{words-make}
 use Rattle.weighed_bed.specs.Layered.{vertices_below, two_layers, layer_positions, layer_first, layer_triangles}
@@ -141,4 +140,4 @@ module _ (g : Field) (b : Box) (m : Flags) (values32 : (p : GridPoint) → T (in
   layer-told = ap sum_in (weighs (layer_positions g b z) (layer_first g b z) (layer_triangles g b m z) layer-accepted) ∙ words-make (layer_sum pillar_of g b m z)
 
   pub layer-shadow : (weight (layer_positions g b z) (layer_first g b z) (layer_triangles g b m z)).shadow ≡ layer_sum shadow_of g b m z
-  layer-shadow = ap (λ (w : Weight). w.shadow) (weighs (layer_positions g b z) (layer_first g b z) (layer_triangles g b m z) layer-accepted)
+  layer-shadow = ap (λ (w : Answer). w.shadow) (weighs (layer_positions g b z) (layer_first g b z) (layer_triangles g b m z) layer-accepted)

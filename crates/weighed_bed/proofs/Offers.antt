@@ -37,9 +37,8 @@ use Rattle.layered_mesh.proofs.Layered.{mesh-so-far, all-distances, layered-mesh
 use Rattle.layered_mesh.proofs.Step.{mesh_to}
 use Rattle.volume.specs.declared.Corner.{Corner}
 use Rattle.volume.specs.Volume.{corner_at}
-use Rattle.weigh.specs.declared.Weight.{Weight}
 use Rattle.weigh.specs.Sums.{shadow_of, pillar_of, sum_of}
-use Rattle.weigh.specs.Answers.{some_wide, says, weight, sum_in}
+use Rattle.weigh.specs.Answers.{Answer, some_wide, says, weight, sum_in}
 use Rattle.weigh.proofs.Words.{words-make}
 use Rattle.weigh.proofs.Weighing.{Accepted, weighs}
 use Rattle.weighed_mesh.proofs.Faces.{sum_z}
@@ -209,8 +208,8 @@ module _ (sdf : List Float) (k : Block) (i : Inside sdf k) (floats : Binary32 sd
   pub layers-done : All (λ (a : Asked). (answered a).answer ≡ 0) (all_asked f)
   layers-done =
       subst (All (λ (a : Asked). (answered a).answer ≡ 0)) (sym (layers-asked sdf k i f all))
-      (more (ap (λ (w : Weight). w.answer) nothing-weighs)
-      (all_map (layer_asked sdf k i) (each (λ z l h. ap (λ (w : Weight). w.answer) (weighs _ _ _ (accepts z l h))))))
+      (more (ap (λ (w : Answer). w.answer) nothing-weighs)
+      (all_map (layer_asked sdf k i) (each (λ z l h. ap (λ (w : Answer). w.answer) (weighs _ _ _ (accepts z l h))))))
 
   -- what came out is weighed as a whole
   whole-weighs : weight out.positions 0 out.indices
@@ -238,8 +237,8 @@ module _ (sdf : List Float) (k : Block) (i : Inside sdf k) (floats : Binary32 sd
   unfolding sum_z
   layers-shadow =
       ap (sum_z (λ (a : Asked). (answered a).shadow)) (layers-asked sdf k i f all)
-      ∙ ap₂ ◌+ℤ◌ (ap (λ (w : Weight). w.shadow) nothing-weighs) (sum_z-map (λ (a : Asked). (answered a).shadow) (layer_asked sdf k i) (layers (box_of k)))
+      ∙ ap₂ ◌+ℤ◌ (ap (λ (w : Answer). w.shadow) nothing-weighs) (sum_z-map (λ (a : Asked). (answered a).shadow) (layer_asked sdf k i) (layers (box_of k)))
       ∙ +ℤ_idl (sum_z (λ (z : ℕ). (answered (layer_asked sdf k i z)).shadow) (layers (box_of k)))
       ∙ sum_z-same (each (λ z l h. layer-shadow (field_of sdf k) (box_of k) (flags_of k) values32 i.dims i.box distances few z l h))
       ∙ layers-sum shadow_of (field_of sdf k) (box_of k) (flags_of k)
-      ∙ sym (ap (λ (w : Weight). w.shadow) whole-weighs)
+      ∙ sym (ap (λ (w : Answer). w.shadow) whole-weighs)

@@ -12,7 +12,7 @@ abbrev pub Weigh : Type 0
 Weigh = Outcome 2 weigh-kinds.ps weigh-kinds.r weigh.Learnt
 
 abbrev pub told : Weigh → Told
-told w = record { positions = w.args.0.now; first = w.args.1.0; indices = w.args.1.1.0.now; says = w.result; told = w.learnt }
+told w = record { positions = w.args.0.now; first = w.args.1.0; indices = w.args.1.1.0.now; says = answers.told_by w.result; told = w.learnt }
 
 -- the sum's two words and the shadow stand behind the last three parameters
 abbrev pub BedWeigh : Type 0

@@ -6,8 +6,7 @@ use Rattle.layers.specs.declared.State.{State}
 use Rattle.layers.specs.Memory.{Memory}
 use Rattle.layers.specs.Offer.{Output}
 use Rattle.layered_mesh.specs.Fed.{wrote, Fed, started, taken, refused}
-use Rattle.weigh.specs.declared.Weight.{Weight}
-use Rattle.weigh.specs.Answers.{weight}
+use Rattle.weigh.specs.Answers.{Answer, weight}
 
 -- what a call of the weighing is given
 pub record Asked : Type 0 where
@@ -18,7 +17,7 @@ pub record Asked : Type 0 where
 abbrev pub asked : List Float → ℕ → List ℕ → Asked
 asked positions first indices = record { positions = positions; first = first; indices = indices }
 
-abbrev pub answered : Asked → Weight
+abbrev pub answered : Asked → Answer
 answered a = weight a.positions a.first a.indices
 
 -- the positions that the last layer taken brought out: none before the first

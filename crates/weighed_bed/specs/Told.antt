@@ -1,9 +1,8 @@
 -- A call of the weighing with what came of it, as the public contracts say it; and what a mesh call hands on to it. Definitions only.
 -- Assumes nothing.
 use Rattle.std.specs.Prelude.{ℕ, List, ◌≡◌, ℤ, Float}
-use Rattle.weigh.specs.declared.Weight.{Weight}
 use Rattle.weigh.specs.Sums.{pillars, shadows}
-use Rattle.weigh.specs.Answers.{weight}
+use Rattle.weigh.specs.Answers.{Answer, weight}
 use Rattle.promises.specs.Served.{Served}
 use Rattle.weighed_mesh.specs.Told.{positions_of, indices_of}
 
@@ -12,7 +11,7 @@ pub record Told : Type 0 where
   pub positions : List Float
   pub first : ℕ
   pub indices : List ℕ
-  pub says : Weight
+  pub says : Answer
   pub told : says ≡ weight positions first indices
 
 -- of the first 3V positions and I indices that a mesh call leaves

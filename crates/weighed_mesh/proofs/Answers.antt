@@ -14,10 +14,9 @@ use Rattle.lists.proofs.Lists.{All, none, more, all_then}
 use Rattle.lists.proofs.Permutation.{Perm}
 use Rattle.skin.specs.Links.{links}
 use Rattle.volume.specs.declared.Corner.{Corner}
-use Rattle.volume.specs.declared.Weighed.{Weighed}
 use Rattle.volume.specs.Steps.{outside, steps}
 use Rattle.volume.specs.Volume.{Near, corner_at, determinant, sum_over}
-use Rattle.volume.specs.Answers.{not_threes, no_vertex, some_outside, weighed, weighing}
+use Rattle.volume.specs.Answers.{Weighed, not_threes, no_vertex, some_outside, weighed, weighing}
 use Rattle.volume.specs.Triangles.{turned_round, Rolled, triangles}
 use Rattle.volume.proofs.Answering.{in-threes, few-enough}
 use Rattle.volume.proofs.Bounds.{sum-most, determinant-most}

@@ -8,8 +8,8 @@ use Rattle.rules.specs.Faces.{edges}
 use Rattle.rules.specs.Cutting.{Piece, Cuts, pieces, Fits, Plan}
 use Rattle.lists.proofs.Lists.{All, none, more}
 use Rattle.rules.proofs.Cutting.{cuts-plan, edge-law}
-use Rattle.volume.specs.declared.Weighed.{Weighed}
 use Rattle.volume.specs.Volume.{sixfold}
+use Rattle.volume.specs.Answers.{Weighed}
 use Rattle.volume.proofs.Weighing.{accepted, weighs}
 use Rattle.promises.specs.Served.{Served, Done}
 use Rattle.promises.proofs.ReadBack.{positions-back, indices-back}

@@ -1,9 +1,8 @@
 -- A call of the volume with what came of it, as the public contracts say it; and what a mesh call hands on to it. Definitions only.
 -- Assumes nothing.
 use Rattle.std.specs.Prelude.{ℕ, ◌*◌, List, ◌≡◌, ℤ, take, Float}
-use Rattle.volume.specs.declared.Weighed.{Weighed}
 use Rattle.volume.specs.Volume.{sixfold}
-use Rattle.volume.specs.Answers.{weighing}
+use Rattle.volume.specs.Answers.{Weighed, weighing}
 use Rattle.promises.specs.Served.{Served}
 
 -- what went in, and the answer number with the volume: the equation is that of the contracts of `volume` and `bed_volume`

@@ -8,6 +8,7 @@ use lib.Ieee.{Float, nan}
 use lib.ListN.{length, take, drop, replicate}
 use Rattle.lists.specs.Lists.{placed}
 use Rattle.rules.proofs.Indexes.{BoxFits, box-fits, right-length}
+use Rattle.grid.specs.Layers.{part}
 use Rattle.grid.specs.declared.Block.{Block}
 use Rattle.grid.specs.Block.{point, box_of}
 use Rattle.grid.specs.Inside.{Inside}
@@ -16,7 +17,7 @@ use Rattle.grid.proofs.Layers.{in-plane, in-some-grid}
 use Rattle.layer_vertices.specs.Marked.{last_entry, InPart}
 use Rattle.whole_box.specs.Layers.{last_at, InMap}
 use Rattle.whole_box.proofs.Map.{part-back}
-use Rattle.grid.proofs.Parts.{part, length_part, layer-under}
+use Rattle.grid.proofs.Parts.{length_part, layer-under}
 use Rattle.whole_box.proofs.Lent.{plane-up}
 
 -- a map as long as the grid

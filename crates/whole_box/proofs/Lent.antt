@@ -1,4 +1,4 @@
--- What the whole call lends for a layer: of each of the grid's three lists the layer's parts, which are the two layers of distances; and for its
+-- What the whole call lends for a layer: the grid's parts that are the layer's two layers of distances; and for its
 -- vertices, and what comes back: the lists have room, and with the part of the map put back they are what the rules say of the layer in the whole grid.
 -- Assumes nothing.
 use Prim.Native.Nat.{ℕ, ◌+◌, ◌-◌, ◌*◌, ◌≤◌, ◌<◌}
@@ -8,7 +8,6 @@ use mathlib.Core.List.{List, ◌++◌}
 use mathlib.Core.Path.{◌≡◌, ap, ◌∙◌}
 use lib.Dec.{T}
 use lib.Ieee.{Float}
-use lib.IntN.{ℤ}
 use lib.ListN.{length, take, drop}
 use Rattle.rules.specs.Grid.{GridPoint, Box, Field, in_box, value}
 use Rattle.rules.specs.Vertices.{cells, surface_cell, vertices, layer_vertices, first_vertex}
@@ -18,13 +17,12 @@ use Rattle.rules.proofs.Counting.{cell-count}
 use Rattle.grid.specs.declared.Block.{Block}
 use Rattle.grid.specs.Block.{point, box_of, flags_of, field_of, call_of}
 use Rattle.grid.specs.Inside.{Inside}
-use Rattle.grid.specs.Layers.{layer_dist, two_layers, InLayers}
-use Rattle.grid.specs.Values.{grid_of}
+use Rattle.grid.specs.Layers.{layer_dist, two_layers, InLayers, part, rest}
 use Rattle.grid.proofs.Bounds.{fits}
 use Rattle.grid.proofs.Order.{box-ends}
 use Rattle.grid.proofs.Rows.{box-short}
 use Rattle.grid.proofs.Slab.{slab, layer-alike}
-use Rattle.grid.proofs.Places.{Place, Range, part-lent, part-of-grid, rest-of-grid}
+use Rattle.grid.proofs.Places.{Range}
 use Rattle.layer_vertices.specs.declared.Next.{Next}
 use Rattle.layer_vertices.specs.Marked.{Lists, lists, listed, layer_entry, marked, Room}
 use Rattle.layer_vertices.proofs.Alike.{marked-alike}
@@ -32,7 +30,7 @@ use Rattle.whole_box.specs.declared.Made.{Made}
 use Rattle.whole_box.specs.LentLists.{lists_of}
 use Rattle.whole_box.specs.Layers.{entry_at, layer_marked, Written}
 use Rattle.whole_box.proofs.Map.{part-back}
-use Rattle.grid.proofs.Parts.{part, rest, layers-agree, layers-lent, layer-end, layer-few}
+use Rattle.grid.proofs.Parts.{layers-agree, layers-lent, layer-end, layer-few}
 use Rattle.whole_box.proofs.Steps.{vertices-within, first-is, first_more, SameLengths, written-lengths}
 
 -- ---- the layer's parts of the grid
@@ -59,21 +57,6 @@ layer-range sdf k i z zs mp h =
       within = le_trans (layer-end sdf k i z zs) h;
       few = layer-few sdf k i z zs;
     }
-
--- where the layer begins and ends in each of the three lists: the parts that are lent of them
-module _ (width : ℕ) (f : List Float) (s b : List ℤ) (k : Block) (i : Inside (grid_of width f s b) k) (z : ℕ) (zs : (k.low.z ≤ z) × (z < k.high.z)) {fs fe ss se bs be : ℕ}
-    (from : Place width (k.dims.x * k.dims.y * z) fs ss bs) (to : Place width (k.dims.x * k.dims.y * z + k.dims.x * k.dims.y) fe se be) where
-  pub lent-ranges : Range fs fe (length f) × Range ss se (length s) × Range bs be (length b)
-  lent-ranges = part-lent width f s b from to (omega arith) (layer-end (grid_of width f s b) k i z zs) (layer-few (grid_of width f s b) k i z zs)
-
-  pub lent-parts : {lf uf : List Float} {ls us lb ub : List ℤ} → lf ≡ take (fe - fs) (drop fs f) → uf ≡ take (length f - fe) (drop fe f)
-      → ls ≡ take (se - ss) (drop ss s) → us ≡ take (length s - se) (drop se s) → lb ≡ take (be - bs) (drop bs b) → ub ≡ take (length b - be) (drop be b)
-      → Lends (grid_of width f s b) k z (grid_of width lf ls lb) (grid_of width uf us ub)
-  lent-parts lf uf ls us lb ub =
-      record {
-        lower_is = (λ j. grid_of width (lf j) (ls j) (lb j)) ∙ part-of-grid width f s b from to;
-        upper_is = (λ j. grid_of width (uf j) (us j) (ub j)) ∙ rest-of-grid width f s b to;
-      }
 
 -- ---- what is lent for the layer's vertices
 

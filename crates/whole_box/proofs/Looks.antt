@@ -23,7 +23,7 @@ use Rattle.rules.proofs.Seen.{length-points, length-vectors}
 use Rattle.grid.specs.declared.Block.{Block}
 use Rattle.grid.specs.Block.{point, box_of, flags_of, field_of, call_of}
 use Rattle.grid.specs.Inside.{Inside}
-use Rattle.grid.specs.Layers.{in_layer, layer_dist, two_layers}
+use Rattle.grid.specs.Layers.{in_layer, layer_dist, two_layers, part}
 use Rattle.grid.proofs.Bounds.{fits, below_length}
 use Rattle.grid.proofs.Layers.{in-plane}
 use Rattle.grid.proofs.Slab.{slab, layer-alike, edges-alike, positions-alike, surface-alike, number-alike}
@@ -33,7 +33,7 @@ use Rattle.layer_faces.proofs.Alike.{Right, indices-are}
 use Rattle.whole_box.specs.declared.Made.{Made}
 use Rattle.whole_box.specs.Layers.{vertices_to, written_to, Written, Stands}
 use Rattle.whole_box.proofs.Map.{map-number}
-use Rattle.grid.proofs.Parts.{part, length_part, part_at, layer-end, corner-in}
+use Rattle.grid.proofs.Parts.{length_part, part_at, layer-end, corner-in}
 use Rattle.whole_box.proofs.Lent.{Lends, lent-agree}
 use Rattle.whole_box.proofs.Steps.{vertices-more, vertices-within, first-is, part_of, SameLengths, written-lengths}
 

@@ -14,10 +14,10 @@ ghost use Rattle.layer_vertices.specs.Marked.{Room};
 ghost use Rattle.layer_vertices.specs.Lent.{lists_given, lists_before, lists_after};
 ghost use Rattle.whole_box.specs.LentLists.{buffers_given, buffers_before, buffers_after, Roomy};
 ghost use Rattle.whole_box.specs.Layers.{layer_marked, last_at, InMap, Stands, Lendable};
-ghost use Rattle.grid.specs.Values.{grid_given, grid_before};
-ghost use Rattle.grid.proofs.Places.{Place};
 
 use grid::Block;
+use grid::lent::layers_at;
+use grid::values::Distance;
 use layer_faces::Firsts;
 use layer_vertices::Next;
 
@@ -29,62 +29,19 @@ pub struct Made {
     pub below: usize,
 }
 
-// ---- A part of a list, from one place to another: a call costs the proof of a function that lends many parts less than each part's own arithmetic.
-
-fn floats(list: &[f32], from: usize, to: usize) -> &[f32]
+// A part of a list, from one place to another: a call costs the proof of a function that lends many parts less than each part's own arithmetic.
+fn part<T>(list: &[T], from: usize, to: usize) -> &[T]
     requires { Lendable from to (length list.now) }
     ensures { result.now ≡ take (to - from) (drop from list.now) }
 {
     &list[from..to]
-}
-
-fn sixteens(list: &[i16], from: usize, to: usize) -> &[i16]
-    requires { Lendable from to (length list.now) }
-    ensures { result.now ≡ take (to - from) (drop from list.now) }
-{
-    &list[from..to]
-}
-
-fn eights(list: &[i8], from: usize, to: usize) -> &[i8]
-    requires { Lendable from to (length list.now) }
-    ensures { result.now ≡ take (to - from) (drop from list.now) }
-{
-    &list[from..to]
-}
-
-fn numbers(list: &[u32], from: usize, to: usize) -> &[u32]
-    requires { Lendable from to (length list.now) }
-    ensures { result.now ≡ take (to - from) (drop from list.now) }
-{
-    &list[from..to]
-}
-
-// Where a place of the grid stands in each of the three lists of distances.
-#[derive(Clone, Copy)]
-struct Places {
-    float: usize,
-    sixteen: usize,
-    eight: usize,
-}
-
-fn places_of(width: u32, at: usize) -> Places
-    ensures { Place width at result.float result.sixteen result.eight }
-{
-    Places {
-        float: grid::values::float_place(width, at),
-        sixteen: grid::values::sixteen_place(width, at),
-        eight: grid::values::eight_place(width, at),
-    }
 }
 
 // ---- One layer.
 
 // The vertices of the layer z.
-fn mark_part(
-    width: u32,
-    sdf: &[f32],
-    sdf16: &[i16],
-    sdf8: &[i8],
+fn mark_part<D: Distance>(
+    sdf: &[D],
     k: Block,
     z: u32,
     first: usize,
@@ -95,33 +52,27 @@ fn mark_part(
     crossings: &mut [u8],
     map: &mut [u32],
 ) -> usize
-    requires inside { Inside (grid_given width sdf sdf16 sdf8) k }
+    requires inside { Inside (D.floats sdf.now) k }
     requires z_le_z { (k.low.z ≤ z) × (z < k.high.z) }
-    requires sdf8_in_bounds { length (grid_given width sdf sdf16 sdf8) ≤ length map.old }
-    requires room { Room (record { place = first; number = first }) (length (layer_vertices (field_of (grid_given width sdf sdf16 sdf8) k) (box_of k) z))
+    requires map_in_bounds { length (D.floats sdf.now) ≤ length map.old }
+    requires room { Room (record { place = first; number = first }) (length (layer_vertices (field_of (D.floats sdf.now) k) (box_of k) z))
         (lists_given positions normals cells strides crossings map) }
     ensures map_value { lists_after positions normals cells strides crossings map
-        ≡ layer_marked (field_of (grid_before width sdf sdf16 sdf8) k) (box_of k) z first (lists_before positions normals cells strides crossings map) }
-    ensures value { result ≡ length (layer_vertices (field_of (grid_before width sdf sdf16 sdf8) k) (box_of k) z) }
+        ≡ layer_marked (field_of (D.floats sdf.now) k) (box_of k) z first (lists_before positions normals cells strides crossings map) }
+    ensures value { result ≡ length (layer_vertices (field_of (D.floats sdf.now) k) (box_of k) z) }
 {
     let plane = (k.dims.x as usize) * (k.dims.y as usize);
     let start = plane * (z as usize);
     let end = start + plane;
-    let from = places_of(width, start);
-    let to = places_of(width, end);
+    let (lower, upper) = layers_at(sdf, k, z);
     let number = first as u32;
     let next = Next {
         place: first,
         number,
     };
     layer_vertices::mark_layer(
-        width,
-        floats(sdf, from.float, to.float),
-        floats(sdf, to.float, sdf.len()),
-        sixteens(sdf16, from.sixteen, to.sixteen),
-        sixteens(sdf16, to.sixteen, sdf16.len()),
-        eights(sdf8, from.eight, to.eight),
-        eights(sdf8, to.eight, sdf8.len()),
+        lower,
+        upper,
         k,
         z,
         next,
@@ -146,11 +97,8 @@ fn part_below(low: u32, z: u32, start: usize, plane: usize) -> usize
 }
 
 // Its faces. No face of the first layer of the box needs one below it, and an empty part is lent.
-fn face_part(
-    width: u32,
-    sdf: &[f32],
-    sdf16: &[i16],
-    sdf8: &[i8],
+fn face_part<D: Distance>(
+    sdf: &[D],
     k: Block,
     z: u32,
     made: Made,
@@ -160,24 +108,23 @@ fn face_part(
     positions: &[f32],
     indices: &mut [u32],
 ) -> usize
-    requires inside { Inside (grid_given width sdf sdf16 sdf8) k }
+    requires inside { Inside (D.floats sdf.now) k }
     requires z_le_z { (k.low.z ≤ z) × (z < k.high.z) }
-    requires sdf8_in_bounds { length (grid_given width sdf sdf16 sdf8) ≤ length map.now }
-    requires count_value { count ≡ length (layer_vertices (field_of (grid_given width sdf sdf16 sdf8) k) (box_of k) z) }
-    requires stands { Stands (field_of (grid_given width sdf sdf16 sdf8) k) (box_of k) z made.vertices made.below cells.now map.now positions.now }
-    requires z_in_bounds { made.indices + length (layer_indices (field_of (grid_given width sdf sdf16 sdf8) k) (box_of k) (flags_of k) made.vertices z) ≤ length indices.old }
+    requires map_in_bounds { length (D.floats sdf.now) ≤ length map.now }
+    requires count_value { count ≡ length (layer_vertices (field_of (D.floats sdf.now) k) (box_of k) z) }
+    requires stands { Stands (field_of (D.floats sdf.now) k) (box_of k) z made.vertices made.below cells.now map.now positions.now }
+    requires z_in_bounds { made.indices + length (layer_indices (field_of (D.floats sdf.now) k) (box_of k) (flags_of k) made.vertices z) ≤ length indices.old }
     ensures indices_after { indices.new ≡ sets indices.old made.indices
-        (layer_indices (field_of (grid_before width sdf sdf16 sdf8) k) (box_of k) (flags_of k) made.vertices z) }
-    ensures value { result ≡ length (layer_indices (field_of (grid_before width sdf sdf16 sdf8) k) (box_of k) (flags_of k) made.vertices z) }
+        (layer_indices (field_of (D.floats sdf.now) k) (box_of k) (flags_of k) made.vertices z) }
+    ensures value { result ≡ length (layer_indices (field_of (D.floats sdf.now) k) (box_of k) (flags_of k) made.vertices z) }
 {
     let plane = (k.dims.x as usize) * (k.dims.y as usize);
     let start = plane * (z as usize);
     let end = start + plane;
-    let from = places_of(width, start);
-    let to = places_of(width, end);
+    let (lower, upper) = layers_at(sdf, k, z);
     let under = part_below(k.low.z, z, start, plane);
-    let own = numbers(map, start, end);
-    let beneath = numbers(map, under, start);
+    let own = part(map, start, end);
+    let beneath = part(map, under, start);
     let below = 3 * made.below;
     let here = 3 * made.vertices;
     let last = here + 3 * count;
@@ -188,21 +135,16 @@ fn face_part(
         below: number_below,
     };
     layer_faces::face_layer(
-        width,
-        floats(sdf, from.float, to.float),
-        floats(sdf, to.float, sdf.len()),
-        sixteens(sdf16, from.sixteen, to.sixteen),
-        sixteens(sdf16, to.sixteen, sdf16.len()),
-        eights(sdf8, from.eight, to.eight),
-        eights(sdf8, to.eight, sdf8.len()),
+        lower,
+        upper,
         k,
         z,
         first,
-        numbers(cells, here, last),
+        part(cells, here, last),
         own,
-        floats(positions, here, last),
+        part(positions, here, last),
         beneath,
-        floats(positions, below, here),
+        part(positions, below, here),
         indices,
         made.indices,
     )
@@ -221,11 +163,8 @@ fn clear_part(k: Block, map: &mut [u32])
 
 // The whole box, layer after layer, from no vertex and no index, and the last layer of points, of a flat box too: all that document 01 and request 7 of
 // document 02 say of an answer 0.
-pub fn mesh_box(
-    width: u32,
-    sdf: &[f32],
-    sdf16: &[i16],
-    sdf8: &[i8],
+pub fn mesh_box<D: Distance>(
+    sdf: &[D],
     k: Block,
     positions: &mut [f32],
     normals: &mut [f32],
@@ -235,11 +174,11 @@ pub fn mesh_box(
     map: &mut [u32],
     indices: &mut [u32],
 )
-    requires inside { Inside (grid_given width sdf sdf16 sdf8) k }
-    requires roomy { Roomy (field_of (grid_given width sdf sdf16 sdf8) k) (box_of k) (flags_of k) (length (grid_given width sdf sdf16 sdf8))
+    requires inside { Inside (D.floats sdf.now) k }
+    requires roomy { Roomy (field_of (D.floats sdf.now) k) (box_of k) (flags_of k) (length (D.floats sdf.now))
         (buffers_given positions normals cells strides crossings map indices) }
     ensures { buffers_after positions normals cells strides crossings map indices
-        ≡ written (call_of (grid_before width sdf sdf16 sdf8) k) (buffers_before positions normals cells strides crossings map indices) }
+        ≡ written (call_of (D.floats sdf.now) k) (buffers_before positions normals cells strides crossings map indices) }
 {
     let from = k.low.z;
     let end = k.high.z;
@@ -251,10 +190,7 @@ pub fn mesh_box(
     for z in from..end {
         let made = state;
         let count = mark_part(
-            width,
             sdf,
-            sdf16,
-            sdf8,
             k,
             z,
             made.vertices,
@@ -265,9 +201,7 @@ pub fn mesh_box(
             crossings,
             map,
         );
-        let used = face_part(
-            width, sdf, sdf16, sdf8, k, z, made, count, cells, map, positions, indices,
-        );
+        let used = face_part(sdf, k, z, made, count, cells, map, positions, indices);
         state = Made {
             vertices: made.vertices + count,
             indices: made.indices + used,

@@ -2,12 +2,11 @@
 -- first wrong edge of all, or that the blocks are a plan. Assumes nothing.
 use Prim.Native.Nat.{ℕ, ◌<◌}
 use native.Mathlib.Omega.{arith}
-use mathlib.Core.Bool.{Bool, true, false, not}
 use mathlib.Core.List.{List, map}
 use mathlib.Core.Logic.{inl, inr}
-use mathlib.Core.Path.{◌≡◌, refl, sym, ap, subst, ◌∙◌}
-use lib.Dec.{T}
-use lib.ListN.{length, get_or}
+use mathlib.Core.Path.{◌≡◌, sym, ap, subst, ◌∙◌}
+use lib.ListN.{length}
+use Rattle.std.specs.Prelude.{Option, Some, None, slice_get}
 use Rattle.lists.specs.Lists.{one, up_to}
 use Rattle.lists.proofs.Lists.{all-each, keep_same, length-keep, many-map}
 use Rattle.rules.specs.Grid.{GridPoint, Axis, axis_x, axis_y, axis_z}
@@ -15,44 +14,40 @@ use Rattle.rules.specs.Faces.{Edge, edge, owned}
 use Rattle.rules.specs.Cutting.{Piece, Plan}
 use Rattle.rules.proofs.Ownership.{has}
 use Rattle.plan.specs.declared.Block.{Block}
-use Rattle.plan.specs.declared.region.Region.{Region}
+use Rattle.plan.specs.Triples.{Region}
 use Rattle.plan.specs.Plan.{piece}
 use Rattle.plan.proofs.Regions.{owned-box}
-use Rattle.witness.specs.declared.search.Found.{Found}
-use Rattle.witness.specs.Witness.{block_in, piece_in, owners, Right, axis_number, Before, FirstWrong, no_block}
-use Rattle.witness.specs.Steps.{region_of, placed, inside, owners_at, RightAt, Searched}
-use Rattle.witness.specs.Told.{axis_of, edge_of, Names}
+use Rattle.witness.specs.declared.axis.Axis.{Axis as Way}
+use Rattle.witness.specs.declared.axis.Axis.TheVariants.{X, Y, Z}
+use Rattle.witness.specs.declared.search.Wrong.{Wrong}
+use Rattle.witness.specs.Witness.{owners, Right, axis_number, Before, FirstWrong}
+use Rattle.witness.specs.Steps.{axis_of, region_of, placed, inside, owners_at, RightAt, WrongAt, Searched}
+use Rattle.witness.specs.Told.{edge_of, Told, Names}
 
-clash : (b : Bool) → b ≡ true → T (not b) → ⊥
-clash true e t = t
-clash false e t = subst T (sym e) tt
-
-is-not : (b : Bool) → b ≡ false → T (not b)
-is-not b e = subst (λ (c : Bool). T (not c)) (sym e) tt
-
-region-owns : (a : Axis) (b : Block) (p : GridPoint) → inside (region_of (axis_number a) b) p ≡ has (piece b) (edge a p)
+region-owns : (a : Axis) (b : Block) (p : GridPoint) → inside (region_of a b) p ≡ has (piece b) (edge a p)
 unfolding inside region_of
 region-owns axis_x b p = sym (owned-box axis_x b p)
 region-owns axis_y b p = sym (owned-box axis_y b p)
 region-owns axis_z b p = sym (owned-box axis_z b p)
 
-axis-back : (a : Axis) → axis_of (axis_number a) ≡ a
-axis-back axis_x = refl
-axis-back axis_y = refl
-axis-back axis_z = refl
+module _ (blocks : ℕ → Block) (n : ℕ) (whole : Block) where
+  abbrev pieces : ℕ → Piece
+  pieces i = piece (blocks i)
 
-module _ (words : List ℕ) (n : ℕ) (whole : Block) where
   abbrev regions : Axis → ℕ → Region
-  regions a i = region_of (axis_number a) (block_in words i)
+  regions a i = region_of a (blocks i)
 
   abbrev region : Axis → Region
-  region a = region_of (axis_number a) whole
+  region a = region_of a whole
 
   abbrev RightEdge : Edge → Type 0
-  RightEdge e = Right (piece_in words) n (piece whole) e
+  RightEdge e = Right pieces n (piece whole) e
 
-  same-owners : (a : Axis) (p : GridPoint) → owners_at (regions a) n (region a) p ≡ owners (piece_in words) n (piece whole) (edge a p)
-  same-owners a p = keep_same (all-each (λ i. region-owns a (block_in words i) p) (up_to 0 n))
+  abbrev AllRight : Axis → Type 0
+  AllRight a = (p : GridPoint) → RightEdge (edge a p)
+
+  same-owners : (a : Axis) (p : GridPoint) → owners_at (regions a) n (region a) p ≡ owners pieces n (piece whole) (edge a p)
+  same-owners a p = keep_same (all-each (λ i. region-owns a (blocks i) p) (up_to 0 n))
 
   right-edge : (a : Axis) (p : GridPoint) → RightAt (regions a) n (region a) p → RightEdge (edge a p)
   right-edge a p r = sym (ap length (same-owners a p)) ∙ r ∙ ap one (region-owns a whole p)
@@ -60,27 +55,49 @@ module _ (words : List ℕ) (n : ℕ) (whole : Block) where
   edge-right : (a : Axis) (p : GridPoint) → RightEdge (edge a p) → RightAt (regions a) n (region a) p
   edge-right a p r = ap length (same-owners a p) ∙ r ∙ sym (ap one (region-owns a whole p))
 
-  abbrev On : Axis → Found → Type 0
-  On a f = Searched (regions a) n (region a) f
+  plan-of : ((a : Axis) → AllRight a) → Plan (map pieces (up_to 0 n)) (piece whole)
+  plan-of r e =
+      many-map (λ (q : Piece). owned q.box q.flags e) pieces (up_to 0 n)
+      ∙ sym (length-keep (λ (i : ℕ). owned (pieces i).box (pieces i).flags e) (up_to 0 n)) ∙ r e.axis e.from
 
-  none-on : (a : Axis) (f : Found) → On a f → T (not f.wrong) → (p : GridPoint) → RightEdge (edge a p)
-  none-on a f s t p = right-edge a p (s.none t p)
+  -- ---- a search on one axis, where every edge of the axes before it is right
 
-  wrong-on : (a : Axis) (f : Found) → On a f → T f.wrong → ((e : Edge) → axis_number e.axis < axis_number a → RightEdge e)
-      → FirstWrong (piece_in words) n (piece whole) (edge a (placed f.at))
-  wrong-on a f s t lower = record { wrong = λ r. s.wrong t (edge-right a (placed f.at) r); first = first }
+  abbrev pub On : Way → Option Wrong → Type 0
+  On way r = Searched (regions (axis_of way)) n (region (axis_of way)) way r
+
+  abbrev Lower : Way → Type 0
+  Lower way = (e : Edge) → axis_number e.axis < axis_number (axis_of way) → RightEdge e
+
+  found-told : (way : Way) (f : Wrong) → f.axis ≡ way → WrongAt (regions (axis_of way)) n (region (axis_of way)) f → Lower way → Told pieces n (piece whole) f
+  found-told way f e s lower =
+      record {
+        near = s.near;
+        wrong = subst (FirstWrong pieces n (piece whole)) (sym is) (record { wrong = λ r. s.wrong (edge-right a (placed f.at) r); first = first });
+        first = s.first ∙ ap (λ (os : List ℕ). slice_get os 0) os;
+        second = s.second ∙ ap (λ (os : List ℕ). slice_get os 1) os;
+      }
     where
+      a : Axis
+      a = axis_of way
+
+      is : edge_of f ≡ edge a (placed f.at)
+      is = ap (λ (w : Way). edge (axis_of w) (placed f.at)) e
+
+      os : owners_at (regions a) n (region a) (placed f.at) ≡ owners pieces n (piece whole) (edge_of f)
+      os = same-owners a (placed f.at) ∙ ap (owners pieces n (piece whole)) (sym is)
+
       first : (e : Edge) → Before e (edge a (placed f.at)) → RightEdge e
       first e (inl h) = lower e h
-      first e (inr (i, h)) = subst (λ (b : Axis). RightEdge (edge b e.from)) (sym i) (right-edge a e.from (s.before t e.from h))
+      first e (inr (i, h)) = subst (λ (b : Axis). RightEdge (edge b e.from)) (sym i) (right-edge a e.from (s.before e.from h))
 
-  plan-of : ((e : Edge) → RightEdge e) → Plan (map (piece_in words) (up_to 0 n)) (piece whole)
-  plan-of r e =
-      many-map (λ (q : Piece). owned q.box q.flags e) (piece_in words) (up_to 0 n)
-      ∙ sym (length-keep (λ (i : ℕ). owned (piece_in words i).box (piece_in words i).flags e) (up_to 0 n)) ∙ r e
+  all_right : (a : Axis) → ((q : GridPoint) → RightAt (regions a) n (region a) q) → AllRight a
+  all_right a h p = right-edge a p (h p)
 
-  -- the axes before y, and before z
-  below-y : ((p : GridPoint) → RightEdge (edge axis_x p)) → (e : Edge) → axis_number e.axis < 1 → RightEdge e
+  -- the axes before x, y and z
+  below-x : Lower X
+  below-x e h = absurd (omega (arith, h))
+
+  below-y : AllRight axis_x → Lower Y
   below-y x e h = go e.axis h
     where
       go : (a : Axis) → axis_number a < 1 → RightEdge (edge a e.from)
@@ -88,7 +105,7 @@ module _ (words : List ℕ) (n : ℕ) (whole : Block) where
       go axis_y h = absurd (omega arith)
       go axis_z h = absurd (omega arith)
 
-  below-z : ((p : GridPoint) → RightEdge (edge axis_x p)) → ((p : GridPoint) → RightEdge (edge axis_y p)) → (e : Edge) → axis_number e.axis < 2 → RightEdge e
+  below-z : AllRight axis_x → AllRight axis_y → Lower Z
   below-z x y e h = go e.axis h
     where
       go : (a : Axis) → axis_number a < 2 → RightEdge (edge a e.from)
@@ -96,45 +113,21 @@ module _ (words : List ℕ) (n : ℕ) (whole : Block) where
       go axis_y h = y e.from
       go axis_z h = absurd (omega arith)
 
-  each-axis : ((a : Axis) (p : GridPoint) → RightEdge (edge a p)) → (e : Edge) → RightEdge e
-  each-axis h e = h e.axis e.from
+  all-axes : AllRight axis_x → AllRight axis_y → AllRight axis_z → (a : Axis) → AllRight a
+  all-axes x y z axis_x = x
+  all-axes x y z axis_y = y
+  all-axes x y z axis_z = z
 
-  named : (a : Axis) (f : Found) → On a f → ((e : Edge) → axis_number e.axis < axis_number a → RightEdge e)
-      → (T (not f.wrong) → Plan (map (piece_in words) (up_to 0 n)) (piece whole)) → Names (piece_in words) n (piece whole) (record { axis = axis_number a; found = f })
-  named a f s lower none =
-      record {
-        near = s.near;
-        axis = sym (ap axis_number (axis-back a));
-        wrong = λ t. subst (FirstWrong (piece_in words) n (piece whole)) (sym is) (wrong-on a f s t lower);
-        first = s.first ∙ ap (λ (os : List ℕ). get_or os 0 no_block) os;
-        second = s.second ∙ ap (λ (os : List ℕ). get_or os 1 no_block) os;
-        none = none;
-      }
-    where
-      is : edge_of (record { axis = axis_number a; found = f }) ≡ edge a (placed f.at)
-      is = ap (λ (b : Axis). edge b (placed f.at)) (axis-back a)
+  -- each search is made where the ones before it found nothing
+  abbrev pub Named : Option Wrong → Type 0
+  Named r = Names pieces n (piece whole) r
 
-      os : owners_at (regions a) n (region a) (placed f.at) ≡ owners (piece_in words) n (piece whole) (edge_of (record { axis = axis_number a; found = f }))
-      os = same-owners a (placed f.at) ∙ ap (owners (piece_in words) n (piece whole)) (sym is)
+  pub named-x : (f : Wrong) → On X (Some f) → Named (Some f)
+  named-x f s = found-told X f s.0 s.1 below-x
 
-  pub named-x : (f : Found) → On axis_x f → f.wrong ≡ true → Names (piece_in words) n (piece whole) (record { axis = 0; found = f })
-  named-x f s w = named axis_x f s (λ e h. absurd (omega arith)) (λ t. absurd (clash f.wrong w t))
+  pub named-y : (f : Wrong) → On X None → On Y (Some f) → Named (Some f)
+  named-y f sx s = found-told Y f s.0 s.1 (below-y (all_right axis_x sx))
 
-  pub named-y : (fx f : Found) → On axis_x fx → fx.wrong ≡ false → On axis_y f → f.wrong ≡ true
-      → Names (piece_in words) n (piece whole) (record { axis = 1; found = f })
-  named-y fx f sx wx s w = named axis_y f s (below-y (none-on axis_x fx sx (is-not fx.wrong wx))) (λ t. absurd (clash f.wrong w t))
-
-  pub named-z : (fx fy f : Found) → On axis_x fx → fx.wrong ≡ false → On axis_y fy → fy.wrong ≡ false → On axis_z f
-      → Names (piece_in words) n (piece whole) (record { axis = 2; found = f })
-  named-z fx fy f sx wx sy wy s = named axis_z f s (below-z x y) (λ t. plan-of (each-axis (all t)))
-    where
-      x : (p : GridPoint) → RightEdge (edge axis_x p)
-      x = none-on axis_x fx sx (is-not fx.wrong wx)
-
-      y : (p : GridPoint) → RightEdge (edge axis_y p)
-      y = none-on axis_y fy sy (is-not fy.wrong wy)
-
-      all : T (not f.wrong) → (a : Axis) (p : GridPoint) → RightEdge (edge a p)
-      all t axis_x p = x p
-      all t axis_y p = y p
-      all t axis_z p = none-on axis_z f s t p
+  pub named-z : (r : Option Wrong) → On X None → On Y None → On Z r → Named r
+  named-z (Some f) sx sy s = found-told Z f s.0 s.1 (below-z (all_right axis_x sx) (all_right axis_y sy))
+  named-z None sx sy s = plan-of (all-axes (all_right axis_x sx) (all_right axis_y sy) (all_right axis_z s))

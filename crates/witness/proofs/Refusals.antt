@@ -1,54 +1,134 @@
--- The refusals as the code tries them, and what they leave: blocks whose corners all lie near. Assumes nothing.
-use Prim.Native.Nat.{ℕ, zero, suc, ◌-◌, ◌%◌, ◌≤◌, ◌<◌}
+-- Blocks by twelve words each: they are those of the words, their refusals are, and what is known where nothing is refused: their corners all lie near.
+-- Assumes nothing.
+use Prim.Native.Nat.{ℕ, zero, suc, ◌+◌, ◌-◌, ◌*◌, ◌%◌, ◌≤◌, ◌<◌}
 use native.Mathlib.Omega.{arith}
 use mathlib.Core.Bool.{Bool, true, false, not, ◌||◌, cond}
-use mathlib.Core.List.{List, [], ◌∷◌}
+use mathlib.Core.List.{List, [], ◌∷◌, ◌++◌, map}
 use mathlib.Core.Logic.{◌⊎◌, inl, inr}
-use mathlib.Core.Path.{◌≡◌, refl, sym, ap, subst, ◌∙◌}
-use borrow.Author.Tests.{ltb-false, lt-ltb, le-ltb, eq-eqb, ne_eqb}
+use mathlib.Core.Path.{◌≡◌, refl, sym, ap, ap₂, ◌∙◌}
+use borrow.Author.Tests.{eq-eqb, ne_eqb, eqb-true}
 use lib.Dec.{T, ltb, eqb, nltb→le}
-use lib.ListN.{length, length-map}
-use Rattle.lists.specs.Lists.{some, up_to}
-use Rattle.lists.proofs.Some.{some-append, some-map}
+use lib.ListN.{length, get_or, take, drop}
+use Rattle.std.specs.Simd.{first_chunks}
+use Rattle.std.proofs.lemmas.List.{get_or-take, get_or-drop, get_or_past}
+use Rattle.std.proofs.Math.Seq.{take-suc, take-length}
+use mathlib.Core.List.{map-append}
+use Rattle.lists.specs.Lists.{up_to}
 use Rattle.lists.proofs.Tests.{less-or-not, nor-left, nor-right}
-use Rattle.lists.proofs.Runs.{up_to-last}
-use Rattle.grid.proofs.Order.{length-up_to}
+use Rattle.lists.proofs.Runs.{up_to-last, up_to-none}
+use Rattle.rules.specs.Grid.{Axis, axis_x, axis_y, axis_z}
 use Rattle.rules.specs.Cutting.{Piece}
 use Rattle.plan.specs.declared.Block.{Block}
-use Rattle.plan.specs.Plan.{piece, bad_side, bad_piece, bad_block, plan_answer}
+use Rattle.plan.specs.Plan.{piece, block, bad_side, bad_piece, bad_block, plan_answer}
 use Rattle.plan.specs.Region.{owned_of}
-use Rattle.witness.specs.Steps.{far, region_of, Good}
+use Rattle.plan.specs.Words.{block_of}
+use Rattle.witness.specs.Steps.{far, region_of, block_at, piece_at}
 use Rattle.witness.specs.Witness.{block_in, piece_in, count_in, pieces_in, refusal}
 use Rattle.witness.proofs.Walk.{Bounded}
 
-pub pieces-count : (words : List ℕ) → length (pieces_in words) ≡ count_in words
-pieces-count words = length-map (up_to 0 (count_in words)) (piece_in words) ∙ length-up_to 0 (count_in words) ∙ omega arith
+-- ---- the blocks of the words
 
-module _ (words : List ℕ) (w : Piece) where
-  pub refused-40 : (length words % 12 ≡ 0 → ⊥) → 40 ≡ refusal words w
+length-chunks : (n : ℕ) (words : List ℕ) → length (first_chunks 12 n words) ≡ n
+length-chunks zero words = refl
+length-chunks (suc n) words = ap suc (length-chunks n (drop 12 words))
+
+within : (n : ℕ) (words : List ℕ) (i k : ℕ) → i < n → k < 12 → get_or (get_or (first_chunks 12 n words) i []) k 0 ≡ get_or words (12 * i + k) 0
+within zero words i k h l = absurd (omega arith)
+within (suc n) words zero k h l = get_or-take 12 words k 0 l ∙ ap (λ (j : ℕ). get_or words j 0) (omega arith)
+within (suc n) words (suc i) k h l =
+    within n (drop 12 words) i k (omega arith) l ∙ get_or-drop 12 words (12 * i + k) 0 ∙ ap (λ (j : ℕ). get_or words j 0) (omega arith)
+
+abbrev pub chunks : List ℕ → List (List ℕ)
+chunks words = first_chunks 12 (count_in words) words
+
+module _ (words : List ℕ) (twelves : length words % 12 ≡ 0) where
+  word-at : (i k : ℕ) → k < 12 → get_or (get_or (chunks words) i []) k 0 ≡ get_or words (12 * i + k) 0
+  word-at i k h = go (less-or-not i (count_in words))
+    where
+      go : (i < count_in words) ⊎ (count_in words ≤ i) → get_or (get_or (chunks words) i []) k 0 ≡ get_or words (12 * i + k) 0
+      go (inl l) = within (count_in words) words i k l h
+      go (inr l) =
+          ap (λ (c : List ℕ). get_or c k 0) (get_or_past (chunks words) i [] (omega (arith, l, length-chunks (count_in words) words)))
+          ∙ sym (get_or_past words (12 * i + k) 0 (omega (arith, l, twelves)))
+
+  same-block : (i : ℕ) → block_at (chunks words) i ≡ block_in words i
+  same-block i =
+      λ j. block (w3 j) (w4 j) (w5 j) (w6 j) (w7 j) (w8 j) (not (eqb (w9 j) 0)) (not (eqb (w10 j) 0)) (not (eqb (w11 j) 0))
+    where
+      w3 : get_or (get_or (chunks words) i []) 3 0 ≡ get_or words (12 * i + 3) 0
+      w3 = word-at i 3 (omega arith)
+
+      w4 : get_or (get_or (chunks words) i []) 4 0 ≡ get_or words (12 * i + 4) 0
+      w4 = word-at i 4 (omega arith)
+
+      w5 : get_or (get_or (chunks words) i []) 5 0 ≡ get_or words (12 * i + 5) 0
+      w5 = word-at i 5 (omega arith)
+
+      w6 : get_or (get_or (chunks words) i []) 6 0 ≡ get_or words (12 * i + 6) 0
+      w6 = word-at i 6 (omega arith)
+
+      w7 : get_or (get_or (chunks words) i []) 7 0 ≡ get_or words (12 * i + 7) 0
+      w7 = word-at i 7 (omega arith)
+
+      w8 : get_or (get_or (chunks words) i []) 8 0 ≡ get_or words (12 * i + 8) 0
+      w8 = word-at i 8 (omega arith)
+
+      w9 : get_or (get_or (chunks words) i []) 9 0 ≡ get_or words (12 * i + 9) 0
+      w9 = word-at i 9 (omega arith)
+
+      w10 : get_or (get_or (chunks words) i []) 10 0 ≡ get_or words (12 * i + 10) 0
+      w10 = word-at i 10 (omega arith)
+
+      w11 : get_or (get_or (chunks words) i []) 11 0 ≡ get_or words (12 * i + 11) 0
+      w11 = word-at i 11 (omega arith)
+
+  pub same-pieces : piece_at (chunks words) ≡ piece_in words
+  same-pieces = λ j i. piece (same-block i j)
+
+  pub count-chunks : length (chunks words) ≡ count_in words
+  count-chunks = length-chunks (count_in words) words
+
+  -- the first n of a list, by their numbers
+  by_numbers : {A B : Type 0} (f : ℕ → B) (g : A → B) (d : A) (l : List A) (n : ℕ) → n ≤ length l → ((i : ℕ) → i < n → f i ≡ g (get_or l i d)) → map f (up_to 0 n) ≡ map g (take n l)
+  by_numbers f g d l zero h e = rw (up_to-none 0 0 (omega arith)) refl
+  by_numbers f g d l (suc n) h e =
+      ap (map f) (up_to-last 0 n (omega arith)) ∙ map-append f (up_to 0 n) (n ∷ [])
+      ∙ ap₂ ◌++◌ (by_numbers f g d l n (omega arith) (λ i k. e i (omega arith))) (ap (λ b. b ∷ []) (e n (omega arith)))
+      ∙ sym (ap (map g) (take-suc l n d (omega arith)) ∙ map-append g (take n l) (get_or l n d ∷ []))
+
+  abbrev pub piece_of : List ℕ → Piece
+  piece_of c = piece (block_of c)
+
+  pieces-chunks : pieces_in words ≡ map piece_of (chunks words)
+  pieces-chunks =
+      by_numbers (piece_in words) piece_of [] (chunks words) (count_in words) (omega (arith, count-chunks)) (λ i h. sym (ap piece (same-block i)))
+      ∙ ap (λ (n : ℕ). map piece_of (take n (chunks words))) (sym count-chunks) ∙ ap (map piece_of) (take-length (chunks words))
+
+  pub number-in : (w : Piece) → plan_answer (map piece_of (chunks words)) w ≡ refusal words w
   unfolding refusal
-  refused-40 h = rw (ne_eqb (length words % 12) 0 h) refl
+  number-in w = sym (rw (eq-eqb (length words % 12) 0 twelves) (ap (λ (l : List Piece). plan_answer l w) pieces-chunks))
 
-  module _ (e : length words % 12 ≡ 0) where
-    pub refused-41 : 200 < count_in words → 41 ≡ refusal words w
-    unfolding refusal plan_answer
-    refused-41 h = rw (eq-eqb (length words % 12) 0 e, pieces-count words, lt-ltb 200 (count_in words) h) refl
+pub number-40 : (words : List ℕ) (w : Piece) → (length words % 12 ≡ 0 → ⊥) → 40 ≡ refusal words w
+unfolding refusal
+number-40 words w h = sym (rw (ne_eqb (length words % 12) 0 h) refl)
 
-    pub refused-42 : count_in words ≤ 200 → (a b t : Bool) → a ≡ bad_piece w → b ≡ some (λ i. bad_piece (piece_in words i)) (up_to 0 (count_in words)) → (a || b) ≡ t
-        → cond t 42 0 ≡ refusal words w
-    unfolding refusal plan_answer
-    refused-42 h a b t ea eb et =
-        rw (eq-eqb (length words % 12) 0 e, pieces-count words, le-ltb 200 (count_in words) h, some-map bad_piece (piece_in words) (up_to 0 (count_in words)))
-        (ap (λ (c : Bool). cond c 42 0) (sym et ∙ (λ i. ea i || eb i)))
+-- nothing is refused: the words are in twelves
+pub in-twelves : (words : List ℕ) (w : Piece) → 0 ≡ refusal words w → length words % 12 ≡ 0
+unfolding refusal
+in-twelves words w e = go (eqb (length words % 12) 0) refl e
+  where
+    go : (t : Bool) → eqb (length words % 12) 0 ≡ t → ◌≡◌ {A = ℕ} 0 (cond t (plan_answer (pieces_in words) w) 40) → length words % 12 ≡ 0
+    go true f e = eqb-true (length words % 12) 0 f
+    go false f e = absurd (omega (arith, e))
 
 -- ---- no corner of a block that is not refused lies far out
 
 good-high : (low high : ℕ) → T (not (bad_side low high)) → high ≤ 16777216
 good-high low high t = nltb→le 16777216 high (nor-right (ltb 16777216 low) (ltb 16777216 high) (nor-right (ltb high low) (ltb 16777216 low || ltb 16777216 high) t))
 
-pub good-bounded : (a : ℕ) (b : Block) → T (not (bad_block b)) → Bounded (region_of a b)
+pub good-bounded : (a : Axis) (b : Block) → T (not (bad_block b)) → Bounded (region_of a b)
 unfolding bad_piece region_of owned_of
-good-bounded a b t = go (eqb a 0) (eqb a 1)
+good-bounded a b t = go a
   where
     X : Bool
     X = bad_side b.min_x b.max_x
@@ -72,50 +152,7 @@ good-bounded a b t = go (eqb a 0) (eqb a 1)
     short true h l = omega arith
     short false h l = omega arith
 
-    go : (i j : Bool) → Bounded (cond i (owned_of b).x (cond j (owned_of b).y (owned_of b).z))
-    go true j = (short b.max_plane_x b.max_x hx, short true b.max_y hy, short true b.max_z hz)
-    go false true = (short true b.max_x hx, short b.max_plane_y b.max_y hy, short true b.max_z hz)
-    go false false = (short true b.max_x hx, short true b.max_y hy, short b.max_plane_z b.max_z hz)
-
--- ---- what is known where nothing is refused
-
-none-some : (f : ℕ → Bool) (n : ℕ) → some f (up_to 0 n) ≡ false → (i : ℕ) → i < n → T (not (f i))
-unfolding some
-none-some f zero e i h = absurd (omega arith)
-none-some f (suc n) e i h = go (less-or-not i n) (none-some f n (nor-left' (some f (up_to 0 n)) (some f (n ∷ [])) both) i)
-  where
-    both : (some f (up_to 0 n) || some f (n ∷ [])) ≡ false
-    both = sym (ap (some f) (up_to-last 0 n (omega arith)) ∙ some-append f (up_to 0 n) (n ∷ [])) ∙ e
-
-    nor-left' : (a b : Bool) → (a || b) ≡ false → a ≡ false
-    nor-left' true b g = absurd (subst T g tt)
-    nor-left' false b g = refl
-
-    last : (a b : Bool) → (a || (b || false)) ≡ false → T (not b)
-    last true b g = absurd (subst T g tt)
-    last false true g = absurd (subst T g tt)
-    last false false g = tt
-
-    go : (i < n) ⊎ (n ≤ i) → (i < n → T (not (f i))) → T (not (f i))
-    go (inl u) r = r u
-    go (inr u) r = let at : n ≡ i = omega arith in subst (λ (k : ℕ). T (not (f k))) at (last (some f (up_to 0 n)) (f n) both)
-
-pub good_of : (words : List ℕ) (b : Block) → refusal words (piece b) ≡ 0 → Good words (count_in words) b
-unfolding refusal plan_answer
-good_of words b e =
-    go (eqb (length words % 12) 0) (ltb 200 (length (pieces_in words))) refl (bad_block b) refl (some bad_piece (pieces_in words)) refl e
-  where
-    some-bad : some bad_piece (pieces_in words) ≡ some (λ (i : ℕ). bad_block (block_in words i)) (up_to 0 (count_in words))
-    some-bad = some-map bad_piece (piece_in words) (up_to 0 (count_in words))
-
-    go : (t u : Bool) → ltb 200 (length (pieces_in words)) ≡ u → (v : Bool) → bad_block b ≡ v → (s : Bool) → some bad_piece (pieces_in words) ≡ s
-        → ◌≡◌ {A = ℕ} (cond t (cond u 41 (cond (v || s) 42 0)) 40) 0 → Good words (count_in words) b
-    go true false eu false ev false es e = (
-      (omega arith, omega (arith, ltb-false 200 (length (pieces_in words)) eu, pieces-count words)),
-      none-some (λ (i : ℕ). bad_block (block_in words i)) (count_in words) (sym some-bad ∙ es),
-      subst (λ (c : Bool). T (not c)) (sym ev) tt,
-    )
-    go false u eu v ev s es e = absurd (omega arith)
-    go true true eu v ev s es e = absurd (omega arith)
-    go true false eu true ev s es e = absurd (omega arith)
-    go true false eu false ev true es e = absurd (omega arith)
+    go : (a : Axis) → Bounded (region_of a b)
+    go axis_x = (short b.max_plane_x b.max_x hx, short true b.max_y hy, short true b.max_z hz)
+    go axis_y = (short true b.max_x hx, short b.max_plane_y b.max_y hy, short true b.max_z hz)
+    go axis_z = (short true b.max_x hx, short true b.max_y hy, short b.max_plane_z b.max_z hz)

@@ -1,25 +1,25 @@
 -- Up to the next end that is seen from a point nothing changes: each region has the points between exactly if it has the point itself. And what is seen are the
 -- owners. Assumes nothing.
-use Prim.Native.Nat.{ℕ, zero, suc, ◌+◌, ◌≤◌, ◌<◌}
+use Prim.Native.Nat.{ℕ, zero, suc, ◌≤◌, ◌<◌}
 use native.Mathlib.Omega.{arith}
 use mathlib.Core.Bool.{Bool, true, false, ◌&&◌, cond}
 use mathlib.Core.List.{List, [], ◌∷◌, ◌++◌, append-nil}
 use mathlib.Core.Logic.{◌⊎◌, inl, inr}
 use mathlib.Core.Path.{◌≡◌, refl, sym, ap, subst, ◌∙◌}
-use borrow.Author.Tests.{ltb-true, ltb-false, ne_eqb}
+use borrow.Author.Tests.{ltb-true, ltb-false}
 use lib.Dec.{ltb}
-use lib.ListN.{length, get_or, length-append}
+use lib.ListN.{length}
 use Rattle.lists.specs.Lists.{one, up_to, keep}
 use Rattle.lists.proofs.Tests.{same_test, less-or-not, below-low, below-high, below_in}
 use Rattle.lists.proofs.Lists.{keep_same, keep_append}
 use Rattle.lists.proofs.Runs.{up_to-last, up_to-none, up_to-each}
 use Rattle.rules.specs.Grid.{GridPoint}
 use Rattle.plan.specs.declared.region.Span.{Span}
-use Rattle.plan.specs.declared.region.Region.{Region}
-use Rattle.witness.specs.declared.look.Place.{Place}
+use Rattle.plan.specs.Triples.{Region}
 use Rattle.witness.specs.declared.look.Seen.{Seen}
-use Rattle.witness.specs.Witness.{no_block}
-use Rattle.witness.specs.Steps.{far, placed, inside, holds_at, next_of, nearer_of, nearest, first_look, counted, passed, looked_of, look_to, owners_at, RightAt}
+use Rattle.std.specs.Prelude.{slice_get, Some}
+use Rattle.std.specs.Option.{option_or, option_and}
+use Rattle.witness.specs.Steps.{far, Place, placed, inside, holds_at, next_of, nearer_of, nearest, first_look, counted, passed, looked_of, look_to, owners_at, RightAt}
 use Rattle.witness.proofs.Tested.{looked-next}
 
 -- ---- one span
@@ -169,18 +169,13 @@ module _ (rs : ℕ → Region) (w : Region) (p : Place) (along : Place → ℕ) 
 -- ---- the owners that are seen
 
 abbrev pub Counts : Seen → List ℕ → Type 0
-Counts l os = (l.owners ≡ length os) × (l.first ≡ get_or os 0 no_block) × (l.second ≡ get_or os 1 no_block)
+Counts l os = (l.first ≡ slice_get os 0) × (l.second ≡ slice_get os 1)
 
 count-more : (l : Seen) (os : List ℕ) (i : ℕ) (n : Place) (t : Bool) → Counts l os → Counts (cond t (counted l i n) (passed l n)) (os ++ cond t (i ∷ []) [])
-unfolding counted
 count-more l os i n false h = rw (append-nil os) h
-count-more l [] i n true h = rw h.0 (refl, refl, h.2)
-count-more l (x ∷ []) i n true h = rw h.0 (refl, h.1, refl)
-count-more l (x ∷ y ∷ os) i n true h =
-    rw (ne_eqb l.owners 0 (λ e. omega (arith, h.0)), ne_eqb l.owners 1 (λ e. omega (arith, h.0))) (longer, h.1, h.2)
-  where
-    longer : l.owners + 1 ≡ suc (suc (length (os ++ (i ∷ []))))
-    longer = simp length-append (omega (arith, h.0))
+count-more l [] i n true h = (λ j. option_or (h.0 j) (Some i), λ j. option_or (h.1 j) (option_and (h.0 j) (Some i)))
+count-more l (x ∷ []) i n true h = (λ j. option_or (h.0 j) (Some i), λ j. option_or (h.1 j) (option_and (h.0 j) (Some i)))
+count-more l (x ∷ y ∷ os) i n true h = (λ j. option_or (h.0 j) (Some i), λ j. option_or (h.1 j) (option_and (h.0 j) (Some i)))
 
 module _ (rs : ℕ → Region) (w : Region) (p : Place) where
   abbrev owns : ℕ → Bool
@@ -192,7 +187,7 @@ module _ (rs : ℕ → Region) (w : Region) (p : Place) where
 
   pub seen-counts : (n : ℕ) → Counts (look_to rs (first_look w p) p n) (owners_at rs n w (placed p))
   unfolding look_to looked_of keep
-  seen-counts zero = rw (up_to-none 0 0 (omega arith)) (refl, refl, refl)
+  seen-counts zero = rw (up_to-none 0 0 (omega arith)) (refl, refl)
   seen-counts (suc n) =
       let l = look_to rs (first_look w p) p n in
       subst (Counts (look_to rs (first_look w p) p (suc n))) (sym (owners-more n))

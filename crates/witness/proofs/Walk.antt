@@ -3,22 +3,24 @@
 use Prim.Native.Nat.{ℕ, ◌+◌, ◌-◌, ◌*◌, ◌≤◌, ◌<◌}
 use native.Mathlib.Omega.{arith}
 use mathlib.Core.Bool.{Bool, true, false, not, ◌&&◌, ◌||◌, cond}
+use mathlib.Core.List.{List, [], ◌∷◌}
 use mathlib.Core.Logic.{◌⊎◌, inl, inr}
 use mathlib.Core.Path.{◌≡◌, refl, sym, ap, subst, ◌∙◌}
 use borrow.Author.Tests.{ltb-true, ltb-false}
-use lib.Dec.{T, ltb, eqb, eqb→eq, T_not}
-use lib.Ieee.Fits.{and_l, and_r, eq→eqb}
+use lib.Dec.{T, ltb}
+use lib.Ieee.Fits.{and_l, and_r}
 use lib.ListN.{length}
 use Rattle.lists.specs.Lists.{one}
 use Rattle.lists.proofs.Tests.{is_false, less-or-not, below-high}
 use Rattle.lists.proofs.Lists.{keep-none}
 use Rattle.lists.proofs.Runs.{up_to-each}
 use Rattle.rules.specs.Grid.{GridPoint}
-use Rattle.plan.specs.declared.region.Region.{Region}
-use Rattle.witness.specs.declared.look.Place.{Place}
+use Rattle.plan.specs.Triples.{Region}
 use Rattle.witness.specs.declared.look.Seen.{Seen}
+use Rattle.std.specs.Prelude.{Option, Some, None, is_some, slice_get}
+use Rattle.witness.specs.declared.axis.Axis.{Axis as Way}
 use Rattle.witness.specs.Witness.{Earlier}
-use Rattle.witness.specs.Steps.{far, placed, inside, holds_at, first_look, look_to, wrong_in, more, goes_on, moved_to, owners_at, RightAt, Searched}
+use Rattle.witness.specs.Steps.{far, Place, Near, placed, inside, holds_at, first_look, look_to, wrong_in, more, goes_on, moved_to, owners_at, RightAt, Searched}
 use Rattle.witness.proofs.Still.{at, still-x, still-y, still-z, less-x, less-y, less-z, past-x, past-y, past-z, right-still, seen-past, seen-counts}
 
 -- ---- far out there is nothing
@@ -47,17 +49,30 @@ out_of r q b o = is_false (X && (Y && Z)) (no o)
     no (inr (inl h)) t = omega (arith, below-high r.y.from r.y.to q.y (and_l Y Z (and_r X (Y && Z) t)))
     no (inr (inr h)) t = omega (arith, below-high r.z.from r.z.to q.z (and_r Y Z (and_r X (Y && Z) t)))
 
-not-not : (b : Bool) → T (not (not b)) → T b
-not-not true t = tt
-not-not false t = t
+-- ---- what the first two owners say
+
+-- an edge that the whole owns, or not, by its owners: of one or none no second is seen
+abbrev wrong_by : Bool → Option ℕ → Option ℕ → Bool
+wrong_by i first second = cond i (not (is_some first) || is_some second) (is_some first)
+
+right-by : (i : Bool) (os : List ℕ) → T (not (wrong_by i (slice_get os 0) (slice_get os 1))) → length os ≡ one i
+right-by true [] t = absurd t
+right-by true (x ∷ []) t = refl
+right-by true (x ∷ y ∷ os) t = absurd t
+right-by false [] t = refl
+right-by false (x ∷ os) t = absurd t
+
+by-right : (i : Bool) (os : List ℕ) → T (wrong_by i (slice_get os 0) (slice_get os 1)) → length os ≡ one i → ⊥
+by-right true [] t e = omega (arith, e)
+by-right true (x ∷ []) t e = t
+by-right true (x ∷ y ∷ os) t e = omega (arith, e)
+by-right false [] t e = t
+by-right false (x ∷ os) t e = omega (arith, e)
 
 -- ---- the measure
 
 abbrev pub left : Place → ℕ
 left p = (far - p.z) * 1125899906842624 + (far - p.y) * 33554432 + (far - p.x)
-
-abbrev pub Near : Place → Type 0
-Near p = (p.x < far) × (p.y < far) × (p.z < far)
 
 falls : (n p : Place) → Near p → p.x < n.x → p.y < n.y → p.z < n.z → T (more n) → Near (moved_to n p) × (left (moved_to n p) < left p)
 unfolding moved_to
@@ -93,21 +108,15 @@ module _ (rs : ℕ → Region) (n : ℕ) (w : Region) (bounds : (i : ℕ) → i 
   seen p = look_to rs (first_look w p) p n
 
   -- what is seen says whether the edge is right
-  not-wrong : (p : Place) → T (not (wrong_in (seen p) w p)) → Right (placed p)
+  seen-wrong : (p : Place) → wrong_in (seen p) w p ≡ wrong_by (inside w (placed p)) (slice_get (owners_at rs n w (placed p)) 0) (slice_get (owners_at rs n w (placed p)) 1)
   unfolding wrong_in
-  not-wrong p t = go (inside w (placed p)) t
-    where
-      go : (i : Bool) → T (not (cond i (not (eqb (seen p).owners 1)) (not (eqb (seen p).owners 0)))) → length (owners_at rs n w (placed p)) ≡ one i
-      go true t = sym (seen-counts rs w p n).0 ∙ eqb→eq (seen p).owners 1 (not-not (eqb (seen p).owners 1) t)
-      go false t = sym (seen-counts rs w p n).0 ∙ eqb→eq (seen p).owners 0 (not-not (eqb (seen p).owners 0) t)
+  seen-wrong p = λ i. wrong_by (inside w (placed p)) ((seen-counts rs w p n).0 i) ((seen-counts rs w p n).1 i)
+
+  not-wrong : (p : Place) → T (not (wrong_in (seen p) w p)) → Right (placed p)
+  not-wrong p t = right-by (inside w (placed p)) (owners_at rs n w (placed p)) (subst (λ (b : Bool). T (not b)) (seen-wrong p) t)
 
   is-wrong : (p : Place) → T (wrong_in (seen p) w p) → Right (placed p) → ⊥
-  unfolding wrong_in
-  is-wrong p t r = go (inside w (placed p)) t r
-    where
-      go : (i : Bool) → T (cond i (not (eqb (seen p).owners 1)) (not (eqb (seen p).owners 0))) → length (owners_at rs n w (placed p)) ≡ one i → ⊥
-      go true t r = T_not (eqb (seen p).owners 1) t (eq→eqb ((seen-counts rs w p n).0 ∙ r))
-      go false t r = T_not (eqb (seen p).owners 0) t (eq→eqb ((seen-counts rs w p n).0 ∙ r))
+  is-wrong p t = by-right (inside w (placed p)) (owners_at rs n w (placed p)) (subst T (seen-wrong p) t)
 
   module _ (p : Place) (before : BeforeRight rs n w p) (here : Right (placed p)) where
     abbrev N : Place
@@ -217,37 +226,41 @@ module _ (rs : ℕ → Region) (n : ℕ) (w : Region) (bounds : (i : ℕ) → i 
       subst (λ (q : Place). Near q × BeforeRight rs n w q × (left q < left p)) (sym (f ∙ ap (λ (m : Seen). moved_to m.next p) e))
       (stepped p h b (subst T (sym (sym (ap (λ (m : Seen). goes_on m w p) e) ∙ t)) tt))
 
-  pub ended : (p : Place) (l : Seen) (wrong : Bool) → l ≡ seen p → goes_on l w p ≡ false → wrong ≡ wrong_in l w p → Near p → BeforeRight rs n w p
-      → Searched rs n w (record { wrong = wrong; at = p; first = l.first; second = l.second })
-  unfolding goes_on
-  ended p l wrong e t f h b =
+  module _ (p : Place) (before : BeforeRight rs n w p) (near : Near p) (way : Way) where
+    no_more : (a b : Bool) → a ≡ false → (not a && b) ≡ false → b ≡ false
+    no_more true b u g = absurd (subst T u tt)
+    no_more false b u g = g
+
+    none-left : wrong_in (seen p) w p ≡ false → goes_on (seen p) w p ≡ false → (q : GridPoint) → Right q
+    unfolding goes_on
+    none-left u stops = go (ltb (seen p).next.x far) refl (ltb (seen p).next.y far) refl (ltb (seen p).next.z far) refl
+        (no_more (wrong_in (seen p) w p) (more (seen p).next) u stops)
+      where
+        go : (i : Bool) → ltb (seen p).next.x far ≡ i → (j : Bool) → ltb (seen p).next.y far ≡ j → (k : Bool) → ltb (seen p).next.z far ≡ k
+            → (i || (j || k)) ≡ false → (q : GridPoint) → Right q
+        go true ei j ej k ek g = absurd (subst T g tt)
+        go false ei true ej k ek g = absurd (subst T g tt)
+        go false ei false ej true ek g = absurd (subst T g tt)
+        go false ei false ej false ek g =
+            all_right p before (not-wrong p (subst (λ (c : Bool). T (not c)) (sym u) tt)) (ltb-false (seen p).next.x far ei) (ltb-false (seen p).next.y far ej)
+            (ltb-false (seen p).next.z far ek)
+
+    stopped : (t : Bool) → wrong_in (seen p) w p ≡ t → goes_on (seen p) w p ≡ false
+        → Searched rs n w way (cond t (Some (record { axis = way; at = p; first = (seen p).first; second = (seen p).second })) None)
+    stopped true u stops = (
+      refl,
       record {
-        near = h;
-        wrong = λ u. is-wrong p (subst T is u);
-        before = λ u. b;
-        first = ap (λ (m : Seen). m.first) e ∙ (seen-counts rs w p n).1;
-        second = ap (λ (m : Seen). m.second) e ∙ (seen-counts rs w p n).2;
-        none = λ u. none (subst (λ (c : Bool). T (not c)) is u);
-      }
-    where
-      is : wrong ≡ wrong_in (seen p) w p
-      is = f ∙ ap (λ (m : Seen). wrong_in m w p) e
+        near = near;
+        wrong = is-wrong p (subst T (sym u) tt);
+        before = before;
+        first = (seen-counts rs w p n).0;
+        second = (seen-counts rs w p n).1;
+      },
+    )
+    stopped false u stops = none-left u stops
 
-      stops : (not (wrong_in (seen p) w p) && more (seen p).next) ≡ false
-      stops = sym (ap (λ (m : Seen). not (wrong_in m w p) && more m.next) e) ∙ t
-
-      no_more : (a b : Bool) → T a → (a && b) ≡ false → b ≡ false
-      no_more true b u g = g
-      no_more false b u g = absurd u
-
-      none : T (not (wrong_in (seen p) w p)) → (q : GridPoint) → Right q
-      none u = go (ltb (seen p).next.x far) refl (ltb (seen p).next.y far) refl (ltb (seen p).next.z far) refl
-          (no_more (not (wrong_in (seen p) w p)) (more (seen p).next) u stops)
-        where
-          go : (i : Bool) → ltb (seen p).next.x far ≡ i → (j : Bool) → ltb (seen p).next.y far ≡ j → (k : Bool) → ltb (seen p).next.z far ≡ k
-              → (i || (j || k)) ≡ false → (q : GridPoint) → Right q
-          go true ei j ej k ek g = absurd (subst T g tt)
-          go false ei true ej k ek g = absurd (subst T g tt)
-          go false ei false ej true ek g = absurd (subst T g tt)
-          go false ei false ej false ek g =
-              all_right p b (not-wrong p u) (ltb-false (seen p).next.x far ei) (ltb-false (seen p).next.y far ej) (ltb-false (seen p).next.z far ek)
+    pub ended : (l : Seen) (t : Bool) → l ≡ seen p → wrong_in l w p ≡ t → goes_on l w p ≡ false
+        → Searched rs n w way (cond t (Some (record { axis = way; at = p; first = l.first; second = l.second })) None)
+    ended l t e u stops =
+        subst (λ (m : Seen). Searched rs n w way (cond t (Some (record { axis = way; at = p; first = m.first; second = m.second })) None)) (sym e)
+        (stopped t (sym (ap (λ (m : Seen). wrong_in m w p) e) ∙ u) (sym (ap (λ (m : Seen). goes_on m w p) e) ∙ stops))

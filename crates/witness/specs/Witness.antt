@@ -1,12 +1,14 @@
 -- Document 02, request 10, where a plan is checked with no: the first edge at which blocks are no plan, the first two blocks that own it, and the answers.
 -- Definitions only. Assumes nothing.
-use Rattle.std.specs.Prelude.{ℕ, ◌+◌, ◌*◌, ◌/◌, ◌%◌, ◌<◌, Bool, not, cond, List, [], ◌∷◌, map, ◌⊎◌, ◌≡◌, eqb, length, get_or}
+use Rattle.std.specs.Prelude.{ℕ, ◌+◌, ◌*◌, ◌/◌, ◌%◌, ◌<◌, Bool, not, cond, List, [], ◌∷◌, map, ◌⊎◌, ◌≡◌, eqb, length, get_or, Result, Ok, Err}
 use Rattle.lists.specs.Lists.{one, up_to, keep}
 use Rattle.rules.specs.Grid.{GridPoint, Axis, axis_x, axis_y, axis_z}
 use Rattle.rules.specs.Faces.{Edge, owned}
 use Rattle.rules.specs.Cutting.{Piece, Plan}
 use Rattle.plan.specs.declared.Block.{Block}
-use Rattle.plan.specs.Plan.{piece, block, plan_answer}
+use Rattle.plan.specs.Plan.{piece, block, plan_answer, refusal_number}
+use Rattle.witness.specs.declared.words.NoEdge.{NoEdge}
+use Rattle.witness.specs.declared.words.NoEdge.TheVariants.{NotInTwelves, Refused, Planned}
 
 -- ---- blocks as words, twelve each: dimensions, which are not read, min, max and the max plane's flags, of which any word but 0 is set
 
@@ -66,6 +68,17 @@ pub record FirstWrong (blocks : ℕ → Piece) (n : ℕ) (whole : Piece) (e : Ed
 -- 40: the words are not in twelves; and else check_plan's, 41 or 42; or 0
 unfoldable pub refusal : List ℕ → Piece → ℕ
 refusal words whole = cond (eqb (length words % 12) 0) (plan_answer (pieces_in words) whole) 40
+
+-- why no edge is told, by its number
+abbrev pub reason_number : NoEdge → ℕ
+reason_number NotInTwelves = 40
+reason_number (Refused why) = refusal_number why
+reason_number Planned = 43
+
+-- the answer number of a result: 0, or why no edge is told
+abbrev pub outcome_number : {A : Type 0} → Result A NoEdge → ℕ
+outcome_number (Ok _) = 0
+outcome_number (Err reason) = reason_number reason
 
 -- in the place of a block's number
 abbrev pub no_block : ℕ

@@ -1,66 +1,55 @@
 // The first wrong edge of all: the x edges, then the y edges, then the z edges.
-ghost use Rattle.std.specs.Prelude.{◌≡◌};
+ghost use Rattle.std.specs.Prelude.{◌≡◌, length};
 ghost use Rattle.plan.specs.Plan.{piece};
-ghost use Rattle.witness.specs.Witness.{piece_in, Tells};
-ghost use Rattle.witness.specs.Told.{NearAll, words_told, Names};
-ghost use Rattle.witness.specs.Steps.{Good};
+ghost use Rattle.witness.specs.Witness.{piece_in, Tells, outcome_number};
+ghost use Rattle.witness.specs.Told.{words_told, Names};
+ghost use Rattle.witness.specs.Steps.{piece_at, Good, Near};
 
-use crate::search::{Found, search};
-use crate::words::{block_in, refusal};
+use crate::axis::Axis;
+use crate::search::{Wrong, search};
+use crate::words::{NoEdge, blocks_of};
 use plan::Block;
+use plan::as_block::AsBlock;
 
-#[derive(Clone, Copy)]
-struct Told {
-    pub axis: u32,
-    pub found: Found,
+// In the place of a block's number: none.
+const NO_BLOCK: u32 = 4294967295;
+
+fn first_wrong(blocks: &[[u32; 12]], whole: Block) -> Option<Wrong>
+    requires { Good blocks.now whole }
+    ensures { Names (piece_at blocks.now) (length blocks.now) (piece whole) result }
+{
+    if let Some(wrong) = search(blocks, whole, Axis::X) {
+        return Some(wrong);
+    }
+    if let Some(wrong) = search(blocks, whole, Axis::Y) {
+        return Some(wrong);
+    }
+    search(blocks, whole, Axis::Z)
 }
 
-fn first_wrong(words: &[u32], n: usize, whole: Block) -> Told
-    requires { Good words.now n whole }
-    ensures { Names (piece_in words.now) n (piece whole) result }
+fn edge_words(wrong: Wrong) -> [u32; 6]
+    requires { Near wrong.at }
+    ensures { result ≡ words_told wrong }
 {
-    let x = search(words, n, whole, 0);
-    if x.wrong {
-        return Told { axis: 0, found: x };
-    }
-    let y = search(words, n, whole, 1);
-    if y.wrong {
-        return Told { axis: 1, found: y };
-    }
-    let z = search(words, n, whole, 2);
-    Told { axis: 2, found: z }
-}
-
-fn edge_words(t: Told) -> [u32; 6]
-    requires { NearAll t }
-    ensures { result ≡ words_told t }
-{
-    let found = t.found;
-    let at = found.at;
+    let at = wrong.at;
     [
-        t.axis,
+        wrong.axis.into(),
         at.x as u32,
         at.y as u32,
         at.z as u32,
-        found.first,
-        found.second,
+        wrong.first.unwrap_or(NO_BLOCK),
+        wrong.second.unwrap_or(NO_BLOCK),
     ]
 }
 
-// 0 with the edge told: its axis, 0, 1 or 2, its lowest point, and the numbers of the first and the second block that own it, 4,294,967,295 for none.
-// 43 where the blocks are a plan; and 40, 41 or 42, refused. Every answer but 0 changes nothing.
-pub fn plan_witness(words: &[u32], whole: &[u32; 12], edge: &mut [u32; 6]) -> u32
-    ensures { Tells words.now (piece_in whole.now 0) result edge.old edge.new }
+// The edge told: its axis, 0, 1 or 2, its lowest point, and the numbers of the first and the second block that own it, 4,294,967,295 for none. Where none is
+// told, nothing is changed.
+pub fn plan_witness(words: &[u32], whole: &[u32; 12], edge: &mut [u32; 6]) -> Result<(), NoEdge>
+    ensures { Tells words.now (piece_in whole.now 0) (outcome_number result) edge.old edge.new }
 {
-    let w = block_in(whole, 0);
-    let answer = refusal(words, w);
-    if answer != 0 {
-        return answer;
-    }
-    let t = first_wrong(words, words.len() / 12, w);
-    if !t.found.wrong {
-        return 43;
-    }
-    *edge = edge_words(t);
-    0
+    let whole = whole.block();
+    let blocks = blocks_of(words, whole)?;
+    let wrong = first_wrong(blocks, whole).ok_or(NoEdge::Planned)?;
+    *edge = edge_words(wrong);
+    Ok(())
 }

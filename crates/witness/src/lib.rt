@@ -4,8 +4,10 @@
 #![tactic(auto)]
 
 mod axes;
+mod axis;
 mod look;
 mod search;
 mod words;
 
 pub use axes::plan_witness;
+pub use words::NoEdge;

@@ -1,45 +1,24 @@
-// What is seen from one point: how many blocks own the edge there, the first two of them, and on each axis how far nothing changes.
-ghost use Rattle.std.specs.Prelude.{◌≡◌, ◌≤◌, ◌<◌};
-ghost use Rattle.witness.specs.Witness.{block_in};
-ghost use Rattle.witness.specs.Steps.{region_of, placed, inside, holds_at, next_of, nearer_of, nearest, first_look, looked_of, look_to, Room};
+// What is seen from one point: the first two blocks that own the edge there, and on each axis how far nothing changes.
+ghost use Rattle.std.specs.Prelude.{◌≡◌, ◌≤◌, length};
+ghost use Rattle.witness.specs.Steps.{blocks_on, placed, inside, holds_at, next_of, nearer_of, nearest, first_look, looked_of, look_to};
 
-use crate::words::block_in;
-use plan::Block;
-use plan::region::{Region, Span, owned_by};
+use crate::axis::{Axis, region_on};
+use plan::as_block::AsBlock;
+use plan::region::{Region, Span};
+use plan::triple::Triple;
 
 // No corner of an accepted block lies so far out.
 pub(crate) const FAR: u64 = 33554432;
-// No block.
-pub(crate) const NO_BLOCK: u32 = 4294967295;
 
-#[derive(Clone, Copy)]
-pub(crate) struct Place {
-    pub x: u64,
-    pub y: u64,
-    pub z: u64,
-}
+// A point.
+pub(crate) type Place = Triple<u64>;
 
 // `next`: on x the next point at which a block begins or ends that has this y and z; on y one that has this z; on z any. FAR where there is none.
-#[derive(Clone, Copy)]
+#[derive(Clone, Copy, Debug, PartialEq, Eq)]
 pub(crate) struct Seen {
-    pub owners: usize,
-    pub first: u32,
-    pub second: u32,
+    pub first: Option<u32>,
+    pub second: Option<u32>,
     pub next: Place,
-}
-
-// The lowest points of the edges on an axis, 0, 1 or else 2, that a block owns.
-pub(crate) fn region_on(b: Block, axis: u32) -> Region
-    ensures { result ≡ region_of axis b }
-{
-    let own = owned_by(b);
-    if axis == 0 {
-        return own.x;
-    }
-    if axis == 1 {
-        return own.y;
-    }
-    own.z
 }
 
 fn holds(s: Span, k: u64) -> bool
@@ -48,6 +27,7 @@ fn holds(s: Span, k: u64) -> bool
     (s.from <= k) & (k < s.to)
 }
 
+#[tactic(auto, unfolding(crate::specs::Steps::inside))]
 pub(crate) fn has(r: Region, p: Place) -> bool
     ensures { result ≡ inside r (placed p) }
 {
@@ -55,6 +35,7 @@ pub(crate) fn has(r: Region, p: Place) -> bool
 }
 
 // The end of a span that comes next after k.
+#[tactic(auto, unfolding(crate::specs::Steps::next_of))]
 fn next_of(s: Span, k: u64) -> u64
     ensures { result ≡ next_of s k }
 {
@@ -67,6 +48,7 @@ fn next_of(s: Span, k: u64) -> u64
     FAR
 }
 
+#[tactic(auto, unfolding(crate::specs::Steps::nearer_of))]
 fn nearer(counts: bool, s: Span, k: u64, so_far: u64) -> u64
     ensures { result ≡ nearer_of counts s k so_far }
 {
@@ -77,12 +59,13 @@ fn nearer(counts: bool, s: Span, k: u64, so_far: u64) -> u64
     so_far
 }
 
+#[tactic(auto, unfolding(crate::specs::Steps::nearest))]
 fn nearer_all(r: Region, p: Place, so_far: Place) -> Place
     ensures { result ≡ nearest r p so_far }
 {
     let in_y = holds(r.y, p.y);
     let in_z = holds(r.z, p.z);
-    Place {
+    Triple {
         x: nearer(in_y & in_z, r.x, p.x, so_far.x),
         y: nearer(in_z, r.y, p.y, so_far.y),
         z: nearer(true, r.z, p.z, so_far.z),
@@ -92,67 +75,41 @@ fn nearer_all(r: Region, p: Place, so_far: Place) -> Place
 fn first_look(whole: Region, p: Place) -> Seen
     ensures { result ≡ first_look whole p }
 {
-    let far = Place {
+    let far = Triple {
         x: FAR,
         y: FAR,
         z: FAR,
     };
-    let next = nearer_all(whole, p, far);
     Seen {
-        owners: 0,
-        first: NO_BLOCK,
-        second: NO_BLOCK,
-        next,
+        first: None,
+        second: None,
+        next: nearer_all(whole, p, far),
     }
 }
 
-// One block more.
-fn looked(l: Seen, i: usize, r: Region, p: Place) -> Seen
-    requires { (i < 200) × (l.owners ≤ i) }
+// One block more, the block number i.
+#[tactic(auto, unfolding(crate::specs::Steps::looked_of))]
+fn looked(l: Seen, i: u32, r: Region, p: Place) -> Seen
     ensures { result ≡ looked_of l i r p }
 {
-    let so_far = l.next;
-    let next = nearer_all(r, p, so_far);
+    let next = nearer_all(r, p, l.next);
     if !has(r, p) {
-        return Seen {
-            owners: l.owners,
-            first: l.first,
-            second: l.second,
-            next,
-        };
-    }
-    let number = i as u32;
-    if l.owners == 0 {
-        return Seen {
-            owners: 1,
-            first: number,
-            second: l.second,
-            next,
-        };
-    }
-    if l.owners == 1 {
-        return Seen {
-            owners: 2,
-            first: l.first,
-            second: number,
-            next,
-        };
+        return Seen { next, ..l };
     }
     Seen {
-        owners: l.owners + 1,
-        first: l.first,
-        second: l.second,
+        first: l.first.or(Some(i)),
+        second: l.second.or(l.first.and(Some(i))),
         next,
     }
 }
 
-pub(crate) fn look(words: &[u32], n: usize, whole: Region, axis: u32, p: Place) -> Seen
-    requires { Room words.now n }
-    ensures { result ≡ look_to (λ i. region_of axis (block_in words.now i)) (first_look whole p) p n }
+pub(crate) fn look(blocks: &[[u32; 12]], whole: Region, axis: Axis, p: Place) -> Seen
+    requires { length blocks.now ≤ 200 }
+    ensures { result ≡ look_to (blocks_on axis blocks.now) (first_look whole p) p (length blocks.now) }
 {
     let mut l = first_look(whole, p);
-    for i in 0usize..n {
-        l = looked(l, i, region_on(block_in(words, i), axis), p);
+    for (i, words) in blocks.iter().enumerate() {
+        l = looked(l, i as u32, region_on(words.block(), axis), p);
     }
     l
 }

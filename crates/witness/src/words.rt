@@ -1,55 +1,50 @@
-// Blocks as words: twelve each, dimensions that are not read, min, max and the max plane's flags, of which any word but 0 is set. And what is refused.
-ghost use Rattle.std.specs.Prelude.{◌≡◌, ◌||◌, ◌+◌, ◌*◌, ◌≤◌, length};
-ghost use Rattle.lists.specs.Lists.{some, up_to};
-ghost use Rattle.plan.specs.Plan.{piece, bad_block};
-ghost use Rattle.witness.specs.Witness.{block_in, refusal};
-ghost use Rattle.witness.specs.Steps.{Room};
+// Blocks as words, twelve each, and why no edge is told.
+ghost use Rattle.std.specs.Prelude.{◌≡◌, IfOk};
+ghost use Rattle.std.specs.Simd.{first_chunks};
+ghost use Rattle.plan.specs.Plan.{piece};
+ghost use Rattle.witness.specs.declared.words.NoEdge.TheVariants.{Refused};
+ghost use Rattle.witness.specs.Witness.{count_in, refusal, reason_number, outcome_number};
 
 use plan::Block;
-use plan::progress::bad_block;
+use plan::refusal::{Refusal, accept};
 
-// The block number i.
-pub(crate) fn block_in(words: &[u32], i: usize) -> Block
-    requires { 12 * i + 12 ≤ length words.now }
-    ensures { result ≡ block_in words.now i }
-{
-    Block {
-        min_x: words[12 * i + 3],
-        min_y: words[12 * i + 4],
-        min_z: words[12 * i + 5],
-        max_x: words[12 * i + 6],
-        max_y: words[12 * i + 7],
-        max_z: words[12 * i + 8],
-        max_plane_x: words[12 * i + 9] != 0,
-        max_plane_y: words[12 * i + 10] != 0,
-        max_plane_z: words[12 * i + 11] != 0,
+// Why no edge is told, by the answer numbers 40, 41 or 42, and 43: the words are not in twelves, the plan is refused, or the blocks are a plan.
+#[derive(Clone, Copy, Debug, PartialEq, Eq)]
+pub enum NoEdge {
+    NotInTwelves,
+    Refused(Refusal),
+    Planned,
+}
+
+impl From<Refusal> for NoEdge {
+    ghost from_gives = { λ why reason. reason ≡ Refused why };
+
+    fn from(why: Refusal) -> NoEdge {
+        NoEdge::Refused(why)
     }
 }
 
-fn some_bad(words: &[u32], n: usize) -> bool
-    requires { Room words.now n }
-    ensures { result ≡ some (λ i. bad_block (block_in words.now i)) (up_to 0 n) }
-{
-    let mut bad = false;
-    for i in 0usize..n {
-        bad = bad | bad_block(block_in(words, i));
+impl From<NoEdge> for u32 {
+    ghost from_gives = { λ reason number. number ≡ reason_number reason };
+
+    fn from(reason: NoEdge) -> u32 {
+        match reason {
+            NoEdge::NotInTwelves => 40,
+            NoEdge::Refused(why) => why.into(),
+            NoEdge::Planned => 43,
+        }
     }
-    bad
 }
 
-// 40, 41 or 42, or 0.
-pub(crate) fn refusal(words: &[u32], whole: Block) -> u32
-    ensures { result ≡ refusal words.now (piece whole) }
+// The blocks of the words, or 40, 41 or 42.
+pub(crate) fn blocks_of(words: &[u32], whole: Block) -> Result<&[[u32; 12]], NoEdge>
+    ensures number { outcome_number result ≡ refusal words.now (piece whole) }
+    ensures blocks { IfOk result (λ blocks. blocks.now ≡ first_chunks 12 (count_in words.now) words.now) }
 {
-    if words.len() % 12 != 0 {
-        return 40;
+    let (blocks, rest) = words.as_chunks::<12>();
+    if !rest.is_empty() {
+        return Err(NoEdge::NotInTwelves);
     }
-    let n = words.len() / 12;
-    if 200 < n {
-        return 41;
-    }
-    if bad_block(whole) | some_bad(words, n) {
-        return 42;
-    }
-    0
+    accept(blocks, whole)?;
+    Ok(blocks)
 }

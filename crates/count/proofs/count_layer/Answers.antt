@@ -4,4 +4,4 @@ use Rattle.grid.proofs.Layers.{somewhere}
 use Rattle.count.proofs.count_layer.Goals as goal
 
 pub overflow_sub-points : goal.overflow_sub-points
-overflow_sub-points c = (cell-spans (somewhere c.requires)).x.ordered
+overflow_sub-points g c = (cell-spans (somewhere c.requires)).x.ordered

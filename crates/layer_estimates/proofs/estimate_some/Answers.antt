@@ -7,7 +7,7 @@ use Rattle.layer_estimates.proofs.Reading.{vertices-at}
 use Rattle.layer_estimates.proofs.estimate_some.Goals as goal
 
 pub returns : goal.returns
-returns c =
+returns g c =
     let a = c.args in
     c.put.ensures
     ∙ ap (λ (vs : List Vertex). written a.place vs (lists a.positions.now a.normals.now a.crossings.now))

@@ -4,14 +4,13 @@ use mathlib.Core.Path.{◌≡◌}
 use lib.Seq.{sets}
 use Rattle.grid.specs.Corners.{side_between}
 use Rattle.grid.specs.Signs.{side_negatives}
-use Rattle.grid.specs.Values.{grid_of}
 use Rattle.layer_vertices.specs.Cells.{classes}
 use Rattle.layer_vertices.proofs.class_row.Given as goal
 
 abbrev pub invariant-loop-j : goal.invariant-loop-j
-invariant-loop-j l = let lower = grid_of l.width l.lower l.lower16 l.lower8 in
-    let upper = grid_of l.width l.upper l.upper16 l.upper8 in
+invariant-loop-j g l = let lower = g.D.Distance.floats l.lower in
+    let upper = g.D.Distance.floats l.upper in
     (l.j ≤ l.n) × (l.low ≤ 4) × (l.low ≡ side_negatives (side_between lower upper (l.at + l.j) l.row)) × (l.map ≡ sets l.initial.map l.at (classes lower upper l.at l.row l.j))
 
 abbrev pub decreases-loop-j : goal.decreases-loop-j
-decreases-loop-j l = l.n - l.j
+decreases-loop-j g l = l.n - l.j

@@ -12,12 +12,12 @@ returns c =
     let e = c.surface_nets-answer.ensures in
     let r =
     settled (call_of a.sdf.now a.k) a.asked
-    (lent-list c.marked_floats-positions.ensures c.lent-a.ensures.value)
-    (lent-list c.marked_floats-normals.ensures c.lent-b.ensures.value)
-    (lent-list c.marked_words-cells.ensures c.lent-c.ensures.value)
-    (lent-list c.marked_words-strides.ensures c.lent-d.ensures.value)
-    (lent-list c.marked_bytes-crossings.ensures c.lent-e.ensures.value)
-    (lent-list c.marked_words-map.ensures c.lent-f.ensures.value)
-    (lent-list c.marked_words-indices.ensures c.lent-g.ensures.value)
+    (lent-list c.marked-positions.ensures c.lent-a.ensures.value)
+    (lent-list c.marked-normals.ensures c.lent-b.ensures.value)
+    (lent-list c.marked-cells.ensures c.lent-c.ensures.value)
+    (lent-list c.marked-strides.ensures c.lent-d.ensures.value)
+    (lent-list c.marked-crossings.ensures c.lent-e.ensures.value)
+    (lent-list c.marked-map.ensures c.lent-f.ensures.value)
+    (lent-list c.marked-indices.ensures c.lent-g.ensures.value)
     e.result_value e.indices_value
     in record { answer_value = r.0; lists_value = r.1 }

@@ -1,41 +1,43 @@
 -- `mesh_file::check_all` meets its contract. The invariant is `SoFar`: so many vertices and triangles and no fault yet. A record that is not refused
 -- is whole, so the place stays inside the file.
 -- Assumes nothing.
-use borrow.Author.Rules.{rules}
-use native.Mathlib.Omega.{arith}
-use Prim.Native.Nat.{◌+◌, ◌≤◌}
-use mathlib.Core.Path.{sym, ap, ◌∙◌}
-use lib.ListN.{length}
-use Rattle.mesh_file.specs.Reading.{after, checked}
-use Rattle.mesh_file.proofs.Progressing.{good-whole, vertex-next, triangle-next, closed-read, refused-read}
+use Rattle.std.proofs.Common.{◌+◌, ◌≤◌, length, refl, sym, ap, zero-le, arith}
+use Rattle.std.proofs.lemmas.Result.{err_from_is_err_and}
+use Rattle.mesh_file.specs.Reading.{checked}
+use Rattle.mesh_file.proofs.Progressing.{after_none, good-whole, vertex-next, triangle-next, closed-read, refused-read}
 use Rattle.mesh_file.proofs.check_all.Goals as goal
 use Rattle.mesh_file.proofs.check_all.Goals.{in-Vertex, in-Triangle}
 
-pub loop-vertices-init : goal.loop-vertices-init
-unfolding after
-loop-vertices-init c = search rules
+pub loop-counts-init : goal.loop-counts-init
+loop-counts-init c = (refl, zero-le, after_none _)
+
+pub returns-in_err-step_at : goal.returns-in_err-step_at
+returns-in_err-step_at c =
+    let p = err_from_is_err_and c.from_residual.result c.from_residual.ensures.1 in
+    rw (p.1, p.2) (ap checked (sym (refused-read _ _ _ _ _ c.loop-counts.invariant c.in_err-step_at.ensures)))
 
 pub returns-in-Closed : goal.returns-in-Closed
 returns-in-Closed c =
-    ap checked (sym (closed-read _ _ _ _ c.loop-vertices.invariant c.in-Closed.ensures))
+    let s = rw c.in-Closed.is at c.in_ok-step_at.ensures in
+    ap checked (sym (closed-read _ _ _ _ c.loop-counts.invariant s))
 
-pub returns-in-Refused : goal.returns-in-Refused
-returns-in-Refused c =
-    c.refusal.ensures ∙ ap checked (sym
-    (refused-read _ _ _ _ _ c.loop-vertices.invariant
-    c.in-Refused.ensures))
-
-pub loop-vertices-smaller : goal.loop-vertices-smaller
-loop-vertices-smaller c =
+pub loop-counts-smaller : goal.loop-counts-smaller
+loop-counts-smaller c =
     let a = c.args.src.now in
-    let l = c.loop-vertices in
-    let h : l.at + 32 ≤ length a = elim c.match-step_at.branch [ in-Vertex w ↦ good-whole _ _ _ _ 0 w.in-Vertex.ensures | in-Triangle w ↦ good-whole _ _ _ _ 1 w.in-Triangle.ensures ] in
+    let l = c.loop-counts in
+    let s = c.in_ok-step_at.ensures in
+    let h : l.at + 32 ≤ length a =
+    elim c.match-branch-2.branch [
+      | in-Vertex w ↦ good-whole _ _ _ _ 0 (rw w.in-Vertex.is at s)
+      | in-Triangle w ↦ good-whole _ _ _ _ 1 (rw w.in-Triangle.is at s)
+    ] in
     omega arith
 
-pub loop-vertices-preserved : goal.loop-vertices-preserved
-loop-vertices-preserved c =
-    let i = c.loop-vertices.invariant in
-    elim c.match-step_at.branch [
-      | in-Vertex w ↦ rw (w.vertices-is, w.triangles-is) (vertex-next _ _ _ _ i w.in-Vertex.ensures)
-      | in-Triangle w ↦ rw (w.vertices-is, w.triangles-is) (triangle-next _ _ _ _ i w.in-Triangle.ensures)
+pub loop-counts-preserved : goal.loop-counts-preserved
+loop-counts-preserved c =
+    let i = c.loop-counts.invariant in
+    let s = c.in_ok-step_at.ensures in
+    elim c.match-branch-2.branch [
+      | in-Vertex w ↦ rw w.counts-is (vertex-next _ _ _ _ i (rw w.in-Vertex.is at s))
+      | in-Triangle w ↦ rw w.counts-is (triangle-next _ _ _ _ i (rw w.in-Triangle.is at s))
     ]

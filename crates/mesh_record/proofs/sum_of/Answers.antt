@@ -1,12 +1,10 @@
--- `mesh_record::sum_of` meets its contract. Six sums modulo 2^32 are the sum of seven modulo 2^32 (`sum-seven`).
--- Assumes nothing.
-use Rattle.std.proofs.Common.{◌^◌}
-use Rattle.mesh_record.proofs.OneWord.{sum-seven}
-use Rattle.mesh_record.specs.Record.{sum_of, total}
+-- `mesh_record::sum_of` meets its contract. Sums modulo 2^32, one word after the other, are the sum of all modulo 2^32 (`fold-sum`). Assumes nothing.
+use Rattle.std.proofs.Common.{rules, ◌≡◌, ◌+◌, ◌%◌, ◌^◌, ◌∙◌}
+use Rattle.std.specs.List.{fold}
+use Rattle.mesh_record.proofs.OneWord.{fold-sum}
 use Rattle.mesh_record.proofs.sum_of.Goals as goal
 
 pub returns : goal.returns
-unfolding sum_of total
 returns c =
-    let a = c.args in
-    cc (sum-seven (2 ^ 32) a.kind a.a a.b a.c a.d a.e a.f)
+    let e : c.fold.result ≡ fold (λ s w. (s + w) % 2 ^ 32) 0 c.args.words.now = search rules in
+    e ∙ fold-sum _

@@ -1,16 +1,14 @@
--- `sign_words::below_mask` meets its contract: no bit where n is not past the word's first place, all where it is past the last, and else as many as n is past the
--- first. Assumes nothing.
+-- `sign_words::below_mask` meets its contract: as many bits as n is past the word's first place, and all where it is past the last. Assumes nothing.
 use Prim.Native.Nat.{◌*◌}
 use native.Mathlib.Omega.{arith}
-use mathlib.Core.Path.{sym}
-use Rattle.sign_words.proofs.Word.{word-past, word-within, bit_below}
+use mathlib.Core.Path.{sym, ap, ◌∙◌}
+use Prim.Native.Nat.{ℕ, ◌-◌, ◌%◌, ◌^◌}
+use Rattle.sign_words.proofs.Word.{word-within, bit_below}
 use Rattle.sign_words.proofs.below_mask.Goals as goal
 
-pub returns-then-n-from : goal.returns-then-n-from
-returns-then-n-from c = sym (word-past c.args.n (64 * c.args.i) 64 (omega arith))
+pub returns-then-places-lt64 : goal.returns-then-places-lt64
+returns-then-places-lt64 c =
+    ap (λ (k : ℕ). 1 * 2 ^ k % 18446744073709551616 - 1) c.saturating_sub-places.ensures ∙ bit_below c.args.n (64 * c.args.i) (omega arith)
 
-pub returns-then-from-n : goal.returns-then-from-n
-returns-then-from-n c = sym (word-within c.args.n (64 * c.args.i) 64 (omega arith))
-
-pub returns : goal.returns
-returns c = bit_below c.args.n (64 * c.args.i) (omega arith) (omega arith)
+pub returns-else-places-lt64 : goal.returns-else-places-lt64
+returns-else-places-lt64 c = sym (word-within c.args.n (64 * c.args.i) 64 (omega arith))

@@ -7,9 +7,9 @@ use mir.Val.{Fits}
 use Rattle.rules.specs.Grid.{Field}
 use Rattle.grid.specs.Block.{box_of, flags_of}
 use Rattle.grid.specs.Layers.{two_layers}
-use Rattle.grid.specs.Values.{grid_of}
 use Rattle.tally.specs.Call.{counted}
 use Rattle.tally.proofs.Boxes.{layer-tally, Few, layer-few}
+use Rattle.tally.proofs.with_layer.Given.{Over}
 use Rattle.tally.proofs.with_layer.Goals as goal
 use Rattle.tally.proofs.with_layer.Goals.{After-whole_layer-whole, Start}
 
@@ -19,35 +19,35 @@ fit n m h l = omega arith
 wide : (m : ℕ) → m ≤ 1073741824 → m ≤ 19327352832
 wide m h = omega arith
 
-abbrev field_of : After-whole_layer-whole → Field
-field_of c =
+abbrev field_of : (g : Over) → After-whole_layer-whole g → Field
+field_of g c =
     let a = c.args in
-    two_layers (grid_of a.width a.below.now a.below16.now a.below8.now) (grid_of a.width a.layer.now a.layer16.now a.layer8.now) a.k a.z
+    two_layers (g.D.Distance.floats a.below.now) (g.D.Distance.floats a.layer.now) a.k a.z
 
-few : (c : After-whole_layer-whole) → Few c.whole_layer-whole.result c.count_layer-t.result.vertices c.count_layer-t.result.indices
-few c = layer-few c.requires.in_layers (field_of c) c.whole_layer-whole.ensures c.count_layer-t.ensures
+few : (g : Over) (c : After-whole_layer-whole g) → Few c.whole_layer-whole.result c.count_layer-t.result.vertices c.count_layer-t.result.indices
+few g c = layer-few c.requires.in_layers (field_of g c) c.whole_layer-whole.ensures c.count_layer-t.ensures
 
-abbrev field_of-2 : Start → Field
-field_of-2 c =
+abbrev field_of-2 : (g : Over) → Start g → Field
+field_of-2 g c =
     let a = c.args in
-    two_layers (grid_of a.width a.below.now a.below16.now a.below8.now) (grid_of a.width a.layer.now a.layer16.now a.layer8.now) a.k a.z
+    two_layers (g.D.Distance.floats a.below.now) (g.D.Distance.floats a.layer.now) a.k a.z
 
 pub overflow_add-cells : goal.overflow_add-cells
-overflow_add-cells c =
-    fit _ _ c.requires.so_far_bound.0 (wide _ (few (goal.at.overflow_add-cells c).After-whole_layer-whole).whole)
+overflow_add-cells g c =
+    fit _ _ c.requires.so_far_bound.0 (wide _ (few g (goal.at.overflow_add-cells g c).After-whole_layer-whole).whole)
 
 pub overflow_add-vertices : goal.overflow_add-vertices
-overflow_add-vertices c =
-    fit _ _ c.requires.so_far_bound.1.0 (wide _ (few (goal.at.overflow_add-vertices c).After-whole_layer-whole).vertices)
+overflow_add-vertices g c =
+    fit _ _ c.requires.so_far_bound.1.0 (wide _ (few g (goal.at.overflow_add-vertices g c).After-whole_layer-whole).vertices)
 
 pub overflow_add-indices : goal.overflow_add-indices
-overflow_add-indices c =
-    fit _ _ c.requires.so_far_bound.1.1 (few (goal.at.overflow_add-indices c).After-whole_layer-whole).indices
+overflow_add-indices g c =
+    fit _ _ c.requires.so_far_bound.1.1 (few g (goal.at.overflow_add-indices g c).After-whole_layer-whole).indices
 
 pub returns : goal.returns
-returns c =
+returns g c =
     let k = c.args.k in
     let o = c.args.so_far in
     let a = c.whole_layer-whole.ensures in
-    let t = c.count_layer-t.ensures ∙ layer-tally (field_of-2 (goal.at.returns c).Start) (box_of k) (flags_of k) c.args.z in
+    let t = c.count_layer-t.ensures ∙ layer-tally (field_of-2 g (goal.at.returns g c).Start) (box_of k) (flags_of k) c.args.z in
     λ i. counted (o.whole + a i) (o.vertices + (t i).vertices) (o.indices + (t i).indices)

@@ -1,32 +1,43 @@
 -- The invariant: the first z layers are stored. Assumes nothing.
-use Prim.Native.Nat.{ℕ, ◌+◌, ◌*◌, ◌<◌}
-use mathlib.Core.Path.{sym, ap, ◌∙◌}
+use Prim.Native.Nat.{ℕ, ◌+◌, ◌-◌, ◌*◌, ◌<◌}
+use mathlib.Core.Path.{◌≡◌, sym, ap, ◌∙◌}
 use native.Mathlib.Nat.{mul-zero, mul-pos}
 use native.Mathlib.Omega.{arith}
 use lib.Ieee.{Float}
+use lib.ListN.{take, drop}
 use lib.Seq.{sets}
-use Rattle.grid.specs.Values.{grid_of}
 use Rattle.closing.specs.Runs.{spread, layer_value, layers_value}
+use Rattle.grid.proofs.Places.{part-of-grid}
+use Rattle.closing.proofs.Borders.{layer-part}
 use Rattle.closing.proofs.Spread.{stored-none, stored-block}
+use Rattle.closing.proofs.runs.close_planes.Given.{Over}
 use Rattle.closing.proofs.runs.close_planes.Goals as goal
 use Rattle.closing.proofs.runs.close_planes.Goals.{Start}
 
-abbrev layers-of : Start → ℕ → Float
-layers-of c = let a = c.args in layers_value (grid_of a.width a.sdf.now a.sdf16.now a.sdf8.now) a.wall a.n a.m
+abbrev layers-of : (g : Over) → Start g → ℕ → Float
+layers-of g c = let a = c.args in layers_value (g.D.Distance.floats a.sdf.now) a.wall a.n a.m
 
-abbrev plane-of : Start → ℕ
-plane-of c = let a = c.args in (a.n + 3) * (a.m + 3)
+abbrev plane-of : (g : Over) → Start g → ℕ
+plane-of g c = let a = c.args in (a.n + 3) * (a.m + 3)
 
-abbrev layer-of : Start → ℕ → ℕ → Float
-layer-of c z = let a = c.args in layer_value (grid_of a.width a.sdf.now a.sdf16.now a.sdf8.now) a.wall a.n a.m (a.n * a.m * z)
+abbrev layer-of : (g : Over) → Start g → ℕ → ℕ → Float
+layer-of g c z = let a = c.args in layer_value (g.D.Distance.floats a.sdf.now) a.wall a.n a.m (a.n * a.m * z)
 
 pub loop-z-init : goal.loop-z-init
-loop-z-init c =
+loop-z-init g c =
     let a = c.args in
-    (omega arith, stored-none a.closed.now a.at (layers-of (goal.at.loop-z-init c).Start) ∙ ap (λ (k : ℕ). sets a.closed.now a.at (spread (layers-of (goal.at.loop-z-init c).Start) k)) (sym (mul-zero (plane-of (goal.at.loop-z-init c).Start))))
+    (omega arith, stored-none a.closed.now a.at (layers-of g (goal.at.loop-z-init g c).Start) ∙ ap (λ (k : ℕ). sets a.closed.now a.at (spread (layers-of g (goal.at.loop-z-init g c).Start) k)) (sym (mul-zero (plane-of g (goal.at.loop-z-init g c).Start))))
 
 pub loop-z-preserved : goal.loop-z-preserved
-loop-z-preserved c =
+loop-z-preserved g c =
     let a = c.args in
-    let some : 0 < plane-of (goal.at.loop-z-preserved c).Start = mul-pos (omega arith) (omega arith) in
-    (omega arith, stored-block a.closed.now a.at (layer-of (goal.at.loop-z-preserved c).Start) (plane-of (goal.at.loop-z-preserved c).Start) c.loop-z.z some c.loop-z.invariant.1 c.close_plane.ensures)
+    let grid = g.D.Distance.floats a.sdf.now in
+    let z = c.loop-z.z in
+    let s = a.n * a.m in
+    let first = s * z in
+    let some : first + s - first ≡ s = omega arith in
+    let part = part-of-grid g.met.D.Distance.floats_are a.sdf.now first (first + s) ∙ ap (λ (n : ℕ). take n (drop first grid)) some in
+    let plane = plane-of g (goal.at.loop-z-preserved g c).Start in
+    let layer = c.close_plane.ensures ∙ ap (sets c.loop-z.closed (a.at + plane * z)) (layer-part grid a.wall first a.n a.m plane part) in
+    let above : 0 < plane = mul-pos (omega arith) (omega arith) in
+    (omega arith, stored-block a.closed.now a.at (layer-of g (goal.at.loop-z-preserved g c).Start) plane z above c.loop-z.invariant.1 layer)

@@ -2,9 +2,8 @@
 use Prim.Native.Nat.{◌+◌, ◌*◌, ◌≤◌}
 use mathlib.Core.Path.{◌≡◌}
 use lib.Seq.{sets}
-use Rattle.grid.specs.Values.{grid_of}
 use Rattle.closing.specs.Runs.{spread, layers_value}
 use Rattle.closing.proofs.runs.close_planes.Given as goal
 
 abbrev pub invariant-loop-z : goal.invariant-loop-z
-invariant-loop-z l = (l.z ≤ l.l) × (l.closed ≡ sets l.initial.closed l.at (spread (layers_value (grid_of l.width l.sdf l.sdf16 l.sdf8) l.wall l.n l.m) ((l.n + 3) * (l.m + 3) * l.z)))
+invariant-loop-z g l = (l.z ≤ l.l) × (l.closed ≡ sets l.initial.closed l.at (spread (layers_value (g.D.Distance.floats l.sdf) l.wall l.n l.m) ((l.n + 3) * (l.m + 3) * l.z)))

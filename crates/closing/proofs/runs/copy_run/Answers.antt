@@ -1,19 +1,24 @@
 -- The invariant: the first j distances are stored. Assumes nothing.
-use Prim.Native.Nat.{ℕ, ◌+◌}
-use native.Mathlib.Omega.{arith}
+use Rattle.std.proofs.Common.{◌≡◌, ◌+◌, ◌<◌, List, [], ◌∷◌, length, take, arith, sym, ap, ap₂, ◌∙◌}
+use Rattle.std.proofs.lemmas.List.{take_more}
 use lib.Ieee.{Float, nan}
-use lib.ListN.{get_or}
-use Rattle.grid.specs.Values.{grid_of}
-use Rattle.closing.proofs.Spread.{stored-none, stored_more}
+use lib.ListN.{set}
+use lib.Seq.{sets, length-take-le}
+use Rattle.stores.proofs.Runs.{sets-on}
+use Rattle.grid.proofs.Places.{as-long, float-at}
 use Rattle.closing.proofs.runs.copy_run.Goals as goal
-use Rattle.closing.proofs.runs.copy_run.Goals.{Start}
-
-abbrev source_of : Start → ℕ → Float
-source_of c x = let a = c.args in get_or (grid_of a.width a.sdf.now a.sdf16.now a.sdf8.now) (a.from + x) nan
-
-pub loop-j-init : goal.loop-j-init
-loop-j-init c = (omega arith, stored-none c.args.closed.now c.args.at (source_of (goal.at.loop-j-init c).Start))
 
 pub loop-j-preserved : goal.loop-j-preserved
-loop-j-preserved c =
-    (omega arith, stored_more c.args.closed.now c.args.at (source_of (goal.at.loop-j-preserved c).Start) c.loop-j.j c.loop-j.invariant.1 c.value_at.ensures)
+loop-j-preserved g c =
+    let are = g.met.D.Distance.floats_are in
+    let run = c.args.run.now in
+    let floats = g.D.Distance.floats run in
+    let w = c.loop-j in
+    let within : w.j < length floats = omega (arith, as-long are run, c.loop-j-test.true) in
+    let read = c.float.ensures ∙ float-at are run c.index-run-j.result nan within c.index-run-j.is in
+    let place : c.args.at + w.j ≡ c.args.at + length (take w.j floats) = omega (arith, length-take-le w.j floats (omega (arith, within))) in (
+      omega (arith, c.loop-j-test.true),
+      ap₂ (λ (l : List Float) (x : Float). set l (c.args.at + w.j) x) w.invariant.1 read
+          ∙ sets-on c.args.closed.now c.args.at (c.args.at + w.j) (take w.j floats) (_ ∷ []) place
+          ∙ ap (sets c.args.closed.now c.args.at) (sym (take_more floats w.j nan within)),
+    )

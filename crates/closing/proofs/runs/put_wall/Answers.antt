@@ -1,14 +1,13 @@
--- The invariant: the first j numbers are stored. Assumes nothing.
-use mathlib.Core.Path.{refl}
-use native.Mathlib.Omega.{arith}
-use Rattle.closing.proofs.Spread.{stored-none, stored_more}
+-- The part is filled, and it is so many numbers long. Assumes nothing.
+use Rattle.std.proofs.Common.{◌+◌, ◌-◌, ℕ, arith, sym, ap, ◌∙◌}
+use lib.ListN.{replicate}
+use Rattle.closing.specs.Runs.{spread}
+use Rattle.closing.proofs.Spread.{spread-one, length-spread, put-part, part-long}
 use Rattle.closing.proofs.runs.put_wall.Goals as goal
 
-pub loop-j-init : goal.loop-j-init
-loop-j-init c = let a = c.args in (omega arith, stored-none a.closed.now a.at (λ _. a.wall))
-
-pub loop-j-preserved : goal.loop-j-preserved
-loop-j-preserved c =
+pub returns : goal.returns
+returns c =
     let a = c.args in
-    let w = c.loop-j in
-    (omega arith, stored_more a.closed.now a.at (λ _. a.wall) w.j w.invariant.1 refl)
+    let l = a.closed.now in
+    let filled = c.fill.ensures.after (λ y e. e) ∙ ap (λ (k : ℕ). replicate k a.wall) (part-long l a.at a.n c.requires) ∙ sym (spread-one a.wall a.n) in
+    put-part l (spread (λ _. a.wall) a.n) c.fill.new.self a.at (a.at + a.n - a.at) a.n filled (omega arith) (sym (length-spread (λ _. a.wall) a.n)) c.requires

@@ -14,4 +14,4 @@ pub returns-clause-point_value : goal.returns-clause-point_value
 unfolding centroid
 returns-clause-point_value c =
     let sums = c.sum_of_edge_intersections-c.ensures in
-    c.divide-point.ensures ∙ ap₂ divided sums.sum_value (c.nearest_u32_to_f32.ensures ∙ ap float sums.count_value)
+    c.div-point.ensures ∙ ap₂ divided sums.sum_value (c.nearest_u32_to_f32.ensures ∙ ap float sums.count_value)

@@ -9,11 +9,11 @@ use Rattle.cube.proofs.Taking.{many-turn, sum-turn}
 use Rattle.cube.proofs.Answer.{not-crossed, crossed}
 use Rattle.cube.proofs.centroid.sum_of_edge_intersections.Invariants.{count_to, sum_to}
 use Rattle.cube.proofs.centroid.sum_of_edge_intersections.Goals as goal
-use Rattle.cube.proofs.centroid.sum_of_edge_intersections.Goals.{in-No, in-At}
+use Rattle.cube.proofs.centroid.sum_of_edge_intersections.Goals.{in-Some, in_default}
 
 pub loop-e-init : goal.loop-e-init
 unfolding many keep summed of_bits
-loop-e-init c = (omega arith, omega arith, refl, refl)
+loop-e-init c = record { few = omega arith; sum_is = refl; count_is = refl }
 
 pub loop-e-preserved : goal.loop-e-preserved
 loop-e-preserved c =
@@ -24,36 +24,32 @@ loop-e-preserved c =
     let from = c.first_end-a.ensures.0 in
     let to = c.second_end-b.ensures.0 in
     let found = c.estimate_surface_edge_intersection.result in
-    let told = c.estimate_surface_edge_intersection.ensures in (
-      omega arith,
-      elim c.match-estimate_surface_edge_intersection.branch [ in-No w ↦ omega arith | in-At w ↦ omega arith ],
-      elim c.match-estimate_surface_edge_intersection.branch [
-        | in-No w ↦
-            sum-turn (crosses d) (cube_edge 0 0) (crossing_point d) zero_vector cube_edges e false h inv.2 (not-crossed d (edge_at e) found from to told w.in-No.is)
-            (ap vector w.sum-is)
-        | in-At w ↦
-            let at = crossed d (edge_at e) found from to told w.in-At.f w.in-At.is in
-            sum-turn (crosses d) (cube_edge 0 0) (crossing_point d) zero_vector cube_edges e true h inv.2 at.0
-            (ap vector w.sum-is ∙ (w.add-sum.ensures ∙ ap (plus (vector c.loop-e.sum)) (w.point_between.ensures ∙ at.1)))
-      ],
-      elim c.match-estimate_surface_edge_intersection.branch [
-        | in-No w ↦
-            many-turn (crosses d) (cube_edge 0 0) cube_edges e false h inv.3 (not-crossed d (edge_at e) found from to told w.in-No.is) (w.count-is ∙ sym (add-zero _))
-        | in-At w ↦
-            many-turn (crosses d) (cube_edge 0 0) cube_edges e true h inv.3 (crossed d (edge_at e) found from to told w.in-At.f w.in-At.is).0 w.count-is
-      ],
-    )
+    let told = c.estimate_surface_edge_intersection.ensures in
+    elim c.match-estimate_surface_edge_intersection.branch [
+      | in-Some w ↦
+          let at = crossed d (edge_at e) found from to told w.in-Some.f w.in-Some.is in
+          record {
+            few = omega arith;
+            sum_is =
+                sum-turn (crosses d) (cube_edge 0 0) (crossing_point d) zero_vector cube_edges e true h inv.sum_is at.0
+                (ap vector w.sum-is ∙ (w.add-sum.ensures ∙ ap (plus (vector c.loop-e.sum)) (w.point_between.ensures ∙ at.1)));
+            count_is = many-turn (crosses d) (cube_edge 0 0) cube_edges e true h inv.count_is at.0 w.count-is;
+          }
+      | in_default w ↦
+          let none = not-crossed d (edge_at e) found from to told w.in_default.not-Some in
+          record {
+            few = omega arith;
+            sum_is = sum-turn (crosses d) (cube_edge 0 0) (crossing_point d) zero_vector cube_edges e false h inv.sum_is none (ap vector w.sum-is);
+            count_is = many-turn (crosses d) (cube_edge 0 0) cube_edges e false h inv.count_is none (w.count-is ∙ sym (add-zero _));
+          }
+    ]
 
 pub returns-clause-sum_value : goal.returns-clause-sum_value
 unfolding crossing_points crossings
 returns-clause-sum_value c =
-    let d = c.args.d.now in
-    let inv = c.loop-e.invariant in
-    let done : c.loop-e.e ≡ 12 = omega arith in inv.2 ∙ ap (sum_to d) done
+    let done : c.loop-e.e ≡ 12 = omega arith in c.loop-e.invariant.sum_is ∙ ap (sum_to c.args.d.now) done
 
 pub returns-clause-count_value : goal.returns-clause-count_value
 unfolding crossing_points crossings
 returns-clause-count_value c =
-    let d = c.args.d.now in
-    let inv = c.loop-e.invariant in
-    let done : c.loop-e.e ≡ 12 = omega arith in inv.3 ∙ ap (count_to d) done
+    let done : c.loop-e.e ≡ 12 = omega arith in c.loop-e.invariant.count_is ∙ ap (count_to c.args.d.now) done

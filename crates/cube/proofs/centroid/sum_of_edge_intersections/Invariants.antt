@@ -1,6 +1,6 @@
 -- `cube::centroid::sum_of_edge_intersections` meets its contract. The invariant: the sum and the count are those of the edges passed.
 -- Assumes nothing.
-use Rattle.std.proofs.Common.{◌≡◌, ℕ, ◌-◌, ◌≤◌, List, map, take}
+use Rattle.std.proofs.Common.{◌≡◌, ℕ, ◌≤◌, List, map, take}
 use lib.Ieee.{Float}
 use Rattle.lists.specs.Lists.{many, keep}
 use Rattle.rules.specs.Cell.{Vector, cube_edges, crosses, crossing_point, zero_vector, summed}
@@ -15,7 +15,4 @@ abbrev pub count_to : List Float → ℕ → ℕ
 count_to d e = many (crosses d) (take e cube_edges)
 
 abbrev pub invariant-loop-e : goal.invariant-loop-e
-invariant-loop-e l = (l.e ≤ 12) × (l.count ≤ l.e) × (vector l.sum ≡ sum_to l.d l.e) × (l.count ≡ count_to l.d l.e)
-
-abbrev pub decreases-loop-e : goal.decreases-loop-e
-decreases-loop-e l = 12 - l.e
+invariant-loop-e l = record { few : l.count ≤ l.e; sum_is : vector l.sum ≡ sum_to l.d l.e; count_is : l.count ≡ count_to l.d l.e }

@@ -2,11 +2,10 @@
 use Prim.Native.Nat.{◌≤◌, ◌-◌}
 use mathlib.Core.Path.{◌≡◌}
 use Rattle.grid.specs.Inside.{bad_run}
-use Rattle.grid.specs.Values.{grid_of}
 use Rattle.grid.proofs.scan.bad_row.Given as goal
 
 abbrev pub invariant-loop-j : goal.invariant-loop-j
-invariant-loop-j l = (l.j ≤ l.n) × (l.bad ≡ bad_run (grid_of l.width l.sdf l.sdf16 l.sdf8) l.at l.j)
+invariant-loop-j g l = (l.j ≤ l.n) × (l.bad ≡ bad_run (g.D.Distance.floats l.sdf) l.at l.j)
 
 abbrev pub decreases-loop-j : goal.decreases-loop-j
-decreases-loop-j l = l.n - l.j
+decreases-loop-j g l = l.n - l.j

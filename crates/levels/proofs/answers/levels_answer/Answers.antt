@@ -1,53 +1,55 @@
 -- `levels::answers::levels_answer` meets its contract: at each return the tests that led there say which condition answers. Assumes nothing.
-use Rattle.std.proofs.Common.{◌≡◌, false, List, length, sym, ◌∙◌, le_trans, le_of_eq, le_refl}
+use Rattle.std.proofs.Common.{◌≡◌, false, List, length, ap, sym, ◌∙◌, le_trans, le_of_eq, le_refl}
 use lib.Ieee.{Float}
 use Rattle.rules.specs.Call.{bad_distance}
 use Rattle.grid.specs.Block.{point, box_of, field_of}
-use Rattle.grid.specs.Values.{grid_of}
-use Rattle.grid.proofs.Faults.{Faultless, no-fault, faultless-inside}
+use Rattle.grid.proofs.Faults.{Faultless, no-fault, faultless-inside, fault-some, fault-of-floats, err-is}
+use Rattle.levels.specs.Answers.{answer_of}
 use Rattle.levels.proofs.Layers.{roomy-in}
 use Rattle.levels.proofs.Answering.{levels-fault, levels-5, levels-78, levels-0}
+use Rattle.levels.proofs.answers.levels_answer.Given.{Over}
 use Rattle.levels.proofs.answers.levels_answer.Goals as goal
-use Rattle.levels.proofs.answers.levels_answer.Goals.{Else-bad_distance, Else-fault-ne0, Start}
+use Rattle.levels.proofs.answers.levels_answer.Goals.{Else-bad_distance, In_ok-first_fault, Start}
 
-abbrev grid-of : Start → List Float
-grid-of c = let a = c.args in grid_of a.width a.sdf.now a.sdf16.now a.sdf8.now
+abbrev grid-of : (g : Over) → Start g → List Float
+grid-of g c = let a = c.args in g.D.Distance.floats a.sdf.now
 
-abbrev grid-of-2 : Else-fault-ne0 → List Float
-grid-of-2 c = let a = c.args in grid_of a.width a.sdf.now a.sdf16.now a.sdf8.now
+faultless : (g : Over) (c : In_ok-first_fault g) → let k = c.args.k in Faultless (point k.dims) (box_of k) (length (g.D.Distance.floats c.args.sdf.now))
+faultless g c =
+    let a = c.args in
+    no-fault _ _ _ (sym (c.in_ok-first_fault.ensures ∙ fault-of-floats g.met.D.Distance.floats_are a.sdf.now (point a.k.dims) (box_of a.k)))
 
-faultless : (c : Else-fault-ne0) → Faultless (point c.args.k.dims) (box_of c.args.k) (length (grid-of-2 c))
-faultless c = no-fault _ _ _ (sym c.first_fault_of-fault.ensures.value ∙ c.if-fault-ne0.false)
+abbrev grid-of-3 : (g : Over) → Else-bad_distance g → List Float
+grid-of-3 g c = let a = c.args in g.D.Distance.floats a.sdf.now
 
-abbrev grid-of-3 : Else-bad_distance → List Float
-grid-of-3 c = let a = c.args in grid_of a.width a.sdf.now a.sdf16.now a.sdf8.now
+fine : (g : Over) (c : Else-bad_distance g) → bad_distance (field_of (grid-of-3 g c) c.args.k) (box_of c.args.k) ≡ false
+fine g c = sym c.bad_distance.ensures ∙ c.if-bad_distance.false
 
-fine : (c : Else-bad_distance) → bad_distance (field_of (grid-of-3 c) c.args.k) (box_of c.args.k) ≡ false
-fine c = sym c.bad_distance.ensures ∙ c.if-bad_distance.false
+pub returns-in_err-first_fault : goal.returns-in_err-first_fault
+returns-in_err-first_fault g c =
+    let a = c.args in
+    let e = c.in_err-first_fault.ensures ∙ fault-of-floats g.met.D.Distance.floats_are a.sdf.now (point a.k.dims) (box_of a.k) in
+    ap answer_of (err-is c.from_residual.result c.from_residual.ensures.1) ∙ e
+    ∙ levels-fault (g.D.Distance.floats a.sdf.now) (point a.k.dims) (box_of a.k) a.room (fault-some c.in_err-first_fault.field-0.0 e)
 
-pub returns-then-fault-ne0 : goal.returns-then-fault-ne0
-returns-then-fault-ne0 c =
-    let e = c.first_fault_of-fault.ensures.value in
-    e ∙ levels-fault (grid-of (goal.at.returns-then-fault-ne0 c).Start) (point c.args.k.dims) (box_of c.args.k) c.args.room (λ z. c.if-fault-ne0.true (e ∙ z))
-
-pub bad_distance-requires-clause-inside : goal.bad_distance-requires-clause-inside
-bad_distance-requires-clause-inside c =
-    faultless-inside (grid-of (goal.at.bad_distance-requires-clause-inside c).Start) c.args.k (faultless c)
+pub bad_distance-requires : goal.bad_distance-requires
+bad_distance-requires g c =
+    faultless-inside (grid-of g (goal.at.bad_distance-requires g c).Start) c.args.k (faultless g c)
 
 pub returns-then-bad_distance : goal.returns-then-bad_distance
-returns-then-bad_distance c =
-    levels-5 (grid-of (goal.at.returns-then-bad_distance c).Start) (point c.args.k.dims) (box_of c.args.k) c.args.room (faultless (goal.at.returns-then-bad_distance c).Else-fault-ne0) (sym c.bad_distance.ensures ∙ c.if-bad_distance.true)
+returns-then-bad_distance g c =
+    levels-5 (grid-of g (goal.at.returns-then-bad_distance g c).Start) (point c.args.k.dims) (box_of c.args.k) c.args.room (faultless g (goal.at.returns-then-bad_distance g c).In_ok-first_fault) (sym c.bad_distance.ensures ∙ c.if-bad_distance.true)
 
 pub column_count-requires : goal.column_count-requires
-column_count-requires c =
-    roomy-in (grid-of (goal.at.column_count-requires c).Start) c.args.k (faultless-inside (grid-of (goal.at.column_count-requires c).Start) c.args.k (faultless (goal.at.column_count-requires c).Else-fault-ne0)) (le_refl _)
+column_count-requires g c =
+    roomy-in (grid-of g (goal.at.column_count-requires g c).Start) c.args.k (faultless-inside (grid-of g (goal.at.column_count-requires g c).Start) c.args.k (faultless g (goal.at.column_count-requires g c).In_ok-first_fault)) (le_refl _)
 
 pub returns-then-room-column_count : goal.returns-then-room-column_count
-returns-then-room-column_count c =
-    levels-78 (grid-of (goal.at.returns-then-room-column_count c).Start) (point c.args.k.dims) (box_of c.args.k) c.args.room (faultless (goal.at.returns-then-room-column_count c).Else-fault-ne0) (fine (goal.at.returns-then-room-column_count c).Else-bad_distance)
+returns-then-room-column_count g c =
+    levels-78 (grid-of g (goal.at.returns-then-room-column_count g c).Start) (point c.args.k.dims) (box_of c.args.k) c.args.room (faultless g (goal.at.returns-then-room-column_count g c).In_ok-first_fault) (fine g (goal.at.returns-then-room-column_count g c).Else-bad_distance)
     (le_trans c.if-room-column_count.true (le_of_eq c.column_count.ensures))
 
 pub returns : goal.returns
-returns c =
-    levels-0 (grid-of (goal.at.returns c).Start) (point c.args.k.dims) (box_of c.args.k) c.args.room (faultless (goal.at.returns c).Else-fault-ne0) (fine (goal.at.returns c).Else-bad_distance)
+returns g c =
+    levels-0 (grid-of g (goal.at.returns g c).Start) (point c.args.k.dims) (box_of c.args.k) c.args.room (faultless g (goal.at.returns g c).In_ok-first_fault) (fine g (goal.at.returns g c).Else-bad_distance)
     (le_trans (le_of_eq (sym c.column_count.ensures)) c.if-room-column_count.false)

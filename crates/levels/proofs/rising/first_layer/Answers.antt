@@ -1,10 +1,9 @@
 -- `levels::rising::first_layer` meets its contract: none so far, and then as if the layer stood on itself. Assumes nothing.
-use Rattle.grid.specs.Values.{grid_of}
 use Rattle.levels.proofs.Layers.{lowest-layer}
 use Rattle.levels.proofs.rising.first_layer.Goals as goal
 
 pub returns : goal.returns
-returns c =
+returns g c =
     let a = c.args in
-    lowest-layer a.k (grid_of a.width a.upper.now a.upper16.now a.upper8.now) a.b a.z a.out.now c.column_count-n.ensures
+    lowest-layer a.k (g.D.Distance.floats a.upper.now) a.b a.z a.out.now c.column_count-n.ensures
     c.clear.ensures c.rise_layer.ensures

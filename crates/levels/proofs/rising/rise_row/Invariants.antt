@@ -1,13 +1,12 @@
 -- `levels::rising::rise_row` meets its contract. The invariant: the row's first j columns are changed, and the rest are old. Assumes nothing.
 use Rattle.std.proofs.Common.{◌≡◌, ◌+◌, ◌-◌, ◌≤◌, length}
-use Rattle.grid.specs.Values.{grid_of}
 use Rattle.levels.specs.Columns.{changed}
 use Rattle.levels.specs.Fits.{row_step}
 use Rattle.levels.proofs.rising.rise_row.Given as goal
 
 abbrev pub invariant-loop-j : goal.invariant-loop-j
-invariant-loop-j l = (l.j ≤ l.n) × (length l.out ≡ length l.initial.out)
-    × (l.out ≡ changed (row_step (grid_of l.width l.lower l.lower16 l.lower8) (grid_of l.width l.upper l.upper16 l.upper8) l.a l.b l.z l.to) l.to (l.to + l.j) l.initial.out)
+invariant-loop-j g l = (l.j ≤ l.n) × (length l.out ≡ length l.initial.out)
+    × (l.out ≡ changed (row_step (g.D.Distance.floats l.lower) (g.D.Distance.floats l.upper) l.a l.b l.z l.to) l.to (l.to + l.j) l.initial.out)
 
 abbrev pub decreases-loop-j : goal.decreases-loop-j
-decreases-loop-j l = l.n - l.j
+decreases-loop-j g l = l.n - l.j

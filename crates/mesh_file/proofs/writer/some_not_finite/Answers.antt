@@ -1,24 +1,12 @@
--- `mesh_file::writer::some_not_finite` meets its contract. Nothing passed is what is looked for: the search of the whole is that of the rest.
--- Assumes nothing.
-use borrow.Author.Rules.{rules}
-use mathlib.Core.Path.{sym, ap, ◌∙◌}
-use mathlib.Core.Bool.{not}
-use lib.Ieee.{nan}
+-- `mesh_file::writer::some_not_finite` meets its contract. The chain's search is the definition's. Assumes nothing.
+use Rattle.std.proofs.Common.{rules, tests, ◌∙◌}
+use Rattle.std.proofs.lemmas.Iterator.{YieldsList-from_slice}
+use Rattle.std.proofs.lemmas.Iterator.Search.{any_from_yields_List}
 use Rattle.mesh_file.specs.Writing.{not_finite}
-use Rattle.lists.proofs.Searching.{some-found, some-passed, some-past}
+use Rattle.mesh_file.proofs.Searching.{any-some}
 use Rattle.mesh_file.proofs.writer.some_not_finite.Goals as goal
 
-pub returns-then-not-is_finite : goal.returns-then-not-is_finite
-returns-then-not-is_finite c =
-    sym (c.loop-i.invariant.1 ∙ some-found not_finite nan _ _ c.loop-i-test.true
-    (ap not (sym c.is_finite.ensures) ∙ ap not c.if-not-is_finite.true))
-
-pub loop-i-preserved : goal.loop-i-preserved
-loop-i-preserved c = (
-  search rules,
-  c.loop-i.invariant.1 ∙ some-passed not_finite nan _ _ c.loop-i-test.true
-      (ap not (sym c.is_finite.ensures) ∙ ap not c.if-not-is_finite.false),
-)
-
 pub returns : goal.returns
-returns c = sym (c.loop-i.invariant.1 ∙ some-past not_finite nan _ _ c.loop-i-test.false)
+returns c =
+    any_from_yields_List not_finite _ _ c.any.result c.any.ensures.ran (YieldsList-from_slice c.args.xs.now (cc)) (λ x b q k. search (rules, tests))
+    ∙ any-some not_finite c.args.xs.now

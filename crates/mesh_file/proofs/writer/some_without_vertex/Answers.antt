@@ -1,22 +1,13 @@
--- `mesh_file::writer::some_without_vertex` meets its contract. Nothing passed is what is looked for: the search of the whole is that of the rest.
--- Assumes nothing.
-use borrow.Author.Rules.{rules}
-use mathlib.Core.Path.{sym, ◌∙◌}
+-- `mesh_file::writer::some_without_vertex` meets its contract. The chain's search is the definition's. Assumes nothing.
+use Rattle.std.proofs.Common.{rules, tests, ◌∙◌}
+use Rattle.std.proofs.lemmas.Iterator.{YieldsList-from_slice}
+use Rattle.std.proofs.lemmas.Iterator.Search.{any_from_yields_List}
 use Rattle.mesh_file.specs.Writing.{no_vertex}
-use Rattle.lists.proofs.Searching.{some-found, some-passed, some-past}
+use Rattle.mesh_file.proofs.Searching.{any-some}
 use Rattle.mesh_file.proofs.writer.some_without_vertex.Goals as goal
 
-pub returns-then-no_vertex : goal.returns-then-no_vertex
-returns-then-no_vertex c =
-    sym (c.loop-i.invariant.1 ∙ some-found (no_vertex c.args.vertices) 0 _ _
-    c.loop-i-test.true (sym c.no_vertex.ensures ∙ c.if-no_vertex.true))
-
-pub loop-i-preserved : goal.loop-i-preserved
-loop-i-preserved c = (
-  search rules,
-  c.loop-i.invariant.1 ∙ some-passed (no_vertex c.args.vertices) 0 _ _
-      c.loop-i-test.true (sym c.no_vertex.ensures ∙ c.if-no_vertex.false),
-)
-
 pub returns : goal.returns
-returns c = sym (c.loop-i.invariant.1 ∙ some-past (no_vertex c.args.vertices) 0 _ _ c.loop-i-test.false)
+returns c =
+    let p = no_vertex c.args.vertices in
+    any_from_yields_List p _ _ c.any.result c.any.ensures.ran (YieldsList-from_slice c.args.indices.now (cc)) (λ x b q k. search (rules, tests))
+    ∙ any-some p c.args.indices.now

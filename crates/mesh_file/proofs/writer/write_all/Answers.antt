@@ -51,11 +51,11 @@ overflow_mul-t c = let l = lengths (goal.at.overflow_mul-t c).Start in omega ari
 pub overflow_add-v : goal.overflow_add-v
 overflow_add-v c = let l = lengths (goal.at.overflow_add-v c).Start in omega arith
 
-pub overflow_cast-v : goal.overflow_cast-v
-overflow_cast-v c = let l = lengths (goal.at.overflow_cast-v c).Start in omega arith
+pub overflow_cast-closing : goal.overflow_cast-closing
+overflow_cast-closing c = let l = lengths (goal.at.overflow_cast-closing c).Start in omega arith
 
-pub overflow_cast-t : goal.overflow_cast-t
-overflow_cast-t c = let l = lengths (goal.at.overflow_cast-t c).Start in omega arith
+pub overflow_cast-closing-2 : goal.overflow_cast-closing-2
+overflow_cast-closing-2 c = let l = lengths (goal.at.overflow_cast-closing-2 c).Start in omega arith
 
 pub write_record-requires : goal.write_record-requires
 write_record-requires c = let g = good (goal.at.write_record-requires c).Start in omega (arith, g.roomy)
@@ -70,5 +70,5 @@ write_vertices-requires-clause-n_in_bounds_2 c = let l = lengths (goal.at.write_
 pub write_vertices-requires-clause-n_in_bounds_3 : goal.write_vertices-requires-clause-n_in_bounds_3
 write_vertices-requires-clause-n_in_bounds_3 c = let g = good (goal.at.write_vertices-requires-clause-n_in_bounds_3 c).Start in omega (arith, g.roomy)
 
-pub write_triangles-requires-clause-n_in_bounds_2 : goal.write_triangles-requires-clause-n_in_bounds_2
-write_triangles-requires-clause-n_in_bounds_2 c = let g = good (goal.at.write_triangles-requires-clause-n_in_bounds_2 c).Start in omega (arith, g.roomy)
+pub write_triangles-requires : goal.write_triangles-requires
+write_triangles-requires c = let g = good (goal.at.write_triangles-requires c).Start in omega (arith, g.roomy)

@@ -2,23 +2,24 @@
 use Prim.Native.Nat.{◌+◌}
 use Rattle.grid.proofs.Walks.{Turn, turn, end_fits, scan-begun, scan-more, scan-ended, point-spans}
 use Rattle.skin.specs.Scan.{stray_box}
+use Rattle.skin.proofs.scan.stray_box.Given.{Over}
 use Rattle.skin.proofs.scan.stray_box.Goals as goal
 use Rattle.skin.proofs.scan.stray_box.Goals.{In-loop-z}
 
 -- the layer of a turn
-here : (c : In-loop-z) → let k = c.args.k in Turn k.low.z (k.high.z + 1) c.loop-z.z
-here c = turn (point-spans c.requires).z c.loop-z.invariant.count c.loop-z-test.true
+here : (g : Over) (c : In-loop-z g) → let k = c.args.k in Turn k.low.z (k.high.z + 1) c.loop-z.z
+here g c = turn (point-spans c.requires).z c.loop-z.invariant.count c.loop-z-test.true
 
 pub overflow_add-end : goal.overflow_add-end
-overflow_add-end c = end_fits (point-spans c.requires).z
+overflow_add-end g c = end_fits (point-spans c.requires).z
 
 pub loop-z-init : goal.loop-z-init
-loop-z-init c = scan-begun (point-spans c.requires).z
+loop-z-init g c = scan-begun (point-spans c.requires).z
 
 pub loop-z-preserved : goal.loop-z-preserved
-loop-z-preserved c =
-    scan-more c.loop-z.invariant (here (goal.at.loop-z-preserved c).In-loop-z) c.stray_layer.ensures c.either-stray.ensures
+loop-z-preserved g c =
+    scan-more c.loop-z.invariant (here g (goal.at.loop-z-preserved g c).In-loop-z) c.stray_layer.ensures c.either-stray.ensures
 
 pub returns : goal.returns
 unfolding stray_box
-returns c = scan-ended c.loop-z.invariant c.loop-z-test.false
+returns g c = scan-ended c.loop-z.invariant c.loop-z-test.false

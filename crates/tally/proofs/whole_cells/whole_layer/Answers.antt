@@ -9,63 +9,63 @@ use Rattle.rules.specs.Grid.{GridPoint}
 use Rattle.rules.specs.Vertices.{row_cells}
 use Rattle.grid.specs.Block.{box_of}
 use Rattle.grid.specs.Layers.{two_layers}
-use Rattle.grid.specs.Values.{grid_of}
 use Rattle.grid.specs.Order.{layer_to}
 use Rattle.grid.proofs.Walks.{AtRow, layer-done}
 use Rattle.grid.proofs.Order.{layer-begins}
 use Rattle.grid.proofs.LayerWalks.{row_of, layer-begun}
 use Rattle.tally.specs.Cells.{all_negative}
 use Rattle.tally.proofs.Boxes.{none_yet, More, more}
+use Rattle.tally.proofs.whole_cells.whole_layer.Given.{Over}
 use Rattle.tally.proofs.whole_cells.whole_layer.Goals as goal
 use Rattle.tally.proofs.whole_cells.whole_layer.Goals.{After-whole_row-one, In-loop-y, Start}
 
-abbrev lower_of : Start → List Float
-lower_of c = let a = c.args in grid_of a.width a.lower.now a.lower16.now a.lower8.now
+abbrev lower_of : (g : Over) → Start g → List Float
+lower_of g c = let a = c.args in g.D.Distance.floats a.lower.now
 
-abbrev upper_of : Start → List Float
-upper_of c = let a = c.args in grid_of a.width a.upper.now a.upper16.now a.upper8.now
-
--- the test that is counted
-abbrev test_of : Start → GridPoint → Bool
-test_of c = all_negative (two_layers (lower_of c) (upper_of c) c.args.k c.args.z)
-
-abbrev lower_of-2 : After-whole_row-one → List Float
-lower_of-2 c = let a = c.args in grid_of a.width a.lower.now a.lower16.now a.lower8.now
-
-abbrev upper_of-2 : After-whole_row-one → List Float
-upper_of-2 c = let a = c.args in grid_of a.width a.upper.now a.upper16.now a.upper8.now
+abbrev upper_of : (g : Over) → Start g → List Float
+upper_of g c = let a = c.args in g.D.Distance.floats a.upper.now
 
 -- the test that is counted
-abbrev test_of-2 : After-whole_row-one → GridPoint → Bool
-test_of-2 c = all_negative (two_layers (lower_of-2 c) (upper_of-2 c) c.args.k c.args.z)
+abbrev test_of : (g : Over) → Start g → GridPoint → Bool
+test_of g c = all_negative (two_layers (lower_of g c) (upper_of g c) c.args.k c.args.z)
+
+abbrev lower_of-2 : (g : Over) → After-whole_row-one g → List Float
+lower_of-2 g c = let a = c.args in g.D.Distance.floats a.lower.now
+
+abbrev upper_of-2 : (g : Over) → After-whole_row-one g → List Float
+upper_of-2 g c = let a = c.args in g.D.Distance.floats a.upper.now
+
+-- the test that is counted
+abbrev test_of-2 : (g : Over) → After-whole_row-one g → GridPoint → Bool
+test_of-2 g c = all_negative (two_layers (lower_of-2 g c) (upper_of-2 g c) c.args.k c.args.z)
 
 -- the row of a turn, and what it adds
-here : (c : After-whole_row-one) → let a = c.args in AtRow a.k a.z c.loop-y.y
-here c = row_of c.requires c.loop-y.invariant.0 c.loop-y-test.true
+here : (g : Over) (c : After-whole_row-one g) → let a = c.args in AtRow a.k a.z c.loop-y.y
+here g c = row_of c.requires c.loop-y.invariant.0 c.loop-y-test.true
 
-adds : (c : After-whole_row-one) → let a = c.args in
-    More (test_of-2 c) (layer_to (box_of a.k) a.z (c.loop-y.y + 1)) c.loop-y.count c.whole_row-one.result
-adds c =
+adds : (g : Over) (c : After-whole_row-one g) → let a = c.args in
+    More (test_of-2 g c) (layer_to (box_of a.k) a.z (c.loop-y.y + 1)) c.loop-y.count c.whole_row-one.result
+adds g c =
     let a = c.args in
-    let h = here c in
+    let h = here g c in
     more (layer_to (box_of a.k) a.z c.loop-y.y) (row_cells (box_of a.k) a.z c.loop-y.y) c.loop-y.invariant.1 c.whole_row-one.ensures h.grows h.short
 
 -- the row of a turn, and what it adds
-here-2 : (c : In-loop-y) → let a = c.args in AtRow a.k a.z c.loop-y.y
-here-2 c = row_of c.requires c.loop-y.invariant.0 c.loop-y-test.true
+here-2 : (g : Over) (c : In-loop-y g) → let a = c.args in AtRow a.k a.z c.loop-y.y
+here-2 g c = row_of c.requires c.loop-y.invariant.0 c.loop-y-test.true
 
 pub loop-y-init : goal.loop-y-init
-loop-y-init c =
-    (layer-begun c.requires, none_yet (test_of (goal.at.loop-y-init c).Start) (layer-begins (box_of c.args.k) c.args.z))
+loop-y-init g c =
+    (layer-begun c.requires, none_yet (test_of g (goal.at.loop-y-init g c).Start) (layer-begins (box_of c.args.k) c.args.z))
 
 pub overflow_add-count : goal.overflow_add-count
-overflow_add-count c = (adds c).fits
+overflow_add-count g c = (adds g c).fits
 
 pub loop-y-preserved : goal.loop-y-preserved
-loop-y-preserved c = ((here-2 (goal.at.loop-y-preserved c).In-loop-y).turn.next, (adds c).same)
+loop-y-preserved g c = ((here-2 g (goal.at.loop-y-preserved g c).In-loop-y).turn.next, (adds g c).same)
 
 pub returns : goal.returns
-returns c =
+returns g c =
     let a = c.args in
     let w = c.loop-y in
-    w.invariant.1 ∙ ap (many (test_of (goal.at.returns c).Start)) (layer-done a.k a.z w.invariant.0 c.loop-y-test.false)
+    w.invariant.1 ∙ ap (many (test_of g (goal.at.returns g c).Start)) (layer-done a.k a.z w.invariant.0 c.loop-y-test.false)

@@ -3,12 +3,11 @@ use Prim.Native.Nat.{◌≤◌, ◌+◌}
 use mathlib.Core.Path.{◌≡◌}
 use Rattle.grid.specs.Corners.{side_between}
 use Rattle.grid.specs.Signs.{side_negatives}
-use Rattle.grid.specs.Values.{grid_of}
 use Rattle.tally.specs.Runs.{whole_run}
 use Rattle.tally.proofs.whole_cells.whole_run.Given as goal
 
 abbrev pub invariant-loop-j : goal.invariant-loop-j
-invariant-loop-j l =
-    let lo = grid_of l.width l.lower l.lower16 l.lower8 in
-    let u = grid_of l.width l.upper l.upper16 l.upper8 in
+invariant-loop-j g l =
+    let lo = g.D.Distance.floats l.lower in
+    let u = g.D.Distance.floats l.upper in
     (l.j ≤ l.n) × (l.count ≤ l.j) × (l.low ≤ 4) × (l.low ≡ side_negatives (side_between lo u (l.at + l.j) l.row)) × (l.count ≡ whole_run lo u l.at l.row l.j)

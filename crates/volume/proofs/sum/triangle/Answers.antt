@@ -7,13 +7,12 @@ use mir.Syntax.{w64}
 use mir.Val.{to_z, of_z}
 use mir.Facts.{to_z-of_z}
 use Rattle.volume.proofs.Bounds.{determinant-most, fits-64}
+use Rattle.volume.proofs.Corners.{near_corner}
 use Rattle.volume.proofs.sum.triangle.Goals as goal
 
 pub returns-clause-result_bound : goal.returns-clause-result_bound
 returns-clause-result_bound c =
-    let p = c.corner_at in
-    let q = c.corner_at-2 in
-    let r = c.corner_at-3 in
-    let h : nat_abs c.determinant.result ≤ 2 ^ 46 = rw c.determinant.ensures
-    (determinant-most p.result q.result r.result p.ensures.near q.ensures.near r.ensures.near) in
+    let r = c.requires in
+    let h : nat_abs c.determinant.result ≤ 2 ^ 46 = rw (c.determinant.ensures, c.corner_at.ensures, c.corner_at-2.ensures, c.corner_at-3.ensures)
+    (determinant-most _ _ _ (near_corner _ _ r.a_in_bounds r.positions_value) (near_corner _ _ r.b_in_bounds r.positions_value) (near_corner _ _ r.c_in_bounds r.positions_value)) in
     let e : to_z w64 (of_z w64 c.determinant.result) ≡ c.determinant.result = to_z-of_z {w = w64} (fits-64 c.determinant.result (omega arith)) in rw e h

@@ -1,0 +1,7 @@
+-- No whole number of 16 bits is beyond the cap. Assumes nothing.
+use lib.Dec.{lit≤}
+use Rattle.grid.proofs.Widths.{fine-whole}
+use Rattle.grid.proofs.values.I16Distance.is_beyond.Goals as goal
+
+pub returns : goal.returns
+returns c = fine-whole 16 c.args.self (lit≤ tt) c.ranges.self.sfits

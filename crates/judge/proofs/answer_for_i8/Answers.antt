@@ -1,7 +1,0 @@
--- At width 8 the grid is the list's numbers as floats. Assumes nothing.
-use Rattle.grid.specs.Values.{grid_of}
-use Rattle.judge.proofs.answer_for_i8.Goals as goal
-
-pub returns : goal.returns
-unfolding grid_of
-returns c = c.answer_at.ensures

@@ -1,6 +1,0 @@
--- The measure: the arguments that are left. Assumes nothing.
-use Rattle.std.proofs.Common.{◌-◌}
-use Rattle.replay.proofs.main.Given as goal
-
-abbrev pub decreases-loop-i : goal.decreases-loop-i
-decreases-loop-i l = l.n - l.i

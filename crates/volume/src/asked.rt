@@ -1,0 +1,40 @@
+// What is asked of the lists lent before they are summed: crate weigh asks the same, within wider bounds.
+ghost use Rattle.std.specs.Prelude.{◌≡◌, ◌/◌, ◌||◌, leb, ltb, length};
+ghost use Rattle.lists.specs.Lists.{some};
+ghost use Rattle.volume.specs.Steps.{is_past};
+ghost use Rattle.volume.specs.Answers.{not_threes, not_from};
+
+pub fn not_in_threes(positions: &[f32], indices: &[u32]) -> bool
+    ensures { result ≡ (not_threes (length positions.now) || not_threes (length indices.now)) }
+{
+    (positions.len() % 3 != 0) | (indices.len() % 3 != 0)
+}
+
+pub fn has_more_triangles(indices: &[u32], most: usize) -> bool
+    ensures { result ≡ ltb most (length indices.now / 3) }
+{
+    most < indices.len() / 3
+}
+
+// A comparison of floats is exact, and none holds of a not-a-number.
+fn is_past(x: f32, most: f32) -> bool
+    ensures { result ≡ is_past most x }
+{
+    !((0.0 <= x) & (x <= most))
+}
+
+// Every coordinate is looked at, whether or not a triangle has its vertex; and to the end, which is quicker than to leave at the first.
+pub fn some_past(positions: &[f32], most: f32) -> bool
+    ensures { result ≡ some (is_past most) positions.now }
+{
+    positions
+        .iter()
+        .fold(false, |found, &x| found | is_past(x, most))
+}
+
+// Whether some index has no vertex, where these are numbered from `first` to just before `end`; to the end of the list too.
+pub fn some_without_vertex(indices: &[u32], first: u32, end: usize) -> bool
+    ensures { result ≡ some (not_from first end) indices.now }
+{
+    indices.iter().fold(false, |found, &v| found | (v < first) | (end <= v as usize))
+}

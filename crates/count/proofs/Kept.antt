@@ -24,7 +24,7 @@ use Rattle.grid.specs.Signs.{surface_at}
 use Rattle.grid.proofs.LayerWalks.{Row}
 use Rattle.row_signs.specs.Signs.{row_length, row_start, row_points, cells_negatives, one_sign}
 use Rattle.row_signs.specs.Codes.{Kept}
-use Rattle.row_signs.proofs.Runs.{none-counted, run-most}
+use Rattle.row_signs.proofs.Runs.{none-counted, run-most, run-same}
 use Rattle.row_signs.proofs.Keeping.{code_of, mixed-cell}
 use Rattle.row_signs.proofs.OneSign.{next_row}
 use Rattle.count.specs.declared.OwnedEdges.{OwnedEdges}
@@ -44,7 +44,7 @@ use Rattle.count.specs.Kept.{
   kept_tally,
   kept_where_mixed,
 }
-use Rattle.count.proofs.Runs.{run-same, without-last, without-first}
+use Rattle.count.proofs.Runs.{without-last, without-first}
 use Rattle.count.proofs.OneSign.{one-sign-counts-nothing}
 use Rattle.count.proofs.Rows.{reach, row-tally}
 

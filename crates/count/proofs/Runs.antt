@@ -2,16 +2,21 @@
 use Prim.Native.Nat.{ℕ, zero, suc, ◌+◌, ◌-◌, ◌≤◌, ◌<◌}
 use native.Mathlib.Omega.{arith}
 use mathlib.Core.Bool.{Bool, true, false, not, ◌&&◌, ◌||◌, cond}
-use mathlib.Core.List.{[], ◌∷◌}
+use mathlib.Core.List.{List, [], ◌∷◌}
 use mathlib.Core.Logic.{inl, inr}
-use mathlib.Core.Path.{◌≡◌, refl, sym, ap, ◌∙◌}
+use mathlib.Core.Path.{◌≡◌, refl, sym, ap, ap₂, ◌∙◌}
 use lib.Dec.{ltb, eqb}
+use lib.Ieee.{Float, unlike}
+use lib.ListN.{length}
 use borrow.Author.Tests.{lt-ltb, le-ltb, eq-eqb, ne_eqb}
 use Rattle.lists.specs.Lists.{one, run, up_to, many}
 use Rattle.lists.proofs.Tests.{less-or-not}
 use Rattle.lists.proofs.Lists.{all-each, many-append, many-same, many-map, many-never}
 use Rattle.lists.proofs.Runs.{up_to-none, up_to-first, up_to-last, up_to-each}
-use Rattle.row_signs.proofs.Runs.{none-counted, one_more}
+use Rattle.grid.specs.Layers.{part}
+use Rattle.grid.proofs.Parts.{length_part}
+use Rattle.row_signs.proofs.Runs.{none-counted, one_more, run-same, sign-in-part}
+use Rattle.count.specs.Runs.{changes_at, changes_run}
 
 -- ---- the first left out, and the last
 
@@ -91,15 +96,18 @@ first_of : (f : ℕ → Bool) (n : ℕ) → many f (run (suc n)) ≡ one (f 0) +
 first_of f zero = omega (arith, last_of f 0, none-counted f, none-counted (λ (j : ℕ). f (suc j)))
 first_of f (suc n) = omega (arith, last_of f (suc n), first_of f n, last_of (λ (j : ℕ). f (suc j)) n)
 
--- two tests that agree below n
-pub run-same : (f g : ℕ → Bool) (n : ℕ) → ((j : ℕ) → j < n → f j ≡ g j) → many f (run n) ≡ many g (run n)
-run-same f g zero h = sym (none-counted f) ∙ none-counted g
-run-same f g (suc n) h =
-    omega (arith, last_of f n, last_of g n, run-same f g n (λ j l. h j (omega arith)), ap one (h n (omega arith)))
-
 -- all but the last, and all but the first
 pub without-last : (f : ℕ → Bool) (n : ℕ) → 0 < n → many f (run n) ≡ many f (run (n - 1)) + one (f (n - 1))
 without-last f n h = let e : n ≡ suc (n - 1) = omega arith in ap (λ (m : ℕ). many f (run m)) e ∙ last_of f (n - 1)
 
 pub without-first : (f : ℕ → Bool) (n : ℕ) → 0 < n → many f (run n) ≡ one (f 0) + many (λ (j : ℕ). f (suc j)) (run (n - 1))
 without-first f n h = let e : n ≡ suc (n - 1) = omega arith in ap (λ (m : ℕ). many f (run m)) e ∙ first_of f (n - 1)
+
+-- ---- runs that are lent alone
+
+-- the edges between two runs with exactly one negative end are those between the two parts
+pub changes-part : (l a l' b : List Float) (p q n : ℕ) → p + n ≤ length l → a ≡ part p n l → b ≡ part q n l'
+    → changes_run a 0 b 0 (length a) ≡ changes_run l p l' q n
+changes-part l a l' b p q n h ea eb =
+    ap (λ (m : ℕ). changes_run a 0 b 0 m) (ap length ea ∙ length_part p n l h)
+    ∙ run-same (changes_at a 0 b 0) (changes_at l p l' q) n (λ j k. ap₂ unlike (sign-in-part l a p n ea j k) (sign-in-part l' b q n eb j k))

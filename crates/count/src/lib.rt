@@ -10,7 +10,7 @@ ghost use Rattle.rules.specs.Vertices.{row_cells, layer_cells, cells};
 ghost use Rattle.rules.specs.Call.{bad_distance};
 ghost use Rattle.grid.specs.Block.{box_of, flags_of, field_of};
 ghost use Rattle.grid.specs.Inside.{Inside};
-ghost use Rattle.grid.specs.Layers.{two_layers, InLayers};
+ghost use Rattle.grid.specs.Layers.{part, two_layers, InLayers};
 ghost use Rattle.row_signs.specs.Signs.{row_length, row_points, cells_negatives};
 ghost use Rattle.row_signs.specs.Codes.{SmallFrom};
 ghost use Rattle.count.specs.Runs.{surface_run, changes_run, owned_edges};
@@ -79,17 +79,23 @@ fn surface_cells<D: Distance>(lower: &[D], upper: &[D], at: usize, row: usize, n
     count
 }
 
-// How many of n edges have exactly one negative end: the lower ends are n distances of a from p on, the upper ones n of b from q on.
-fn changes<D: Distance>(a: &[D], p: usize, b: &[D], q: usize, n: usize) -> u32
-    requires n_in_bounds { (p + n ≤ length (D.floats a.now)) × (q + n ≤ length (D.floats b.now)) }
-    requires n_bound { n ≤ 16777217 }
-    ensures { result ≡ changes_run (D.floats a.now) p (D.floats b.now) q n }
+// The n distances from a place on.
+fn run<D: Distance>(list: &[D], from: usize, n: usize) -> &[D]
+    requires n_in_bounds { from + n ≤ length (D.floats list.now) }
+    ensures { D.floats result.now ≡ part from n (D.floats list.now) }
+{
+    &list[from..from + n]
+}
+
+// How many edges have exactly one negative end: their lower ends are the distances of a, and their upper ones those of b, in the same order.
+fn changes<D: Distance>(a: &[D], b: &[D]) -> u32
+    requires same_length { length (D.floats a.now) ≡ length (D.floats b.now) }
+    requires n_bound { length (D.floats a.now) ≤ 16777217 }
+    ensures { result ≡ changes_run (D.floats a.now) 0 (D.floats b.now) 0 (length (D.floats a.now)) }
 {
     let mut count = 0u32;
-    for j in 0usize..n {
-        let low = cube::negative(value_at(a, p + j));
-        let high = cube::negative(value_at(b, q + j));
-        count += counted(low != high);
+    for (&low, &high) in a.iter().zip(b) {
+        count += counted(cube::negative(low.float()) != cube::negative(high.float()));
     }
     count
 }
@@ -97,20 +103,14 @@ fn changes<D: Distance>(a: &[D], p: usize, b: &[D], q: usize, n: usize) -> u32
 fn pick(first: bool, n: usize, m: usize) -> usize
     ensures { result ≡ cond first n m }
 {
-    if first {
-        return n;
-    }
-    m
+    if first { n } else { m }
 }
 
 // All n but one, and none of none.
 fn all_but_one(n: usize) -> usize
     ensures { result ≡ n - 1 }
 {
-    if n == 0 {
-        return 0;
-    }
-    n - 1
+    n.saturating_sub(1)
 }
 
 // The row (y, z): its y and z edges are all but the first, whose x is min, and its x edges all but the last, unless max plane.
@@ -246,9 +246,15 @@ fn count_row<D: Distance>(lower: &[D], upper: &[D], k: Block, y: u32, z: u32) ->
     let next = at + 1;
     let own = owned_edges(k, y, z);
     let surface = surface_cells(lower, upper, at, row, n);
-    let along_x = changes(lower, at, lower, next, own.x);
-    let along_y = changes(lower, next, lower, next + row, own.y);
-    let along_z = changes(lower, next, upper, next, own.z);
+    let x_low = run(lower, at, own.x);
+    let x_high = run(lower, next, own.x);
+    let along_x = changes(x_low, x_high);
+    let y_low = run(lower, next, own.y);
+    let y_high = run(lower, next + row, own.y);
+    let along_y = changes(y_low, y_high);
+    let z_low = run(lower, next, own.z);
+    let z_high = run(upper, next, own.z);
+    let along_z = changes(z_low, z_high);
     let vertices = surface as usize;
     let x_faces = along_x as usize;
     let y_faces = along_y as usize;

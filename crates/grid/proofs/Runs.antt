@@ -1,14 +1,16 @@
 -- Condition 5 of a run of distances, of a row, a layer and a box: each is the one below it over a list that grows at its end.
 -- Assumes nothing.
-use Prim.Native.Nat.{ℕ, ◌+◌, ◌-◌, ◌≤◌, ◌<◌}
+use Prim.Native.Nat.{ℕ, zero, suc, ◌+◌, ◌-◌, ◌≤◌, ◌<◌}
 use native.Mathlib.Nat.{le_refl}
 use native.Mathlib.Numerals.{add-one}
 use native.Mathlib.Omega.{arith}
 use mathlib.Core.Bool.{Bool, false, not, ◌||◌, or-false}
 use mathlib.Core.List.{List, [], ◌∷◌, ◌++◌, map}
-use mathlib.Core.Path.{◌≡◌, refl, sym, ap, ◌∙◌}
+use mathlib.Core.Path.{◌≡◌, refl, sym, ap, ap₂, ◌∙◌}
 use lib.Dec.{T, eqb, eqb→eq, eqb_refl, T_not}
-use lib.ListN.{get_or}
+use lib.ListN.{get_or, length, take, drop}
+use lib.Seq.{take-suc}
+use Rattle.std.proofs.lemmas.List.{take_more, get_or-drop, length-drop}
 use lib.Ieee.{Float, nan}
 use Rattle.lists.specs.Lists.{run, up_to, some, below, many}
 use Rattle.rules.specs.Grid.{GridPoint, Box, Field, index, value}
@@ -32,13 +34,25 @@ some-last f s x = some-append f s (x ∷ []) ∙ ap (λ (b : Bool). some f s || 
 
 -- ---- a run
 
-pub run_none : (l : List Float) (at : ℕ) → false ≡ bad_run l at 0
-unfolding run some
-run_none l at = refl
+-- one of the first distances of a list, and one more asked
+pub asked-none : (l : List Float) → false ≡ some beyond (take 0 l)
+unfolding some
+asked-none l = refl
 
-pub run_more : (l : List Float) (at j : ℕ) {bad more now' : Bool} → bad ≡ bad_run l at j → more ≡ beyond (get_or l (at + j) nan) → now' ≡ (bad || more) → now' ≡ bad_run l at (j + 1)
-unfolding run
-run_more l at j e d n = rw (n, e, d, add-one) (sym (some-last (λ (i : ℕ). beyond (get_or l (at + i) nan)) (run j) j))
+pub asked-more : (l : List Float) (j : ℕ) {bad more now' : Bool} → j < length l → bad ≡ some beyond (take j l) → more ≡ beyond (get_or l j nan) → now' ≡ (bad || more)
+    → now' ≡ some beyond (take (j + 1) l)
+asked-more l j h e d n =
+    n ∙ ap₂ ◌||◌ e d ∙ sym (some-last beyond (take j l) (get_or l j nan)) ∙ ap (some beyond) (sym (take_more l j nan h))
+
+-- the run that stands at a place of a list is the part that is lent from there
+pub part-run : (l : List Float) (at n : ℕ) → at + n ≤ length l → some beyond (take n (drop at l)) ≡ bad_run l at n
+unfolding some run
+part-run l at zero h = refl
+part-run l at (suc n) h =
+    ap (some beyond) (take-suc (drop at l) n nan (omega (arith, length-drop at l)))
+    ∙ some-last beyond (take n (drop at l)) (get_or (drop at l) n nan)
+    ∙ ap₂ ◌||◌ (part-run l at n (omega arith)) (ap beyond (get_or-drop at l n nan))
+    ∙ sym (some-last (λ (i : ℕ). beyond (get_or l (at + i) nan)) (run n) n)
 
 -- ---- what a list from `from` on grows by, and its beginning
 

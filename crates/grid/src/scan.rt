@@ -1,8 +1,9 @@
 // Condition 5 of document 01: a distance in the box that is not finite or beyond the cap. One function for a row, a layer and the box.
 ghost use Rattle.std.specs.Prelude.{◌≡◌, ◌||◌, ◌+◌, ◌≤◌, length};
-ghost use Rattle.rules.specs.Call.{bad_layer, bad_distance};
+ghost use Rattle.lists.specs.Lists.{some};
+ghost use Rattle.rules.specs.Call.{beyond, bad_layer, bad_distance};
 ghost use Rattle.grid.specs.Block.{box_of, field_of};
-ghost use Rattle.grid.specs.Inside.{Inside, bad_run};
+ghost use Rattle.grid.specs.Inside.{Inside};
 
 use crate::place::linearize;
 use crate::values::Distance;
@@ -17,14 +18,13 @@ pub fn either(a: bool, b: bool) -> bool
     a | b
 }
 
-// A row: n distances from `at` on.
-fn bad_row<D: Distance>(sdf: &[D], at: usize, n: usize) -> bool
-    requires { at + n ≤ length (D.floats sdf.now) }
-    ensures { result ≡ bad_run (D.floats sdf.now) at n }
+// A row of distances. Each is asked: there is no branch, and no early end.
+fn bad_row<D: Distance>(row: &[D]) -> bool
+    ensures { result ≡ some beyond (D.floats row.now) }
 {
     let mut bad = false;
-    for j in 0usize..n {
-        bad = either(bad, sdf[at + j].is_beyond());
+    for d in row {
+        bad = bad | d.is_beyond();
     }
     bad
 }
@@ -40,7 +40,7 @@ pub fn bad_layer<D: Distance>(sdf: &[D], k: Block, z: u32) -> bool
     let mut bad = false;
     for y in from..end {
         let at = linearize(k.dims, Extent { x: k.low.x, y, z });
-        bad = either(bad, bad_row(sdf, at, n));
+        bad = bad | bad_row(&sdf[at..at + n]);
     }
     bad
 }
@@ -53,7 +53,7 @@ pub fn bad_distance<D: Distance>(sdf: &[D], k: Block) -> bool
     let end = k.high.z + 1;
     let mut bad = false;
     for z in from..end {
-        bad = either(bad, bad_layer(sdf, k, z));
+        bad = bad | bad_layer(sdf, k, z);
     }
     bad
 }

@@ -87,8 +87,8 @@ module _ {place : ℕ} {s s' s'' : Lists} (f : ℕ → Vertex) where
       wrote-more h k (ap (λ (n : ℕ). place + n) (sym (run_length f j)))
       (ap (map f) (up_to-split 0 j (j + n) zero-le (omega arith)) ∙ map-append f (up_to 0 j) (up_to j (j + n)))
 
-pub wrote-ended : {place : ℕ} {s s' : Lists} (f : ℕ → Vertex) {j n : ℕ} → Wrote place s (map f (up_to 0 j)) s' → j ≤ n → n ≤ j → s' ≡ written place (map f (up_to 0 n)) s
-wrote-ended {place} {s} f h l k = h.same ∙ ap (λ (m : ℕ). written place (map f (up_to 0 m)) s) (omega arith)
+pub wrote-up : {place : ℕ} {s s' : Lists} (f : ℕ → Vertex) {j n : ℕ} → Wrote place s (map f (up_to 0 j)) s' → j ≡ n → Wrote place s (map f (up_to 0 n)) s'
+wrote-up {place} {s} f h e = record { same = h.same ∙ ap (λ (m : ℕ). written place (map f (up_to 0 m)) s) e }
 
 -- ---- lengths
 

@@ -209,8 +209,7 @@ pub fn estimate_layer<D: Distance>(
 {
     let row = k.dims.x as usize;
     let count = cells.len() / 3;
-    let mut done = 0usize;
-    while done < count {
+    for done in (0..count).step_by(32) {
         let n = (count - done).min(32);
         estimate_some(
             lower,
@@ -224,6 +223,5 @@ pub fn estimate_layer<D: Distance>(
             normals,
             crossings,
         );
-        done += n;
     }
 }

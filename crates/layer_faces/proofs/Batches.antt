@@ -119,7 +119,6 @@ module _ {lower upper : List Float} {k : Block} {z : ℕ} (i : InLayers lower up
           → AllReady lower k.dims.x first.here cs mp ps under who rank from axis count at indices
       batch-along at indices room =
           record {
-            axes = three;
             narrow = omega (arith, (small (point k.dims) i.dims).x);
             entries = omega (arith, f.few);
             each = entry;

@@ -1,19 +1,13 @@
--- What the code chooses without a branch: the order of a quad's numbers, the cells round an edge by its axis, and how many vertices a batch has.
+-- What the code chooses without a branch: the order of a quad's numbers, and the list that a vertex is looked up in.
 -- Assumes nothing.
-use Rattle.std.proofs.Common.{◌≡◌, ℕ, zero, suc, ◌<◌, Bool, true, false, cond, not, eqb, List, [], ◌∷◌, length, get_or, sym, refl, ap, ◌∙◌, subst, ap₂, arith}
+use Rattle.std.proofs.Common.{◌≡◌, ℕ, ◌<◌, Bool, true, false, cond, List, [], ◌∷◌, length, get_or, refl, ap, ◌∙◌, ap₂, arith}
 use lib.Ieee.{Float, nan, lt}
-use Rattle.rules.specs.Grid.{Axis, axis_x, axis_y, axis_z}
+use Rattle.rules.specs.Grid.{Axis}
 use Rattle.rules.specs.Cell.{negative, squared_distance}
 use Rattle.rules.specs.Faces.{six}
 use Rattle.layer_faces.specs.declared.Firsts.{Firsts}
 use Rattle.layer_faces.specs.declared.Way.{Way}
-use Rattle.layer_faces.specs.Quads.{Seen, quad_of, axis_of, way2, way3, way4, place_at, own, looked, quad_at, Reaches}
-
-pub chosen-first : {A : Type 0} {first : Bool} (x y : A) → first ≡ true → cond first x y ≡ x
-chosen-first x y e = rw e
-
-pub chosen-second : {A : Type 0} {first : Bool} (x y : A) → first ≡ false → cond first x y ≡ y
-chosen-second x y e = rw e
+use Rattle.layer_faces.specs.Quads.{Seen, quad_of, way2, way3, way4, place_at, own, looked, quad_at}
 
 pub of-chosen : {A B : Type 0} (f : A → B) (first : Bool) (x y : A) → f (cond first x y) ≡ cond first (f x) (f y)
 of-chosen f true x y = refl
@@ -55,33 +49,6 @@ length-quad n1 v1 v2 v3 v4 = go (lt (squared_distance v1.position v4.position) (
     go false true = refl
     go false false = refl
 
--- ---- the cells round an edge
-
--- a value for each axis
-pub by-axis : {A : Type 0} (f : Axis → A) (axis : ℕ) {near far : A} → axis < 3 → near ≡ cond (eqb axis 1) (f axis_y) (f axis_z) → far ≡ cond (eqb axis 0) (f axis_x) near
-    → far ≡ f (axis_of axis)
-by-axis f zero h en ef = ef
-by-axis f (suc zero) h en ef = ef ∙ en
-by-axis f (suc (suc zero)) h en ef = ef ∙ en
-by-axis f (suc (suc (suc n))) h en ef = absurd (omega arith)
-
--- which of them stand in the layer itself
-pub record InLayer (row axis : ℕ) : Type 0 where
-  pub second : not (eqb axis 1) ≡ (way2 row (axis_of axis)).here
-  pub third : not (eqb axis 0) ≡ (way3 row (axis_of axis)).here
-  pub fourth : eqb axis 2 ≡ (way4 row (axis_of axis)).here
-
-pub in-layer : (row axis : ℕ) → axis < 3 → InLayer row axis
-in-layer row zero h = record { second = refl; third = refl; fourth = refl }
-in-layer row (suc zero) h = record { second = refl; third = refl; fourth = refl }
-in-layer row (suc (suc zero)) h = record { second = refl; third = refl; fourth = refl }
-in-layer row (suc (suc (suc n))) h = absurd (omega arith)
-
--- a look-up, by what the code found for the cell's place and the way from there
-pub reaches : {map under : List ℕ} {cell cell' : ℕ} {w w' : Way} → cell ≡ cell' → w ≡ w' → Reaches map under cell' w' → Reaches map under cell w
-reaches {map} {under} {cell} {cell'} {w} ec ew r =
-    subst (λ (c : ℕ). Reaches map under c w) (sym ec) (subst (λ (v : Way). Reaches map under cell' v) (sym ew) r)
-
 module _ (first : Firsts) (map : List ℕ) (positions : List Float) (under : List ℕ) (kept lower : List Float) (row : ℕ) (cs : List ℕ) (v : ℕ) (a : Axis) where
   pub quad-looked : {cell : ℕ} {n : Bool} {w2 w3 w4 : Way} {v1 v2 v3 v4 : Seen} → cell ≡ place_at row cs v → n ≡ negative (get_or lower cell nan)
       → w2 ≡ way2 row a → w3 ≡ way3 row a → w4 ≡ way4 row a → v1 ≡ own first.here positions v → v2 ≡ looked first map positions under kept cell w2
@@ -97,5 +64,3 @@ module _ (first : Firsts) (map : List ℕ) (positions : List Float) (under : Lis
   pub length-quad_at : length (quad_at first map positions under kept lower row cs v a) ≡ 6
   unfolding quad_at
   length-quad_at = length-quad _ _ _ _ _
-
--- ---- the vertices of a batch

@@ -3,7 +3,21 @@
 -- follow the code and stand in no contract that another crate sees. Definitions only. Assumes nothing.
 use Rattle.std.specs.Prelude.{◌≡◌, ℕ, zero, suc, ◌+◌, ◌*◌, ◌%◌, ◌<◌, ◌≤◌, List, length, slice_index, slice_index_or, Float}
 use Rattle.std.proofs.lemmas.List.Edits.{sets}
+use Rattle.rules.specs.Grid as rules
+use Rattle.layer_faces.specs.declared.Axis.{Axis}
+use Rattle.layer_faces.specs.declared.Axis.TheVariants.{X, Y, Z}
 use Rattle.layer_faces.specs.Quads.{axis_of, Ready}
+
+-- ---- an axis of src/
+
+abbrev pub axis_number : Axis → ℕ
+axis_number X = 0
+axis_number Y = 1
+axis_number Z = 2
+
+-- as the rules' axis
+abbrev pub along : Axis → rules.Axis
+along a = axis_of (axis_number a)
 
 -- ---- the entries
 
@@ -35,7 +49,6 @@ pub record AllFiled (edges who rank : List ℕ) (x y z all : ℕ) : Type 0 where
 
 -- all that the quads of the first entries of the axis are made of stands in its list, and there is room for each
 pub record AllReady (lower : List Float) (row first : ℕ) (cs map : List ℕ) (positions : List Float) (under who rank : List ℕ) (from axis count at indices : ℕ) : Type 0 where
-  pub axes : axis < 3
   pub narrow : row < 4294967296
   pub entries : 32 * axis + count ≤ 96
   pub each : (q : ℕ) → q < count → Ready lower row first cs map positions under (from + slice_index who (32 * axis + q)) (axis_of axis)

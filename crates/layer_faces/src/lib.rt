@@ -11,7 +11,7 @@
 //     v4  |  v3
 #![tactic(auto)]
 
-ghost use Rattle.std.specs.Prelude.{◌≡◌, ◌+◌, ◌*◌, ◌<◌, ◌≤◌, T, length, if◌then◌else◌, slice_index, slice_index_or, slice_set};
+ghost use Rattle.std.specs.Prelude.{◌≡◌, ◌+◌, ◌*◌, ◌<◌, ◌≤◌, T, length, if◌then◌else◌, true, false, slice_index, slice_index_or, slice_set};
 ghost use Rattle.std.specs.Float.{nan};
 ghost use Rattle.std.proofs.lemmas.List.Edits.{sets};
 ghost use Rattle.lists.specs.Lists.{joined};
@@ -22,8 +22,8 @@ ghost use Rattle.grid.specs.Block.{point, box_of, flags_of};
 ghost use Rattle.grid.specs.Layers.{in_layer, InLayers};
 ghost use Rattle.grid.specs.Values.{between};
 ghost use Rattle.layer_faces.specs.Below.{nowhere, position_at, face_over, indices_over, Standing};
-ghost use Rattle.layer_faces.specs.Quads.{seen, quad_of, Reaches, looked, Cells, listed, place_at, own, axis_of, way2, way3, way4, quad_at, some_edges, Batch};
-ghost use Rattle.layer_faces.specs.Filing.{AllFiled, AllReady, faces_put};
+ghost use Rattle.layer_faces.specs.Quads.{seen, quad_of, Reaches, looked, Cells, listed, place_at, own, way, way2, way3, way4, quad_at, some_edges, Batch};
+ghost use Rattle.layer_faces.specs.Filing.{axis_number, along, AllFiled, AllReady, faces_put};
 
 use cube::Point;
 use grid::signs::counted;
@@ -63,16 +63,8 @@ fn no_position() -> Point
     }
 }
 
-fn pick(first: bool, x: u32, y: u32) -> u32
-    ensures { result ≡ (if first then x else y) }
-{
-    if first {
-        return x;
-    }
-    y
-}
-
-fn choose(first: bool, x: usize, y: usize) -> usize
+// One of two values that both stand ready.
+fn pick<T: Copy>(first: bool, x: T, y: T) -> T
     ensures { result ≡ (if first then x else y) }
 {
     if first {
@@ -109,7 +101,7 @@ fn vertex_in(here: bool, first: Firsts, positions: &[f32], below: &[f32], v: u32
     ensures { vector result ≡ position_at (if here then positions.now else below.now) (if here then first.here else first.below) v }
 {
     let start = pick(here, first.here, first.below);
-    let count = choose(here, positions.len() / 3, below.len() / 3);
+    let count = pick(here, positions.len() / 3, below.len() / 3);
     let place = std::num::wrapping_sub_usize(v as usize, start as usize);
     if count <= place {
         return no_position();
@@ -299,35 +291,72 @@ fn own_vertex(first: u32, positions: &[f32], v: usize) -> Vertex
     }
 }
 
-// The other three cells round an edge along the axis 0, 1 or 2.
-fn second_way(row: usize, axis: u32) -> Way
-    requires { axis < 3 }
-    ensures { result ≡ way2 row (axis_of axis) }
-{
-    Way {
-        here: axis != 1,
-        back: choose(axis == 0, row, choose(axis == 1, 0, 1)),
+// What an edge lies along.
+#[derive(Clone, Copy, Debug, PartialEq, Eq)]
+enum Axis {
+    X,
+    Y,
+    Z,
+}
+
+impl Axis {
+    // The first entry of its list: each axis has 32 of the 96.
+    fn first_entry(self) -> usize
+        ensures { result ≡ 32 * axis_number self }
+    {
+        match self {
+            Axis::X => 0,
+            Axis::Y => 32,
+            Axis::Z => 64,
+        }
     }
 }
 
-fn third_way(row: usize, axis: u32) -> Way
-    requires { axis < 3 }
-    ensures { result ≡ way3 row (axis_of axis) }
-{
-    Way {
-        here: axis != 0,
-        back: choose(axis == 0, 0, choose(axis == 1, 1, row)),
+impl Way {
+    // So many entries before, in this layer.
+    fn here(back: usize) -> Way
+        ensures { result ≡ way true back }
+    {
+        Way { here: true, back }
+    }
+
+    // So many entries before, in the layer below.
+    fn below(back: usize) -> Way
+        ensures { result ≡ way false back }
+    {
+        Way { here: false, back }
     }
 }
 
-fn fourth_way(row: usize, axis: u32) -> Way
-    requires axis_bound { axis < 3 }
+// The other three cells round an edge along an axis.
+fn second_way(row: usize, axis: Axis) -> Way
+    ensures { result ≡ way2 row (along axis) }
+{
+    match axis {
+        Axis::X => Way::here(row),
+        Axis::Y => Way::below(0),
+        Axis::Z => Way::here(1),
+    }
+}
+
+fn third_way(row: usize, axis: Axis) -> Way
+    ensures { result ≡ way3 row (along axis) }
+{
+    match axis {
+        Axis::X => Way::below(0),
+        Axis::Y => Way::here(1),
+        Axis::Z => Way::here(row),
+    }
+}
+
+fn fourth_way(row: usize, axis: Axis) -> Way
     requires row_bound { row < 4294967296 }
-    ensures { result ≡ way4 row (axis_of axis) }
+    ensures { result ≡ way4 row (along axis) }
 {
-    Way {
-        here: axis == 2,
-        back: choose(axis == 0, row, choose(axis == 1, 1, row + 1)),
+    match axis {
+        Axis::X => Way::below(row),
+        Axis::Y => Way::below(1),
+        Axis::Z => Way::here(row + 1),
     }
 }
 
@@ -342,7 +371,7 @@ fn put_faces<D: Distance>(
     map_below: &[u32],
     positions_below: &[f32],
     from: usize,
-    axis: u32,
+    axis: Axis,
     who: &[u32; 96],
     rank: &[u32; 96],
     count: usize,
@@ -350,15 +379,15 @@ fn put_faces<D: Distance>(
     at: usize,
 )
     requires { AllReady (D.floats lower.now) row first.here cells.now map.now positions.now map_below.now who.now rank.now
-        from axis count at (length indices.old) }
+        from (axis_number axis) count at (length indices.old) }
     ensures { indices.new ≡ faces_put (λ v. quad_at first map.now positions.now map_below.now positions_below.now
-        (D.floats lower.now) row cells.now v (axis_of axis)) who.now rank.now (32 * axis) from at count
+        (D.floats lower.now) row cells.now v (along axis)) who.now rank.now (32 * axis_number axis) from at count
         indices.old }
 {
     let second = second_way(row, axis);
     let third = third_way(row, axis);
     let fourth = fourth_way(row, axis);
-    let start = 32 * (axis as usize);
+    let start = axis.first_entry();
     for q in 0usize..count {
         let v = from + (who[start + q] as usize);
         let cell = place_of(cells, row, v);
@@ -443,7 +472,7 @@ fn face_some<D: Distance>(
         map_below,
         positions_below,
         from,
-        0,
+        Axis::X,
         &who,
         &rank,
         m.x,
@@ -460,7 +489,7 @@ fn face_some<D: Distance>(
         map_below,
         positions_below,
         from,
-        1,
+        Axis::Y,
         &who,
         &rank,
         m.y,
@@ -477,7 +506,7 @@ fn face_some<D: Distance>(
         map_below,
         positions_below,
         from,
-        2,
+        Axis::Z,
         &who,
         &rank,
         m.z,
@@ -513,8 +542,7 @@ pub fn face_layer<D: Distance>(
 {
     let count = cells.len() / 3;
     let mut used = at;
-    let mut done = 0usize;
-    while done < count {
+    for done in (0..count).step_by(32) {
         let n = (count - done).min(32);
         used = face_some(
             lower,
@@ -532,7 +560,6 @@ pub fn face_layer<D: Distance>(
             indices,
             used,
         );
-        done += n;
     }
     used - at
 }

@@ -1,13 +1,16 @@
--- Clearing the points of a row that are no cells: what holds before, in and after each turn of the loop, and that the row is then cleared point by
--- point. A loop's proof names these facts, and has no arithmetic of its own. Assumes nothing.
+-- Clearing the points of a row that are no cells: a part of the map that is filled with one entry, and that the row is then cleared point by point.
+-- Assumes nothing.
 use Prim.Native.Nat.{ℕ, zero, suc, ◌+◌, ◌-◌, ◌*◌, ◌≤◌, ◌<◌}
-use native.Mathlib.Numerals.{add-one}
 use native.Mathlib.Omega.{arith}
-use mathlib.Core.List.{List, map}
+use mathlib.Core.List.{List, map, ◌++◌, append_assoc}
 use mathlib.Core.Path.{◌≡◌, refl, sym, ap, ◌∙◌}
 use mathlib.Core.Bool.{false}
-use lib.ListN.{length, set, replicate}
-use lib.Seq.{sets, length-sets}
+use lib.ListN.{length, set, take, drop, replicate}
+use lib.Seq.{sets, sets-eq}
+use borrow.Rule.Slice.PartMut.{put_mid}
+use Rattle.std.proofs.lemmas.List.{length-drop, length-take-le, length-replicate}
+use Rattle.std.proofs.lemmas.List.Edits.{paste_all}
+use Rattle.std.proofs.lemmas.Slice.{put_mid-paste}
 use Rattle.lists.specs.Lists.{up_to}
 use Rattle.rules.specs.Grid.{GridPoint, Box}
 use Rattle.rules.specs.Vertices.{row_cells, null_vertex}
@@ -15,9 +18,8 @@ use Rattle.lists.proofs.Runs.{up_to-none, up_to-first}
 use Rattle.rules.proofs.Indexes.{BoxFits, box-fits}
 use Rattle.grid.specs.declared.Block.{Block}
 use Rattle.grid.specs.Block.{point, box_of}
-use Rattle.grid.proofs.Bounds.{plane-few, corner-inside}
-use Rattle.grid.proofs.Layers.{in-plane, in_order, in-some-grid}
-use Rattle.grid.proofs.Walks.{Span, Counting, begun, PointSpans, point-spans}
+use Rattle.grid.proofs.Layers.{in_order, in-some-grid}
+use Rattle.grid.proofs.Walks.{PointSpans, point-spans}
 use Rattle.layer_vertices.specs.Marked.{InPart}
 use Rattle.layer_vertices.specs.Cells.{points_of, entered, cleared, blanked}
 
@@ -41,37 +43,23 @@ row-blank d b z y l h =
         ∙ ap (λ (k : ℕ). entered d (λ (c : GridPoint). false) (m + 0) (map at (up_to (suc x) (suc x + n))) (set s k null_vertex)) (sym e)
         ∙ go n (m + 0) (suc x) (suc i) (set s i null_vertex) (omega arith)
 
--- ---- the loop
+-- ---- the row at once
 
--- before each turn, and after the last: what is still to be cleared would leave the whole
-pub record Clearing (all : List ℕ) (first from end row y : ℕ) (map : List ℕ) (at x : ℕ) : Type 0 where
-  pub count : Counting from end x
-  pub place : at ≡ x + row * y
-  pub rest : sets map at (replicate (end - x) null_vertex) ≡ sets all first (replicate (end - from) null_vertex)
+-- how long a part of the map is
+pub part_long : (l : List ℕ) (at n : ℕ) → at + n ≤ length l → length (take (at + n - at) (drop at l)) ≡ n
+part_long l at n h =
+    let e : at + n - at ≡ n = omega arith in
+    ap (λ (k : ℕ). length (take k (drop at l))) e ∙ length-take-le n (drop at l) (omega (arith, length-drop at l))
 
-pub clearing-begun : {all : List ℕ} {first from end row y : ℕ} → Span from end → first ≡ from + row * y → Clearing all first from end row y all first from
-clearing-begun s e = record { count = begun s; place = e; rest = refl }
-
-module _ {all : List ℕ} {first from end row y : ℕ} {map : List ℕ} {at x : ℕ} (c : Clearing all first from end row y map at x) where
-  pub clearing-more : x < end → Clearing all first from end row y (set map at null_vertex) (at + 1) (x + 1)
-  clearing-more h =
-      let less : end - x ≡ suc (end - (x + 1)) = omega (arith, c.count.low) in
-      record {
-        count = omega (arith, c.count.low);
-        place = omega (arith, c.place);
-        rest =
-            ap (λ (i : ℕ). sets (set map at null_vertex) i (replicate (end - (x + 1)) null_vertex)) (add-one at)
-            ∙ ap (λ (n : ℕ). sets map at (replicate n null_vertex)) (sym less)
-            ∙ c.rest;
-      }
-
-  pub clearing-ended : end ≤ x → map ≡ sets all first (replicate (end - from) null_vertex)
-  clearing-ended h =
-      let no : 0 ≡ end - x = omega arith in
-      ap (λ (n : ℕ). sets map at (replicate n null_vertex)) no ∙ c.rest
-
-  pub clearing-length : length map ≡ length all
-  clearing-length = sym (length-sets map at (replicate (end - x) null_vertex)) ∙ ap length c.rest ∙ length-sets all first (replicate (end - from) null_vertex)
+-- a part of the map that is filled with one entry
+pub part-filled : (l part : List ℕ) (at n v : ℕ) → part ≡ replicate n v → at + n ≤ length l → put_mid at (at + n - at) l part ≡ sets l at (replicate n v)
+part-filled l part at n v e h =
+    let long : n ≡ length (replicate n v) = sym (length-replicate n v) in
+    put_mid-paste at (at + n - at) l part (replicate n v) n e (omega arith) long
+    ∙ paste_all l at (replicate n v) n long
+    ∙ ap (λ (i : ℕ). take at l ++ (replicate n v ++ drop (at + i) l)) long
+    ∙ sym (append_assoc (take at l) (replicate n v) (drop (at + length (replicate n v)) l))
+    ∙ sym (sets-eq (replicate n v) l at (omega (arith, long)))
 
 -- ---- a part of the map that holds the box's points
 
@@ -84,15 +72,3 @@ module _ {mp : List ℕ} {k : Block} (i : InPart mp k) where
 
   pub part-place : {x y : ℕ} → x ≤ k.high.x → y ≤ k.high.y → x + k.dims.x * y < length mp
   part-place {x} {y} hx hy = omega (arith, in_order (point k.dims) (record { x = x; y = y; z = 0 }) (point k.high) hx hy, i.holds)
-
-  pub part-few : {x y : ℕ} → x ≤ k.high.x → y ≤ k.high.y → x + k.dims.x * y < 1073741824
-  part-few {x} {y} hx hy =
-      let f = part-fits in
-      omega (
-        arith,
-        in-plane (point k.dims) (record { x = x; y = y; z = 0 }) (omega arith) (omega arith),
-        plane-few (point k.dims) (point k.high) (corner-inside (point k.dims) (box_of k) i.dims i.box),
-      )
-
-pub part-still : {mp mp' : List ℕ} {k : Block} → InPart mp k → length mp' ≡ length mp → InPart mp' k
-part-still i e = record { dims = i.dims; box = i.box; holds = omega (arith, i.holds) }

@@ -1,24 +1,26 @@
 -- The marked cells of a row, numbered: by the entries that stood in the map where it began, which the cells before one's own do not touch. A cell, some
 -- cells one by one and a row by eights go the same way, since each is a run of points. Assumes nothing.
 use Prim.Native.Nat.{ℕ, zero, suc, ◌+◌, ◌-◌, ◌*◌, ◌≤◌, ◌<◌}
-use native.Mathlib.Nat.{add-zero}
+use native.Mathlib.Numerals.{add-one}
 use native.Mathlib.Omega.{arith}
 use mathlib.Core.Bool.{Bool, true, false, not, ◌&&◌, ◌||◌, cond}
-use mathlib.Core.List.{List, [], ◌∷◌, ◌++◌}
+use mathlib.Core.List.{List, [], ◌∷◌, ◌++◌, map, map-append}
 use mathlib.Core.Logic.{inl, inr}
 use mathlib.Core.Path.{◌≡◌, refl, sym, ap, ap₂, ◌∙◌}
 use borrow.Author.Tests.{eq-eqb, ne_eqb, eqb-true, not-true, not-false}
 use lib.Dec.{leb, eqb}
 use lib.Ieee.Bits.{is_true}
 use lib.Ieee.Fits.{and_r}
-use lib.ListN.{length, get_or, set}
+use lib.ListN.{length, get_or, set, take, drop}
 use lib.Seq.{sets}
+use Rattle.std.specs.List.{fold}
+use Rattle.std.proofs.lemmas.List.{take_more, get_or-drop, length-drop}
 use Rattle.lists.specs.Lists.{run, keep, some, joined}
 use Rattle.rules.specs.Grid.{GridPoint, index}
 use Rattle.rules.specs.Vertices.{null_vertex}
 use Rattle.lists.proofs.Either.{or_left, or_right}
 use Rattle.lists.proofs.Lists.{All, none, more, all_then, all_both, keep-none}
-use Rattle.lists.proofs.Some.{some-append}
+use Rattle.lists.proofs.Some.{some-append, some-map}
 use Rattle.lists.proofs.Tests.{less-or-not, is-test}
 use Rattle.grid.specs.Inside.{PointInside}
 use Rattle.grid.specs.Layers.{in_layer}
@@ -170,28 +172,34 @@ eight-left {d} {c} {at} {n} {next} {s} a e =
     let there : c.x + j + d.x * c.y ≡ at + j = omega (arith, a.place) in
     ap (λ (i : ℕ). is_mark (get_or s.map i 0)) there ∙ none_in mark n (not-true (some mark (run n)) left) j h))
 
-said-of-eight : (a b c d e f g h : Bool) → (((a && b) && (c && d)) && ((e && f) && (g && h)))
-    ≡ not (not a || (not b || (not c || (not d || (not e || (not f || (not g || (not h || false))))))))
-said-of-eight false b c d e f g h = refl
-said-of-eight true false c d e f g h = refl
-said-of-eight true true false d e f g h = refl
-said-of-eight true true true false e f g h = refl
-said-of-eight true true true true false f g h = refl
-said-of-eight true true true true true false g h = refl
-said-of-eight true true true true true true false h = refl
-said-of-eight true true true true true true true false = refl
-said-of-eight true true true true true true true true = refl
+-- a fold to the end of the entries says what the search says
+still : (b t s : Bool) → ((b && t) && not s) ≡ (b && not (not t || s))
+still false t s = refl
+still true false s = refl
+still true true s = refl
 
-abbrev blank : List ℕ → ℕ → Bool
-blank l i = eqb (get_or l i 0) null_vertex
+as-told : (b : Bool) → b ≡ (b && true)
+as-told false = refl
+as-told true = refl
 
-pub none-of-eight : (l : List ℕ) (at : ℕ)
-    → (((blank l at && blank l (at + 1)) && (blank l (at + 2) && blank l (at + 3))) && ((blank l (at + 4) && blank l (at + 5)) && (blank l (at + 6) && blank l (at + 7))))
-    ≡ none_marked l at 8
-unfolding run some
-none-of-eight l at =
-    let there : ℕ → Bool = λ (i : ℕ). blank l (at + i) in
-    ap
-    (λ (i : ℕ). (((blank l i && there 1) && (there 2 && there 3)) && ((there 4 && there 5) && (there 6 && there 7))))
-    (sym (add-zero at))
-    ∙ said-of-eight (there 0) (there 1) (there 2) (there 3) (there 4) (there 5) (there 6) (there 7)
+none_by_fold : (b : Bool) (l : List ℕ) → fold (λ t e. t && eqb e null_vertex) b l ≡ (b && not (some is_mark l))
+unfolding some
+none_by_fold b [] = as-told b
+none_by_fold b (e ∷ l) = none_by_fold (b && eqb e null_vertex) l ∙ still b (eqb e null_vertex) (some is_mark l)
+
+-- the entries of a part of the map, one by one
+part-entries : (l : List ℕ) (at n : ℕ) → at + n ≤ length l → take n (drop at l) ≡ map (λ (j : ℕ). get_or l (at + j) 0) (run n)
+unfolding run
+part-entries l at zero h = refl
+part-entries l at (suc n) h =
+    let entry : ℕ → ℕ = λ (j : ℕ). get_or l (at + j) 0 in
+    ap (λ (m : ℕ). take m (drop at l)) (sym (add-one n))
+    ∙ take_more (drop at l) n 0 (omega (arith, length-drop at l))
+    ∙ ap₂ (λ (xs : List ℕ) (x : ℕ). xs ++ (x ∷ [])) (part-entries l at n (omega arith)) (get_or-drop at l n 0)
+    ∙ sym (map-append entry (run n) (n ∷ []))
+
+pub none-of-part : (l : List ℕ) (at n : ℕ) → at + n ≤ length l → fold (λ t e. t && eqb e null_vertex) true (take n (drop at l)) ≡ none_marked l at n
+none-of-part l at n h =
+    none_by_fold true (take n (drop at l))
+    ∙ ap (λ (xs : List ℕ). not (some is_mark xs)) (part-entries l at n h)
+    ∙ ap not (some-map is_mark (λ (j : ℕ). get_or l (at + j) 0) (run n))

@@ -56,10 +56,7 @@ fn put_cell(dims: Extent, c: Extent, place: usize, cells: &mut [u32], strides: &
 fn class_entry(surface: bool) -> u32
     ensures { result ≡ class_of surface }
 {
-    if surface {
-        return MARK;
-    }
-    NULL_VERTEX
+    if surface { MARK } else { NULL_VERTEX }
 }
 
 // n cells in a row, `at` being the place of the first one's lowest corner. A cell's upper x side is the next one's lower one: its negatives are counted once, and carried.
@@ -184,11 +181,9 @@ fn none_of_eight(map: &[u32], at: usize) -> bool
     requires { at + 8 ≤ length map.now }
     ensures { result ≡ none_marked map.now at 8 }
 {
-    let a = (map[at] == NULL_VERTEX) & (map[at + 1] == NULL_VERTEX);
-    let b = (map[at + 2] == NULL_VERTEX) & (map[at + 3] == NULL_VERTEX);
-    let c = (map[at + 4] == NULL_VERTEX) & (map[at + 5] == NULL_VERTEX);
-    let d = (map[at + 6] == NULL_VERTEX) & (map[at + 7] == NULL_VERTEX);
-    (a & b) & (c & d)
+    map[at..at + 8]
+        .iter()
+        .fold(true, |none, &e| none & (e == NULL_VERTEX))
 }
 
 // At most eight entries of which none is a mark, as far as that is seen at once: yes is said of eight alone.
@@ -238,8 +233,7 @@ fn number_row(
     ensures { Numbered (point dims) (point c) n next (finds_before cells strides map) result (finds_after cells strides map) }
 {
     let mut state = next;
-    let mut j = 0u32;
-    while j < n {
+    for j in (0..n).step_by(8) {
         let m = (n - j).min(8);
         let p = Extent {
             x: c.x + j,
@@ -247,7 +241,6 @@ fn number_row(
             z: c.z,
         };
         state = number_eight(dims, p, at + (j as usize), m, state, cells, strides, map);
-        j += m;
     }
     state
 }
@@ -306,11 +299,9 @@ fn clear_row(k: Block, y: u32, map: &mut [u32])
     let from = k.low.x;
     let end = k.high.x + 1;
     let row = k.dims.x as usize;
-    let mut at = (from as usize) + row * (y as usize);
-    for x in from..end {
-        map[at] = NULL_VERTEX;
-        at += 1;
-    }
+    let at = (from as usize) + row * (y as usize);
+    let n = (end - from) as usize;
+    map[at..at + n].fill(NULL_VERTEX);
 }
 
 // The same, given how many of the points of the row's cells are negative: where none are, or all, there is no vertex.

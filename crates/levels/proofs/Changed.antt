@@ -1,7 +1,10 @@
 -- A list whose numbers at some places are changed, each by its place: number by number, place by place, run after run, and twice. All by comparing
 -- number with number. Assumes nothing.
-use Rattle.std.proofs.Common.{◌≡◌, ℕ, ◌+◌, ◌<◌, ◌≤◌, Bool, cond, List, length, get_or, set, sym, ap, ◌∙◌, inl, inr, zero-add, arith, length-set, get_or-set_other, get_or-set_same, ext_get_or}
+use Rattle.std.proofs.Common.{◌++◌, ◌-◌, zero-le, drop, ◌≡◌, ℕ, ◌+◌, ◌<◌, ◌≤◌, Bool, cond, List, length, get_or, set, sym, ap, ◌∙◌, inl, inr, zero-add, arith, length-set, get_or-set_other, get_or-set_same, ext_get_or}
 use lib.Ieee.{Float, nan}
+use lib.ListN.{replicate}
+use lib.Seq.{get_or-append_right}
+use Rattle.std.proofs.lemmas.List.{get_or-drop, get_or-replicate, get_or_append_left, length-append, length-drop, length-replicate}
 use lib.Ieee.Bits.{is_true}
 use Rattle.lists.specs.Lists.{below}
 use Rattle.lists.proofs.Lists.{length-placed, get_d-placed}
@@ -168,3 +171,32 @@ changed-still n l =
   where
     same : ℕ → Float → Float
     same j old = old
+
+-- one number at the first n places
+pub changed-alike : (x : Float) (n : ℕ) (l : List Float) → n ≤ length l → replicate n x ++ drop n l ≡ changed (λ _ _. x) 0 n l
+changed-alike x n l room = by-range 0 n new (changed f 0 n l) (sizes ∙ sym (changed-length f 0 n l)) inside outside
+  where
+    f : ℕ → Float → Float
+    f _ _ = x
+
+    new : List Float
+    new = replicate n x ++ drop n l
+
+    sizes : length new ≡ length l
+    sizes = omega (arith, length-append (replicate n x) (drop n l), length-replicate n x, length-drop n l)
+
+    inside : (j : ℕ) → j < length new → 0 ≤ j → j < n → get_or new j nan ≡ get_or (changed f 0 n l) j nan
+    inside j h a b =
+        get_or_append_left (replicate n x) (drop n l) nan j (omega (arith, length-replicate n x)) ∙ get_or-replicate n j x nan b
+        ∙ sym (changed-in f 0 n l j (omega (arith, sizes)) a b)
+
+    outside : (j : ℕ) → j < length new → ((0 ≤ j) → (j < n) → ⊥) → get_or new j nan ≡ get_or (changed f 0 n l) j nan
+    outside j h o =
+        elim (less-or-not j n) [
+          | inl c ↦ absurd (o zero-le c)
+          | inr c ↦
+              let back : n + (j - length (replicate n x)) ≡ j = omega (arith, length-replicate n x) in
+              get_or-append_right (replicate n x) (drop n l) j nan (omega (arith, length-replicate n x))
+              ∙ get_or-drop n l (j - length (replicate n x)) nan ∙ ap (λ (i : ℕ). get_or l i nan) back
+              ∙ sym (changed-out f 0 n l j (omega (arith, sizes)) o)
+        ]

@@ -1,7 +1,8 @@
 -- Where the rows of a box stand in its layers and among its columns, and what a row, and a layer of rows, change. Assumes nothing.
-use Rattle.std.proofs.Common.{◌≡◌, ℕ, ◌+◌, ◌-◌, ◌*◌, ◌/◌, ◌%◌, ◌<◌, ◌≤◌, List, length, get_or, set, sym, ap, ◌∙◌, ap₂, zero-le, le_trans, le_of_eq, add-zero, mul-le-mul_right, mod-eq_of_lt, mul_comm, add-mul, mul-le-mul, mul-le-mul_left, one-mul, zero-mul, mul-one, mul-add, arith, w64, Fits}
+use Rattle.std.proofs.Common.{take, drop, zero-add, length-take-le, ◌≡◌, ℕ, ◌+◌, ◌-◌, ◌*◌, ◌/◌, ◌%◌, ◌<◌, ◌≤◌, List, length, get_or, set, sym, ap, ◌∙◌, ap₂, zero-le, le_trans, le_of_eq, add-zero, mul-le-mul_right, mod-eq_of_lt, mul_comm, add-mul, mul-le-mul, mul-le-mul_left, one-mul, zero-mul, mul-one, mul-add, arith, w64, Fits}
 use native.Mathlib.Nat.{mul-add-div_right, mul-add-mod_self_right, div-eq_of_lt}
 use lib.Ieee.{Float, nan}
+use Rattle.std.proofs.lemmas.List.{get_or-take, get_or-drop, length-drop}
 use Rattle.rules.proofs.Indexes.{box-fits, small}
 use Rattle.grid.specs.declared.Block.{Block}
 use Rattle.grid.specs.Block.{point, box_of}
@@ -14,15 +15,6 @@ use Rattle.levels.specs.Fits.{Roomy, row_step, column_step}
 use Rattle.levels.proofs.Changed.{changed-more, changed-on, changed-same}
 
 -- ---- a place in a row
-
-pub place-fits : {a n j : ℕ} → a ≤ 2147483648 → n ≤ 1073741824 → j < n → Fits w64 (a + j)
-place-fits h k l = omega arith
-
-pub place_in : (a n j size : ℕ) → a + n ≤ size → j < n → a + j < size
-place_in a n j size h l = omega arith
-
-pub next_place : (j n : ℕ) → j < n → j + 1 ≤ n
-next_place j n h = omega arith
 
 -- one column more
 pub row_more : (lower upper : List Float) (a b z to j : ℕ) (old : List Float) {out last : List Float} {r : Float} → to + j < length old
@@ -50,10 +42,22 @@ row_more lower upper a b z to j old {out} {last} {r} h inv er el =
     back : level_step z (get_or lower (a + j) nan) (get_or upper (b + j) nan) (get_or out (to + j) nan) ≡ f (to + j) (get_or out (to + j) nan)
     back = ap (λ (m : ℕ). level_step z (get_or lower (a + m) nan) (get_or upper (b + m) nan) (get_or out (to + j) nan)) same
 
--- all of them
-pub row_done : (lower upper : List Float) (a b z to : ℕ) (old : List Float) {out : List Float} {j n : ℕ}
-    → out ≡ changed (row_step lower upper a b z to) to (to + j) old → j ≡ n → out ≡ changed (row_step lower upper a b z to) to (to + n) old
-row_done lower upper a b z to old inv e = inv ∙ ap (λ (m : ℕ). changed (row_step lower upper a b z to) to (to + m) old) e
+-- a row that is lent is a part of its layer
+part-at : (l : List Float) (p n i : ℕ) → i < n → get_or (take n (drop p l)) (0 + i) nan ≡ get_or l (p + i) nan
+part-at l p n i h = ap (λ (m : ℕ). get_or (take n (drop p l)) m nan) (zero-add i) ∙ get_or-take n (drop p l) i nan h ∙ get_or-drop p l i nan
+
+pub row-lent : (lower upper : List Float) (a b n z to : ℕ) (old : List Float) {s t : List Float} → s ≡ take n (drop a lower) → t ≡ take n (drop b upper)
+    → a + n ≤ length lower → changed (row_step s t 0 0 z to) to (to + length s) old ≡ changed (row_step lower upper a b z to) to (to + n) old
+row-lent lower upper a b n z to old {s} {t} es et h =
+    ap (λ (m : ℕ). changed (row_step s t 0 0 z to) to (to + m) old) long
+    ∙ changed-same (row_step s t 0 0 z to) (row_step lower upper a b z to) to (to + n) old
+    (λ j low high.
+    let i : j - to < n = omega arith in
+    ap₂ (λ (x y : Float). level_step z x y (get_or old j nan)) (ap (λ (l : List Float). get_or l (0 + (j - to)) nan) es ∙ part-at lower a n (j - to) i)
+    (ap (λ (l : List Float). get_or l (0 + (j - to)) nan) et ∙ part-at upper b n (j - to) i))
+  where
+    long : length s ≡ n
+    long = ap length es ∙ length-take-le n (drop a lower) (omega (arith, h, length-drop a lower))
 
 -- ---- a row of the box
 
@@ -143,17 +147,8 @@ row-place k r y low high =
     }
 
 -- a place in a layer that begins at a in a list
-place_short : (a r n P : ℕ) → a ≤ 1073741824 → r + n ≤ P → P ≤ 1073741824 → a + r ≤ 2147483648
-place_short a r n P h l m = omega arith
-
 place-held : (a r n P size : ℕ) → a + P ≤ size → r + n ≤ P → a + r + n ≤ size
 place-held a r n P size h l = omega arith
-
-pub row-short : {k : Block} {y : ℕ} → RowPlace k y → {a : ℕ} → a ≤ 1073741824 → a + row_at k y ≤ 2147483648
-row-short {k} {y} p {a} h = place_short a (row_at k y) (across (box_of k)) (k.dims.x * k.dims.y) h p.within p.plane
-
-pub short-fits : {a : ℕ} → a ≤ 2147483648 → Fits w64 a
-short-fits h = omega arith
 
 pub row-held : {k : Block} {y : ℕ} → RowPlace k y → (a size : ℕ) → a + k.dims.x * k.dims.y ≤ size → a + row_at k y + across (box_of k) ≤ size
 row-held {k} {y} p a size h = place-held a (row_at k y) (across (box_of k)) (k.dims.x * k.dims.y) size h p.within

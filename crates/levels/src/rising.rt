@@ -9,7 +9,7 @@ ghost use Rattle.levels.specs.Columns.{columns, level_of, changed};
 ghost use Rattle.levels.specs.Fits.{Roomy, Laid, row_step, column_step, lowest_step};
 
 use grid::Block;
-use grid::values::{Distance, value_at};
+use grid::values::Distance;
 use std::num::nearest_u32_to_f32;
 
 // The z below, for the level of a crossing; at 0, where no crossing is below, 0.
@@ -35,28 +35,17 @@ fn step(top: f32, under: f32, lower: f32, upper: f32, old: f32) -> f32
     old
 }
 
-// One more row of n points, on the columns from `to` on.
-fn rise_row<D: Distance>(
-    lower: &[D],
-    upper: &[D],
-    a: usize,
-    b: usize,
-    n: usize,
-    z: u32,
-    out: &mut [f32],
-    to: usize,
-)
-    requires n_in_bounds { (a + n ≤ length (D.floats lower.now)) × (b + n ≤ length (D.floats upper.now)) }
-    requires a_bound { (a ≤ 2147483648) × (b ≤ 2147483648) × (n ≤ 1073741824) × (to + n ≤ length out.old) }
+// One more row of points, on the columns from `to` on.
+fn rise_row<D: Distance>(lower: &[D], upper: &[D], z: u32, out: &mut [f32], to: usize)
+    requires as_long { length (D.floats lower.now) ≡ length (D.floats upper.now) }
+    requires room { to + length (D.floats lower.now) ≤ length out.old }
     ensures { out.new
-        ≡ changed (row_step (D.floats lower.now) (D.floats upper.now) a b z to) to (to + n) out.old }
+        ≡ changed (row_step (D.floats lower.now) (D.floats upper.now) 0 0 z to) to (to + length (D.floats lower.now)) out.old }
 {
     let top = nearest_u32_to_f32(z);
     let under = nearest_u32_to_f32(one_below(z));
-    for j in 0usize..n {
-        let low = value_at(lower, a + j);
-        let high = value_at(upper, b + j);
-        out[to + j] = step(top, under, low, high, out[to + j]);
+    for (j, low) in lower.iter().enumerate() {
+        out[to + j] = step(top, under, low.float(), upper[j].float(), out[to + j]);
     }
 }
 
@@ -81,7 +70,13 @@ pub(crate) fn rise_layer<D: Distance>(
     for y in from..end {
         let at = (k.low.x as usize) + (k.dims.x as usize) * (y as usize);
         let to = ((y - from) as usize) * n;
-        rise_row(lower, upper, a + at, b + at, n, z, out, to);
+        rise_row(
+            &lower[a + at..a + at + n],
+            &upper[b + at..b + at + n],
+            z,
+            out,
+            to,
+        );
     }
 }
 
@@ -90,9 +85,7 @@ fn clear(n: usize, out: &mut [f32])
     requires { n ≤ length out.old }
     ensures { out.new ≡ changed (λ _ _. no_level) 0 n out.old }
 {
-    for j in 0usize..n {
-        out[j] = -1.0;
-    }
+    out[..n].fill(-1.0);
 }
 
 // How many columns the box has.

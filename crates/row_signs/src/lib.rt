@@ -12,15 +12,14 @@ use grid::Block;
 use grid::signs::counted;
 use grid::values::{Distance, value_at};
 
-// How many of n distances from p on are negative.
-fn negatives<D: Distance>(a: &[D], p: usize, n: usize) -> u32
-    requires n_in_bounds { p + n ≤ length (D.floats a.now) }
-    requires n_bound { n ≤ 16777217 }
-    ensures { result ≡ negatives_run (D.floats a.now) p n }
+// How many of a run of distances are negative.
+fn negatives<D: Distance>(points: &[D]) -> u32
+    requires n_bound { length (D.floats points.now) ≤ 16777217 }
+    ensures { result ≡ negatives_run (D.floats points.now) 0 (length (D.floats points.now)) }
 {
     let mut count = 0u32;
-    for j in 0usize..n {
-        count += counted(cube::negative(value_at(a, p + j)));
+    for &d in points {
+        count += counted(cube::negative(d.float()));
     }
     count
 }
@@ -73,8 +72,8 @@ pub fn read_row<D: Distance>(
         let both = code_run(lower, upper, at, points, codes, from);
         return both as usize;
     }
-    let below = negatives(lower, at, points);
-    let above = negatives(upper, at, points);
+    let below = negatives(&lower[at..at + points]);
+    let above = negatives(&upper[at..at + points]);
     (below as usize) + (above as usize)
 }
 

@@ -1,15 +1,18 @@
 -- The row's runs lie in the two layers, and what they count is what the row's cells count. Assumes nothing.
 use Prim.Native.Nat.{◌+◌, ◌-◌, ◌*◌, ◌≤◌}
 use native.Mathlib.Omega.{arith}
-use mathlib.Core.Path.{refl, ap}
+use mathlib.Core.Path.{refl, sym, ap, ◌∙◌}
 use mathlib.Core.List.{List}
 use lib.Ieee.{Float}
+use lib.ListN.{length}
 use Rattle.grid.specs.Block.{box_of}
+use Rattle.grid.proofs.Parts.{length_part}
 use Rattle.grid.proofs.Walks.{cell-spans}
 use Rattle.grid.proofs.Layers.{somewhere}
 use Rattle.grid.proofs.LayerWalks.{Row}
 use Rattle.count.specs.declared.OwnedEdges.{OwnedEdges}
 use Rattle.row_signs.specs.Signs.{row_length}
+use Rattle.count.proofs.Runs.{changes-part}
 use Rattle.count.proofs.Rows.{Reach, reach, row-tally}
 use Rattle.count.proofs.count_row.Given.{Over}
 use Rattle.count.proofs.count_row.Goals as goal
@@ -64,38 +67,102 @@ surface_cells-surface-requires-clause-row_in_bounds g c =
 pub surface_cells-surface-requires-clause-n_bound : goal.surface_cells-surface-requires-clause-n_bound
 surface_cells-surface-requires-clause-n_bound g c = let r = there g (goal.at.surface_cells-surface-requires-clause-n_bound g c).Start in omega arith
 
+pub run-x_low-requires : goal.run-x_low-requires
+run-x_low-requires g c =
+    let r = there g (goal.at.run-x_low-requires g c).Start in
+    let o = few g (goal.at.run-x_low-requires g c).After-owned_edges-own in omega arith
+
+pub run-x_high-requires : goal.run-x_high-requires
+run-x_high-requires g c =
+    let r = there g (goal.at.run-x_high-requires g c).Start in
+    let o = few g (goal.at.run-x_high-requires g c).After-owned_edges-own in omega arith
+
 pub changes-along_x-requires-clause-n_bound : goal.changes-along_x-requires-clause-n_bound
 changes-along_x-requires-clause-n_bound g c =
+    let a = c.args in
     let r = there g (goal.at.changes-along_x-requires-clause-n_bound g c).Start in
-    let o = few g (goal.at.changes-along_x-requires-clause-n_bound g c).After-owned_edges-own in omega arith
+    let o = few g (goal.at.changes-along_x-requires-clause-n_bound g c).After-owned_edges-own in
+    let at = a.k.low.x + a.k.dims.x * a.y in
+    let own = c.owned_edges-own.result.x in
+    omega (arith, ap length c.run-x_low.ensures ∙ length_part (at) own (g.D.Distance.floats a.lower.now) (omega arith))
 
-pub changes-along_x-requires-clause-n_in_bounds : goal.changes-along_x-requires-clause-n_in_bounds
-changes-along_x-requires-clause-n_in_bounds g c =
-    let r = there g (goal.at.changes-along_x-requires-clause-n_in_bounds g c).Start in
-    let o = few g (goal.at.changes-along_x-requires-clause-n_in_bounds g c).After-owned_edges-own in (omega arith, omega arith)
+pub changes-along_x-requires-clause-same_length : goal.changes-along_x-requires-clause-same_length
+changes-along_x-requires-clause-same_length g c =
+    let a = c.args in
+    let r = there g (goal.at.changes-along_x-requires-clause-same_length g c).Start in
+    let o = few g (goal.at.changes-along_x-requires-clause-same_length g c).After-owned_edges-own in
+    let at = a.k.low.x + a.k.dims.x * a.y in
+    let own = c.owned_edges-own.result.x in
+    ap length c.run-x_low.ensures ∙ length_part (at) own (g.D.Distance.floats a.lower.now) (omega arith) ∙ sym (ap length c.run-x_high.ensures ∙ length_part (at + 1) own (g.D.Distance.floats a.lower.now) (omega arith))
+
+pub run-y_low-requires : goal.run-y_low-requires
+run-y_low-requires g c =
+    let r = there g (goal.at.run-y_low-requires g c).Start in
+    let o = few g (goal.at.run-y_low-requires g c).After-owned_edges-own in omega arith
+
+pub run-y_high-requires : goal.run-y_high-requires
+run-y_high-requires g c =
+    let r = there g (goal.at.run-y_high-requires g c).Start in
+    let o = few g (goal.at.run-y_high-requires g c).After-owned_edges-own in omega arith
 
 pub changes-along_y-requires-clause-n_bound : goal.changes-along_y-requires-clause-n_bound
 changes-along_y-requires-clause-n_bound g c =
+    let a = c.args in
     let r = there g (goal.at.changes-along_y-requires-clause-n_bound g c).Start in
-    let o = few g (goal.at.changes-along_y-requires-clause-n_bound g c).After-owned_edges-own in omega arith
+    let o = few g (goal.at.changes-along_y-requires-clause-n_bound g c).After-owned_edges-own in
+    let at = a.k.low.x + a.k.dims.x * a.y in
+    let own = c.owned_edges-own.result.y in
+    omega (arith, ap length c.run-y_low.ensures ∙ length_part (at + 1) own (g.D.Distance.floats a.lower.now) (omega arith))
 
-pub changes-along_y-requires-clause-n_in_bounds : goal.changes-along_y-requires-clause-n_in_bounds
-changes-along_y-requires-clause-n_in_bounds g c =
-    let r = there g (goal.at.changes-along_y-requires-clause-n_in_bounds g c).Start in
-    let o = few g (goal.at.changes-along_y-requires-clause-n_in_bounds g c).After-owned_edges-own in (omega arith, omega arith)
+pub changes-along_y-requires-clause-same_length : goal.changes-along_y-requires-clause-same_length
+changes-along_y-requires-clause-same_length g c =
+    let a = c.args in
+    let r = there g (goal.at.changes-along_y-requires-clause-same_length g c).Start in
+    let o = few g (goal.at.changes-along_y-requires-clause-same_length g c).After-owned_edges-own in
+    let at = a.k.low.x + a.k.dims.x * a.y in
+    let own = c.owned_edges-own.result.y in
+    ap length c.run-y_low.ensures ∙ length_part (at + 1) own (g.D.Distance.floats a.lower.now) (omega arith) ∙ sym (ap length c.run-y_high.ensures ∙ length_part (at + 1 + a.k.dims.x) own (g.D.Distance.floats a.lower.now) (omega arith))
+
+pub run-z_low-requires : goal.run-z_low-requires
+run-z_low-requires g c =
+    let r = there g (goal.at.run-z_low-requires g c).Start in
+    let o = few g (goal.at.run-z_low-requires g c).After-owned_edges-own in omega arith
+
+pub run-z_high-requires : goal.run-z_high-requires
+run-z_high-requires g c =
+    let r = there g (goal.at.run-z_high-requires g c).Start in
+    let o = few g (goal.at.run-z_high-requires g c).After-owned_edges-own in omega arith
 
 pub changes-along_z-requires-clause-n_bound : goal.changes-along_z-requires-clause-n_bound
 changes-along_z-requires-clause-n_bound g c =
+    let a = c.args in
     let r = there g (goal.at.changes-along_z-requires-clause-n_bound g c).Start in
-    let o = few g (goal.at.changes-along_z-requires-clause-n_bound g c).After-owned_edges-own in omega arith
+    let o = few g (goal.at.changes-along_z-requires-clause-n_bound g c).After-owned_edges-own in
+    let at = a.k.low.x + a.k.dims.x * a.y in
+    let own = c.owned_edges-own.result.z in
+    omega (arith, ap length c.run-z_low.ensures ∙ length_part (at + 1) own (g.D.Distance.floats a.lower.now) (omega arith))
 
-pub changes-along_z-requires-clause-n_in_bounds : goal.changes-along_z-requires-clause-n_in_bounds
-changes-along_z-requires-clause-n_in_bounds g c =
-    let r = there g (goal.at.changes-along_z-requires-clause-n_in_bounds g c).Start in
-    let o = few g (goal.at.changes-along_z-requires-clause-n_in_bounds g c).After-owned_edges-own in (omega arith, omega arith)
+pub changes-along_z-requires-clause-same_length : goal.changes-along_z-requires-clause-same_length
+changes-along_z-requires-clause-same_length g c =
+    let a = c.args in
+    let r = there g (goal.at.changes-along_z-requires-clause-same_length g c).Start in
+    let o = few g (goal.at.changes-along_z-requires-clause-same_length g c).After-owned_edges-own in
+    let at = a.k.low.x + a.k.dims.x * a.y in
+    let own = c.owned_edges-own.result.z in
+    ap length c.run-z_low.ensures ∙ length_part (at + 1) own (g.D.Distance.floats a.lower.now) (omega arith) ∙ sym (ap length c.run-z_high.ensures ∙ length_part (at + 1) own (g.D.Distance.floats a.upper.now) (omega arith))
 
 pub returns : goal.returns
 returns g c =
     let a = c.args in
+    let r = there g (goal.at.returns g c).Start in
+    let o = few g (goal.at.returns g c).After-owned_edges-own in
+    let at = a.k.low.x + a.k.dims.x * a.y in
+    let own = c.owned_edges-own.result in
+    let along-x = c.changes-along_x.ensures
+    ∙ changes-part (g.D.Distance.floats a.lower.now) _ (g.D.Distance.floats a.lower.now) _ (at) (at + 1) own.x (omega arith) c.run-x_low.ensures c.run-x_high.ensures in
+    let along-y = c.changes-along_y.ensures
+    ∙ changes-part (g.D.Distance.floats a.lower.now) _ (g.D.Distance.floats a.lower.now) _ (at + 1) (at + 1 + a.k.dims.x) own.y (omega arith) c.run-y_low.ensures c.run-y_high.ensures in
+    let along-z = c.changes-along_z.ensures
+    ∙ changes-part (g.D.Distance.floats a.lower.now) _ (g.D.Distance.floats a.upper.now) _ (at + 1) (at + 1) own.z (omega arith) c.run-z_low.ensures c.run-z_high.ensures in
     row-tally (lower_of g (goal.at.returns g c).Start) (upper_of g (goal.at.returns g c).Start) a.k c.requires.in_layers c.requires.y_le_y refl c.owned_edges-own.ensures c.surface_cells-surface.ensures
-    c.changes-along_x.ensures c.changes-along_y.ensures c.changes-along_z.ensures
+    along-x along-y along-z

@@ -1,5 +1,4 @@
 -- The invariant: the indices are the faces of the vertices before `done`, batch after batch; after the last, those of the layer. Assumes nothing.
-use Rattle.std.proofs.Common.{◌-◌, ◌≤◌}
 use Rattle.grid.specs.Block.{box_of, flags_of}
 use Rattle.grid.specs.Layers.{two_layers}
 use Rattle.layer_faces.proofs.Lookups.{kept_of}
@@ -8,7 +7,4 @@ use Rattle.layer_faces.proofs.face_layer.Given as goal
 
 abbrev pub invariant-loop-done : goal.invariant-loop-done
 invariant-loop-done g l = let g = two_layers (g.D.Distance.floats l.lower) (g.D.Distance.floats l.upper) l.k l.z in
-    (l.done ≤ l.count) × Faced g (box_of l.k) (flags_of l.k) l.first.here l.z (kept_of l.first l.map_below l.positions_below) l.initial.indices l.at l.done l.used l.indices
-
-abbrev pub decreases-loop-done : goal.decreases-loop-done
-decreases-loop-done g l = l.count - l.done
+    Faced g (box_of l.k) (flags_of l.k) l.first.here l.z (kept_of l.first l.map_below l.positions_below) l.initial.indices l.at l.done l.used l.indices

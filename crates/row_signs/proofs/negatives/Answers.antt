@@ -1,35 +1,26 @@
--- The invariant: the count is that of the first j distances, and at most j, so that it fits 32 bits. Assumes nothing.
-use Prim.Native.Nat.{◌<◌, ◌^◌}
-use mathlib.Core.Path.{refl, ap, ◌∙◌}
+-- The invariant: the count is that of the distances so far, and at most as many, so that it fits 32 bits. Assumes nothing.
+use Prim.Native.Nat.{ℕ}
+use native.Mathlib.Nat.{zero-add}
 use native.Mathlib.Omega.{arith}
-use mathlib.Core.List.{List}
-use lib.Ieee.{Float}
-use lib.ListN.{length}
+use mathlib.Core.Path.{refl, sym, ap, ◌∙◌}
+use lib.Ieee.{nan}
+use lib.ListN.{get_or}
 use Rattle.lists.specs.Lists.{one}
 use Rattle.rules.specs.Cell.{negative}
-use Rattle.grid.proofs.Places.{grid-counted}
+use Rattle.grid.proofs.Places.{as-long, float-at}
 use Rattle.row_signs.specs.Signs.{negative_at}
 use Rattle.row_signs.proofs.Runs.{none-counted, one_more}
-use Rattle.row_signs.proofs.negatives.Given.{Over}
 use Rattle.row_signs.proofs.negatives.Goals as goal
-use Rattle.row_signs.proofs.negatives.Goals.{Start}
 
-abbrev list_of : (g : Over) → Start g → List Float
-list_of g c = let a = c.args in g.D.Distance.floats a.a.now
+pub loop-d-init : goal.loop-d-init
+loop-d-init g c = (omega arith, omega arith, none-counted (negative_at (g.D.Distance.floats c.args.points.now) 0))
 
-short : (g : Over) (c : Start g) → length (list_of g c) < 2 ^ 64
-short g c = let a = c.args in grid-counted g.met.D.Distance.floats_are a.a.now (omega arith)
-
--- ---- the needs
-pub loop-j-init : goal.loop-j-init
-loop-j-init g c =
-    (omega arith, omega arith, none-counted (negative_at (list_of g (goal.at.loop-j-init g c).Start) c.args.p))
-
-pub overflow_add-p : goal.overflow_add-p
-overflow_add-p g c = let h = short g (goal.at.overflow_add-p g c).Start in omega arith
-
-pub loop-j-preserved : goal.loop-j-preserved
-loop-j-preserved g c =
-    let w = c.loop-j in
-    let more = c.counted-count.ensures.value ∙ ap one (c.negative.ensures ∙ ap negative c.value_at.ensures) in
-    (omega arith, omega arith, one_more (negative_at (list_of g (goal.at.loop-j-preserved g c).Start) c.args.p) w.j w.invariant.2 more refl)
+pub loop-d-preserved : goal.loop-d-preserved
+loop-d-preserved g c =
+    let are = g.met.D.Distance.floats_are in
+    let points = c.args.points.now in
+    let floats = g.D.Distance.floats points in
+    let w = c.loop-d in
+    let d = c.float.ensures ∙ float-at are points c.d-item.result nan (omega (arith, as-long are points, c.loop-d-test.true)) c.d-item.is in
+    let more = c.counted-count.ensures.value ∙ ap one (c.negative.ensures ∙ ap negative (d ∙ sym (ap (λ (i : ℕ). get_or floats i nan) (zero-add w.d-index)))) in
+    (omega (arith, as-long are points, c.loop-d-test.true), omega arith, one_more (negative_at floats 0) w.d-index w.invariant.2 more refl)

@@ -9,6 +9,8 @@ use lib.Seq.{sets}
 use borrow.Author.Tests.{le-leb, lt-leb}
 use Rattle.row_signs.specs.Signs.{row_start, row_points, row_negatives}
 use Rattle.row_signs.specs.Codes.{codes_run, row_kept}
+use Rattle.grid.proofs.Places.{part-of-grid}
+use Rattle.row_signs.proofs.Runs.{negatives-part}
 use Rattle.row_signs.proofs.read_row.Given.{Over}
 use Rattle.row_signs.proofs.read_row.Goals as goal
 use Rattle.row_signs.proofs.read_row.Goals.{Start}
@@ -44,4 +46,11 @@ returns-clause-codes_after g c =
 
 pub returns-clause-value : goal.returns-clause-value
 unfolding row_negatives
-returns-clause-value g c = ap₂ ◌+◌ c.negatives-below.ensures c.negatives-above.ensures
+returns-clause-value g c =
+    let a = c.args in
+    let are = g.met.D.Distance.floats_are in
+    let at = row_start a.k a.y in
+    let end = at + row_points a.k in
+    ap₂ ◌+◌
+    (c.negatives-below.ensures ∙ negatives-part (g.D.Distance.floats a.lower.now) _ at (row_points a.k) c.requires.k_in_bounds (part-of-grid are a.lower.now at end))
+    (c.negatives-above.ensures ∙ negatives-part (g.D.Distance.floats a.upper.now) _ at (row_points a.k) c.requires.k_in_bounds_2 (part-of-grid are a.upper.now at end))

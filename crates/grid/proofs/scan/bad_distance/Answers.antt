@@ -1,7 +1,7 @@
 -- The invariant: the flag says whether a layer before z has a distance beyond the cap. Assumes nothing.
 use Prim.Native.Nat.{◌+◌}
 use mathlib.Core.List.{List}
-use mathlib.Core.Path.{◌∙◌}
+use mathlib.Core.Path.{refl, ◌∙◌}
 use lib.Ieee.{Float}
 use Rattle.grid.proofs.Runs.{box-is}
 use Rattle.grid.proofs.Walks.{Turn, turn, end_fits, scan-begun, scan-more, scan-ended, point-spans}
@@ -24,7 +24,7 @@ loop-z-init g c = scan-begun (point-spans c.requires).z
 
 pub loop-z-preserved : goal.loop-z-preserved
 loop-z-preserved g c =
-    scan-more c.loop-z.invariant (here g (goal.at.loop-z-preserved g c).In-loop-z) c.bad_layer.ensures c.either-bad.ensures
+    scan-more c.loop-z.invariant (here g (goal.at.loop-z-preserved g c).In-loop-z) c.bad_layer-bad.ensures refl
 
 pub returns : goal.returns
 returns g c =

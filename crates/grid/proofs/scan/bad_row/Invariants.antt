@@ -1,11 +1,10 @@
--- The invariant: the flag says whether one of the first j distances is beyond the cap. Assumes nothing.
-use Prim.Native.Nat.{◌≤◌, ◌-◌}
+-- The invariant: the flag says whether one of the distances before this one is beyond the cap. Assumes nothing.
+use Prim.Native.Nat.{◌≤◌}
 use mathlib.Core.Path.{◌≡◌}
-use Rattle.grid.specs.Inside.{bad_run}
+use lib.ListN.{length, take}
+use Rattle.lists.specs.Lists.{some}
+use Rattle.rules.specs.Call.{beyond}
 use Rattle.grid.proofs.scan.bad_row.Given as goal
 
-abbrev pub invariant-loop-j : goal.invariant-loop-j
-invariant-loop-j g l = (l.j ≤ l.n) × (l.bad ≡ bad_run (g.D.Distance.floats l.sdf) l.at l.j)
-
-abbrev pub decreases-loop-j : goal.decreases-loop-j
-decreases-loop-j g l = l.n - l.j
+abbrev pub invariant-loop-d : goal.invariant-loop-d
+invariant-loop-d g l = (l.d-index ≤ length l.row) × (l.bad ≡ some beyond (take l.d-index (g.D.Distance.floats l.row)))

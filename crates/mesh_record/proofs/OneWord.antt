@@ -8,7 +8,10 @@ use lib.Ieee.Bits.{nan_bits_is}
 use Rattle.mesh_record.specs.Record.{total, sum_of}
 use Rattle.mesh_record.specs.Faults.{finite}
 
--- from a sum so far
+pub sum-seven : (M a b c d e f g : ℕ) → ((((((a + b) % M + c) % M + d) % M + e) % M + f) % M + g) % M ≡ (a + (b + (c + (d + (e + (f + (g + 0))))))) % M
+sum-seven M a b c d e f g = simp (mod-add-mod, add_assoc, add-zero)
+
+-- of any list of words, one after the other; from a sum so far
 fold-total : (a : ℕ) (ws : List ℕ) → a < 2 ^ 32 → fold (λ s w. (s + w) % 2 ^ 32) a ws ≡ (a + total ws) % 2 ^ 32
 unfolding total
 fold-total a [] h = sym (mod-eq_of_lt (omega arith) ∙ add-zero a)

@@ -18,3 +18,4 @@ pub mod Parts
 pub mod Widths
 pub mod Places
 pub mod Instances
+pub mod OneResult

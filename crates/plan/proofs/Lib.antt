@@ -7,5 +7,6 @@ pub mod Places
 pub mod Refused
 pub mod Decided
 pub mod Once
+pub mod Unique
 pub mod Cases
 pub mod Lowered

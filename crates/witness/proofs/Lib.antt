@@ -6,5 +6,6 @@ pub mod Refusals
 pub mod Named
 pub mod Outcomes
 pub mod Once
+pub mod Unique
 pub mod Instances
 pub mod Cases

@@ -1,5 +1,5 @@
--- "Show that two outcomes that fit are equal": the answer and the words afterwards; and that the answer goes with that of the check of the plan: an edge is told exactly if
--- it says no, and none exactly if it says yes; and whose the edge is. Assumes nothing.
+-- "Show that two outcomes that fit are equal": the answer, the result with it, and the words afterwards; and that the answer goes with that of the check of
+-- the plan: an edge is told exactly if it says no, and none exactly if it says yes; and whose the edge is. Assumes nothing.
 use Prim.Native.Nat.{ℕ, ◌%◌, ◌≤◌, ◌<◌}
 use native.Mathlib.Omega.{arith}
 use mathlib.Core.Bool.{Bool, true, false, not, cond}
@@ -9,6 +9,7 @@ use mathlib.Core.Path.{◌≡◌, refl, sym, ap, ◌∙◌}
 use borrow.Author.Tests.{eq-eqb}
 use lib.Dec.{T}
 use lib.ListN.{length, get_or}
+use Rattle.std.specs.Prelude.{Result, Ok, Err}
 use Rattle.lists.specs.Lists.{one, up_to}
 use Rattle.lists.proofs.Tests.{less-or-not}
 use Rattle.lists.proofs.Lists.{All, none, more, all_keep, length-keep, many-map}
@@ -16,9 +17,13 @@ use Rattle.lists.proofs.Runs.{up_to-each}
 use Rattle.rules.specs.Grid.{GridPoint, Axis, axis_x, axis_y, axis_z}
 use Rattle.rules.specs.Faces.{Edge, edge, owned}
 use Rattle.rules.specs.Cutting.{Piece, Plan}
+use Rattle.plan.specs.declared.refusal.Refusal.TheVariants.{TooMany, BadBox}
 use Rattle.plan.specs.Plan.{plan_answer, Checks}
+use Rattle.plan.proofs.Once.{same-refusal as same-why, some-number}
+use Rattle.witness.specs.declared.words.NoEdge.{NoEdge}
+use Rattle.witness.specs.declared.words.NoEdge.TheVariants.{NotInTwelves, Refused, Planned}
 use Rattle.witness.specs.Witness.{piece_in, count_in, pieces_in, owners, Before}
-use Rattle.witness.specs.Witness.{FirstWrong, refusal, no_block, edge_words, Tells, refused, holds, told}
+use Rattle.witness.specs.Witness.{FirstWrong, refusal, reason_number, outcome_number, no_block, edge_words, Tells, refused, holds, told}
 
 -- ---- of two edges one comes first
 
@@ -98,6 +103,34 @@ module _ (blocks : ℕ → Piece) (n : ℕ) (whole : Piece) (e : Edge) where
       go (a ∷ []) (more p q) h = inr (inl (p, refl, owns_not (owned_by whole) h))
       go (a ∷ b ∷ os) (more p (more q r)) h = inr (inr (p, q))
 
+-- ---- a result that gives nothing, by its number
+
+same-reason : (p q : NoEdge) → reason_number p ≡ reason_number q → p ≡ q
+same-reason NotInTwelves NotInTwelves h = refl
+same-reason NotInTwelves (Refused TooMany) h = absurd (omega (arith, h))
+same-reason NotInTwelves (Refused BadBox) h = absurd (omega (arith, h))
+same-reason NotInTwelves Planned h = absurd (omega (arith, h))
+same-reason (Refused TooMany) NotInTwelves h = absurd (omega (arith, h))
+same-reason (Refused BadBox) NotInTwelves h = absurd (omega (arith, h))
+same-reason (Refused e) (Refused f) h = ap Refused (same-why e f h)
+same-reason (Refused TooMany) Planned h = absurd (omega (arith, h))
+same-reason (Refused BadBox) Planned h = absurd (omega (arith, h))
+same-reason Planned NotInTwelves h = absurd (omega (arith, h))
+same-reason Planned (Refused TooMany) h = absurd (omega (arith, h))
+same-reason Planned (Refused BadBox) h = absurd (omega (arith, h))
+same-reason Planned Planned h = refl
+
+some-reason : (p : NoEdge) → reason_number p ≡ 0 → ⊥
+some-reason NotInTwelves h = omega (arith, h)
+some-reason (Refused why) h = some-number why h
+some-reason Planned h = omega (arith, h)
+
+pub one-answer : (r s : Result (Unit {0}) NoEdge) → outcome_number r ≡ outcome_number s → r ≡ s
+one-answer (Ok u) (Ok v) h = refl
+one-answer (Ok u) (Err q) h = absurd (some-reason q (sym h))
+one-answer (Err p) (Ok v) h = absurd (some-reason p h)
+one-answer (Err p) (Err q) h = ap Err (same-reason p q h)
+
 module _ (words : List ℕ) (whole : Piece) where
   abbrev FirstOf : Edge → Type 0
   FirstOf e = FirstWrong (piece_in words) (count_in words) whole e
@@ -123,6 +156,11 @@ module _ (words : List ℕ) (whole : Piece) where
   same_outcome (told z e f u k) (holds z' e' h k') = absurd (plan-right h f u)
   same_outcome (told z e f u k) (told z' e' f' u' k') =
       (e ∙ sym e', k ∙ ap told_of (first-once (piece_in words) (count_in words) whole f f' u u') ∙ sym k')
+
+  -- and so the result, which is read from its number
+  pub same_result : (r s : Result (Unit {0}) NoEdge) {old new new' : List ℕ} → Tells words whole (outcome_number r) old new → Tells words whole (outcome_number s) old new'
+      → (r ≡ s) × (new ≡ new')
+  same_result r s t u = let e = same_outcome t u in (one-answer r s e.0, e.1)
 
   -- ---- with the check of the same plan
 

@@ -4,6 +4,7 @@
 pub mod OneOutcome
 pub mod Once
 pub mod OnceOfTypes
+pub mod OnceOfMethods
 pub mod Runs
 pub mod Asked
 pub mod Done

@@ -1,17 +1,19 @@
 -- Document 01, "What a claim has to settle": "Show that two outcomes that fit are equal". For each public function of marks, grid, stores, row_signs, count, judge,
 -- layer_estimates, layer_vertices, layer_faces, whole_box, surface_nets and bed
 -- one outcome alone fits the contract: the result, and every list behind a `&mut` afterwards, refused calls too. Those of cube stand in
--- its own proofs/Unique, but for some_of_eight, and those of functions over any type in OnceOfTypes. Assumes nothing.
+-- its own proofs/Unique, but for some_of_eight, those of functions over any type in OnceOfTypes, those of methods and conversions in OnceOfMethods. Assumes nothing.
 use Prim.Native.Nat.{ℕ}
 use mathlib.Core.List.{List}
 use mathlib.Core.Path.{◌≡◌, ◌∙◌, sym}
 use lib.Ieee.{Float}
+use contract.Lifetimes.{Lfts}
+use borrow.Fn.Kinds.{ParamKind, ResultKind, Dens}
 use Rattle.rules.specs.Call.{Buffers}
 use Rattle.grid.specs.declared.EachAxis.{EachAxis}
 use Rattle.grid.proofs.Faults.{fault-once}
 use Rattle.grid.proofs.Instances.{DistanceType}
 use Rattle.judge.proofs.Judging.{answer-once}
-use Rattle.promises.proofs.OneOutcome.{OneOutcome}
+use Rattle.promises.proofs.OneOutcome.{OneOutcome, Outcome, FitsContract}
 use Rattle.grid.proofs.checks.bad_dimension.Kinds as bad-dimension-kinds
 use Rattle.grid.proofs.checks.bad_dimension.Reads as bad-dimension
 use Rattle.grid.proofs.checks.bad_dimensions.Kinds as bad-dimensions-kinds
@@ -32,6 +34,8 @@ use Rattle.count.proofs.count_layer.Kinds as count-layer-kinds
 use Rattle.count.proofs.count_layer.Reads as count-layer
 use Rattle.count.proofs.count_box.Kinds as count-box-kinds
 use Rattle.count.proofs.count_box.Reads as count-box
+use Rattle.grid.proofs.lent.layers_at.Kinds as layers-at-kinds
+use Rattle.grid.proofs.lent.layers_at.Reads as layers-at
 use Rattle.grid.proofs.ownership.owns.Kinds as owns-kinds
 use Rattle.grid.proofs.ownership.owns.Reads as owns
 use Rattle.grid.proofs.ownership.owned_at.Kinds as owned-at-kinds
@@ -48,6 +52,10 @@ use Rattle.marks.proofs.map_kept.Kinds as map-kept-kinds
 use Rattle.marks.proofs.map_kept.Reads as map-kept
 use Rattle.marks.proofs.stored.word.Kinds as stored-word-kinds
 use Rattle.marks.proofs.stored.word.Reads as stored-word
+use Rattle.judge.proofs.Refusal.counts.Kinds as counts-kinds
+use Rattle.judge.proofs.Refusal.counts.Reads as counts
+use Rattle.judge.proofs.numbers.Kinds as numbers-kinds
+use Rattle.judge.proofs.numbers.Reads as numbers
 use Rattle.judge.proofs.answer_for.Kinds as answer-for-kinds
 use Rattle.judge.proofs.answer_for.Reads as answer-for
 use Rattle.grid.proofs.scan.bad_layer.Kinds as bad-layer-kinds
@@ -155,6 +163,21 @@ owned-at-once κs a o o' l l' = let s = same-own (l.0 ∙ sym l'.0) (l.1.0 ∙ s
 pub linearize-once : OneOutcome 0 linearize-kinds.ps linearize-kinds.r linearize.Learnt
 linearize-once κs a o o' l l' = let s = l ∙ sym l' in λ i. record { result = s i; last = o.last }
 
+-- parts of the lent list: what they hold. Where a reference lies in memory is no number of document 01's, and the contract leaves it open
+module _ (t : DistanceType) where
+  abbrev layers-at-ps : List (ParamKind 2)
+  layers-at-ps = layers-at-kinds.ps t.type t.laws t.copy
+
+  abbrev layers-at-r : ResultKind 2
+  layers-at-r = layers-at-kinds.r t.type t.laws t.copy
+
+  abbrev LayersFit : (κs : Lfts 2) (a : Dens κs layers-at-ps) → Outcome 2 layers-at-ps layers-at-r κs a → Type 0
+  LayersFit = FitsContract 2 layers-at-ps layers-at-r (layers-at.Learnt t.type t.laws t.copy t.distance t.distance_dict t.clone t.clone_dict)
+
+  pub layers-at-once : (κs : Lfts 2) (a : Dens κs layers-at-ps) (o o' : Outcome 2 layers-at-ps layers-at-r κs a) → LayersFit κs a o → LayersFit κs a o'
+      → (o.result.0.now ≡ o'.result.0.now) × (o.result.1.now ≡ o'.result.1.now)
+  layers-at-once κs a o o' l l' = (l.0 ∙ sym l'.0, l.1.0 ∙ sym l'.1.0)
+
 pub either-once : OneOutcome 0 either-kinds.ps either-kinds.r either.Learnt
 either-once κs a o o' l l' = let s = l ∙ sym l' in λ i. record { result = s i; last = o.last }
 
@@ -179,6 +202,15 @@ surface-count-once κs a o o' l l' = let s = l.0 ∙ sym l'.0 in λ i. record { 
 pub answer-for-once : (t : DistanceType) → OneOutcome 2 (answer-for-kinds.ps t.type t.laws t.copy) (answer-for-kinds.r t.type t.laws t.copy)
     (answer-for.Learnt t.type t.laws t.copy t.distance t.distance_dict t.clone t.clone_dict)
 answer-for-once t κs a o o' l l' = let s = answer-once o.result o'.result (l ∙ sym l') in λ i. record { result = s i; last = o.last }
+
+-- the number, V and I of an answer, and those of a refusal
+pub numbers-once : OneOutcome 0 numbers-kinds.ps numbers-kinds.r numbers.Learnt
+numbers-once κs a o o' l l' =
+    let s = l ∙ sym l' in
+    λ i. record { result = ((s i).number, record { vertices = (s i).vertices; indices = (s i).indices }); last = o.last }
+
+pub counts-once : OneOutcome 0 counts-kinds.ps counts-kinds.r counts.Learnt
+counts-once κs a o o' l l' = let s = l ∙ sym l' in λ i. record { result = s i; last = o.last }
 
 -- ---- the marks of the test programs
 

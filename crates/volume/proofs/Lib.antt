@@ -9,3 +9,4 @@ pub mod Answering
 pub mod Laws
 pub mod Weighing
 pub mod Instances
+pub mod Unique

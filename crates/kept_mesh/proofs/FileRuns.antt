@@ -1,7 +1,7 @@
 -- The laws of Filed of the functions themselves: calls of mesh_file's and of the C ones with outcomes that fit their generated contracts, by the places of
 -- their arguments. The bytes that one call left are the bytes that the other is passed; nothing else is asked of them. Assumes nothing.
 use Prim.Native.Nat.{ℕ, ◌<◌, ◌≤◌}
-use mathlib.Core.Path.{◌≡◌, ap, ◌∙◌, sym, subst}
+use mathlib.Core.Path.{◌≡◌, refl, ap, ◌∙◌, sym, subst}
 use mathlib.Core.List.{List, [], ◌∷◌, map}
 use Rattle.std.proofs.Common.{Ok}
 use lib.ListN.{length, take}
@@ -40,12 +40,13 @@ put_of u =
     let (file, (at, (words, _))) = u.args in
     record {
       words = words;
+      seven = u.fits.1.1;
       at = at;
       lent = file.now;
       says = answer_of u.result;
       left = u.last.0;
       answered = u.fits.0;
-      kept = u.fits.1;
+      kept = u.fits.1.0;
     }
 
 -- ---- mesh_file: write_mesh, read_mesh and check_file
@@ -109,6 +110,7 @@ bed_put_of u =
     let (_, (_, (kind, (a, (b, (c, (d, (e, (f, _))))))))) = u.args in
     record {
       words = kind ∷ a ∷ b ∷ c ∷ d ∷ e ∷ f ∷ [];
+      seven = refl;
       at = place_given u;
       lent = room_lent u;
       says = u.result;

@@ -2,6 +2,10 @@
 -- numbers that it stands for. Assumes nothing.
 use mathlib.Core.Path.{◌∙◌, sym}
 use Rattle.promises.proofs.OneOutcome.{OneOutcome}
+use Rattle.mesh_record.proofs.StepTryFromU32.try_from.Kinds as step-kinds
+use Rattle.mesh_record.proofs.StepTryFromU32.try_from.Reads as step
+use Rattle.mesh_record.proofs.refusal.U32FromRefusal.from.Kinds as number-kinds
+use Rattle.mesh_record.proofs.refusal.U32FromRefusal.from.Reads as number
 use Rattle.mesh_record.proofs.word_at.Kinds as word-at-kinds
 use Rattle.mesh_record.proofs.word_at.Reads as word_at
 use Rattle.mesh_record.proofs.finite_bits.Kinds as finite-bits-kinds
@@ -13,6 +17,14 @@ use Rattle.mesh_record.proofs.write_record.Kinds as write-record-kinds
 use Rattle.mesh_record.proofs.write_record.Reads as write-record
 use Rattle.mesh_record.proofs.put_record.Kinds as put-record-kinds
 use Rattle.mesh_record.proofs.put_record.Reads as put_record
+
+-- the step of a record's kind, or its refusal
+pub step-once : OneOutcome 0 step-kinds.ps step-kinds.r step.Learnt
+step-once κs a o o' l l' = let s = l ∙ sym l' in λ i. record { result = s i; last = o.last }
+
+-- a refusal's number
+pub number-once : OneOutcome 0 number-kinds.ps number-kinds.r number.Learnt
+number-once κs a o o' l l' = let s = l ∙ sym l' in λ i. record { result = s i; last = o.last }
 
 pub word-at-once : OneOutcome 1 word-at-kinds.ps word-at-kinds.r word_at.Learnt
 word-at-once κs a o o' l l' = let s = l ∙ sym l' in λ i. record { result = s i; last = o.last }
@@ -31,5 +43,5 @@ write-record-once κs a o o' l l' = let f = l ∙ sym l' in λ i. record { resul
 pub put-record-once : OneOutcome 1 put-record-kinds.ps put-record-kinds.r put_record.Learnt
 put-record-once κs a o o' l l' =
     let s = answer-injective o.result o'.result (l.0 ∙ sym l'.0) in
-    let f = l.1 ∙ sym l'.1 in
+    let f = l.1.0 ∙ sym l'.1.0 in
     λ i. record { result = s i; last = (f i, (tt, (tt, tt))) }

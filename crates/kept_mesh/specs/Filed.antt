@@ -37,6 +37,7 @@ pub record Checks : Type 0 where
 -- the seven words of one record, its place, the lent bytes as they were, the answer, and the lent bytes afterwards
 pub record Puts : Type 0 where
   pub words : List ℕ
+  pub seven : length words ≡ 7
   pub at : ℕ
   pub lent : List ℕ
   pub says : ℕ

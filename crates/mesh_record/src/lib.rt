@@ -134,6 +134,7 @@ pub fn write_record(file: &mut [u8], at: usize, words: [u32; 7])
 pub fn put_record(file: &mut [u8], at: usize, words: [u32; 7]) -> Result<(), Refusal>
     ensures value { answer_of result ≡ record_answer at file.old }
     ensures file_after { file.new ≡ record_written words at file.old }
+    ensures words_len { length words ≡ 7 }
 {
     if file.len() < at || file.len() - at < 32 {
         return Err(Refusal::ShortRoom);

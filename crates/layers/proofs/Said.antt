@@ -89,15 +89,17 @@ start_unsaid-is (Err (Call Distance)) h = absurd (omega arith)
 start_unsaid-is (Err (Call (VertexRoom t))) h = absurd (omega arith)
 start_unsaid-is (Err (Call (IndexRoom t))) h = absurd (omega arith)
 
+-- whichever of the tests hold: the numbers are those of the definition, whatever their order is
+either-few : (t : Bool) {a b : ℕ} → a ≤ 4 → b ≤ 4 → cond t a b ≤ 4
+either-few true h k = h
+either-few false h k = k
+
 start-few : (k : Block) (m : Lengths) → start_answer k m ≤ 4
 unfolding start_answer
-start-few k m = go (bad_dimensions (point k.dims)) (bad_box (point k.dims) (box_of k)) (bad_memory k m)
-  where
-    go : (p q r : Bool) → cond p 1 (cond q 2 (cond r 4 0)) ≤ 4
-    go true q r = omega arith
-    go false true r = omega arith
-    go false false true = omega arith
-    go false false false = omega arith
+start-few k m =
+    either-few (bad_dimensions (point k.dims)) (omega arith)
+    (either-few (bad_box (point k.dims) (box_of k)) (omega arith)
+    (either-few (bad_memory k m) (omega arith) (omega arith)))
 
 pub same-start : (k : Block) (m : Lengths) (r s : Result Unit Refusal) → start_number r ≡ start_answer k m → start_number s ≡ start_answer k m → r ≡ s
 same-start k m r s e d =

@@ -11,7 +11,7 @@ use borrow.Fn.Kinds.{ParamKind, ResultKind, Dens}
 use Rattle.rules.specs.Call.{Buffers}
 use Rattle.grid.specs.declared.EachAxis.{EachAxis}
 use Rattle.grid.proofs.Faults.{fault-once}
-use Rattle.grid.proofs.Instances.{DistanceType}
+use Rattle.grid.proofs.Instances.{DistanceType, sixteen-type, eight-type}
 use Rattle.judge.proofs.Judging.{answer-once}
 use Rattle.promises.proofs.OneOutcome.{OneOutcome, Outcome, FitsContract}
 use Rattle.grid.proofs.checks.bad_dimension.Kinds as bad-dimension-kinds
@@ -102,6 +102,19 @@ use Rattle.bed.proofs.wholes.bed_answer_i16.Kinds as bed-answer-i16-kinds
 use Rattle.bed.proofs.wholes.bed_answer_i16.Reads as bed-answer-i16
 use Rattle.bed.proofs.wholes.bed_answer_i8.Kinds as bed-answer-i8-kinds
 use Rattle.bed.proofs.wholes.bed_answer_i8.Reads as bed-answer-i8
+
+-- ---- of the call and of the answer alone, for a type of distances
+
+module _ (t : DistanceType) where
+  abbrev pub SurfaceNetsOnce : Type 0
+  SurfaceNetsOnce =
+      OneOutcome 9 (surface-nets-kinds.ps t.type t.laws t.copy) (surface-nets-kinds.r t.type t.laws t.copy)
+      (surface-nets.Learnt t.type t.laws t.copy t.distance t.distance_dict t.clone t.clone_dict)
+
+  abbrev pub AnswerForOnce : Type 0
+  AnswerForOnce =
+      OneOutcome 2 (answer-for-kinds.ps t.type t.laws t.copy) (answer-for-kinds.r t.type t.laws t.copy)
+      (answer-for.Learnt t.type t.laws t.copy t.distance t.distance_dict t.clone t.clone_dict)
 
 same-own : {u v : EachAxis} → u.x ≡ v.x → u.y ≡ v.y → u.z ≡ v.z → u ≡ v
 same-own p q r = λ i. record { x = p i; y = q i; z = r i }
@@ -199,9 +212,15 @@ side-negatives-once t κs a o o' l l' = let s = l.0 ∙ sym l'.0 in λ i. record
 pub surface-count-once : OneOutcome 0 surface-count-kinds.ps surface-count-kinds.r surface-count.Learnt
 surface-count-once κs a o o' l l' = let s = l.0 ∙ sym l'.0 in λ i. record { result = s i; last = o.last }
 
-pub answer-for-once : (t : DistanceType) → OneOutcome 2 (answer-for-kinds.ps t.type t.laws t.copy) (answer-for-kinds.r t.type t.laws t.copy)
-    (answer-for.Learnt t.type t.laws t.copy t.distance t.distance_dict t.clone t.clone_dict)
+pub answer-for-once : (t : DistanceType) → AnswerForOnce t
 answer-for-once t κs a o o' l l' = let s = answer-once o.result o'.result (l ∙ sym l') in λ i. record { result = s i; last = o.last }
+
+-- whole numbers of 16 and of 8 bits
+pub answer-for-i16-once : AnswerForOnce sixteen-type
+answer-for-i16-once = answer-for-once sixteen-type
+
+pub answer-for-i8-once : AnswerForOnce eight-type
+answer-for-i8-once = answer-for-once eight-type
 
 -- the number, V and I of an answer, and those of a refusal
 pub numbers-once : OneOutcome 0 numbers-kinds.ps numbers-kinds.r numbers.Learnt
@@ -282,12 +301,18 @@ mesh-box-once t κs a o o' l l' =
     λ i. record { result = tt; last = (tt, (tt, seven (b i) tt)) }
 
 -- document 01's call: the answer with V and I, and the seven lists
-pub surface-nets-once : (t : DistanceType) → OneOutcome 9 (surface-nets-kinds.ps t.type t.laws t.copy) (surface-nets-kinds.r t.type t.laws t.copy)
-    (surface-nets.Learnt t.type t.laws t.copy t.distance t.distance_dict t.clone t.clone_dict)
+pub surface-nets-once : (t : DistanceType) → SurfaceNetsOnce t
 surface-nets-once t κs a o o' l l' =
     let s = answer-once o.result o'.result (l.0 ∙ sym l'.0) in
     let b = l.1.0 ∙ sym l'.1.0 in
     λ i. record { result = s i; last = (tt, (tt, (tt, (tt, (tt, seven (b i) tt))))) }
+
+-- whole numbers of 16 and of 8 bits
+pub surface-nets-i16-once : SurfaceNetsOnce sixteen-type
+surface-nets-i16-once = surface-nets-once sixteen-type
+
+pub surface-nets-i8-once : SurfaceNetsOnce eight-type
+surface-nets-i8-once = surface-nets-once eight-type
 
 -- the functions that C and Rust link: the answer number, the seven lists, and V and I behind the last two
 pub bed-surface-nets-once : OneOutcome 11 bed-surface-nets-kinds.ps bed-surface-nets-kinds.r bed-surface-nets.Learnt

@@ -10,7 +10,7 @@ use borrow.Fn.Kinds.{Dens}
 use Rattle.rules.specs.Call.{Call, Room, answers, room}
 use Rattle.grid.specs.Block.{call_of}
 use Rattle.grid.specs.Values.{as_floats}
-use Rattle.grid.proofs.Instances.{DistanceType, float-type}
+use Rattle.grid.proofs.Instances.{DistanceType, float-type, sixteen-type, eight-type}
 use Rattle.judge.specs.AsRules.{answer_of, room_of}
 use Rattle.judge.proofs.Judging.{Enough}
 use Rattle.bed.specs.Boundary.{asked, room_asked, said}
@@ -42,6 +42,14 @@ module _ (t : DistanceType) where
 pub answer-for-as-floats : (t : DistanceType) (u : Judged t) (v : Judged float-type) → v.args.0.now ≡ t.distance.floats u.args.0.now
     → v.args.1.0 ≡ u.args.1.0 → v.args.1.1.0 ≡ u.args.1.1.0 → (judged float-type v).says ≡ (judged t u).says
 answer-for-as-floats t u v g k r = same-said (judged float-type v) (judged t u) (λ i. call_of (g i) (k i)) (λ i. room_of (r i))
+
+pub answer-for-i16-as-floats : (u : Judged sixteen-type) (v : Judged float-type) → v.args.0.now ≡ as_floats u.args.0.now
+    → v.args.1.0 ≡ u.args.1.0 → v.args.1.1.0 ≡ u.args.1.1.0 → (judged float-type v).says ≡ (judged sixteen-type u).says
+answer-for-i16-as-floats = answer-for-as-floats sixteen-type
+
+pub answer-for-i8-as-floats : (u : Judged eight-type) (v : Judged float-type) → v.args.0.now ≡ as_floats u.args.0.now
+    → v.args.1.0 ≡ u.args.1.0 → v.args.1.1.0 ≡ u.args.1.1.0 → (judged float-type v).says ≡ (judged eight-type u).says
+answer-for-i8-as-floats = answer-for-as-floats eight-type
 
 -- ---- bed_answer_i16, bed_answer_i8
 

@@ -1,5 +1,5 @@
 -- The reading of an answer loses nothing: two that say the same are the same. So of a whole call's answer, of a layer's, and of the start's, which is none of those
--- with V and I. Assumes nothing.
+-- with V and I. And the conversions of refusals have one result each, over their contracts. Assumes nothing.
 use Prim.Native.Nat.{ℕ, ◌≤◌}
 use native.Mathlib.Omega.{arith}
 use mathlib.Core.Bool.{Bool, true, false, cond}
@@ -14,10 +14,17 @@ use Rattle.count.specs.declared.Tally.{Tally}
 use Rattle.judge.specs.declared.Refusal.{Refusal as CallRefusal}
 use Rattle.judge.specs.declared.Refusal.TheVariants.{Grid, Map, Distance, VertexRoom, IndexRoom}
 use Rattle.judge.specs.AsRules.{answer_of as call_answer}
+use Rattle.grid.proofs.OneResult.{OneResult}
 use Rattle.layers.specs.declared.Refusal.{Refusal}
 use Rattle.layers.specs.declared.Refusal.TheVariants.{Call, Full}
 use Rattle.layers.specs.Memory.{Lengths, bad_memory, start_answer}
 use Rattle.layers.specs.Answer.{start_number, answer_of}
+use Rattle.layers.proofs.RefusalFromJudgeRefusal.from.Kinds as of-call-kinds
+use Rattle.layers.proofs.RefusalFromJudgeRefusal.from.Reads as of-call
+use Rattle.layers.proofs.RefusalFromFault.from.Kinds as of-fault-kinds
+use Rattle.layers.proofs.RefusalFromFault.from.Reads as of-fault
+use Rattle.layers.proofs.U32FromRefusal.from.Kinds as number-kinds
+use Rattle.layers.proofs.U32FromRefusal.from.Reads as number
 
 -- ---- a whole call's answer
 
@@ -104,3 +111,14 @@ start-few k m =
 pub same-start : (k : Block) (m : Lengths) (r s : Result Unit Refusal) → start_number r ≡ start_answer k m → start_number s ≡ start_answer k m → r ≡ s
 same-start k m r s e d =
     sym (start_unsaid-is r (omega (arith, start-few k m))) ∙ ap start_unsaid (e ∙ sym d) ∙ start_unsaid-is s (omega (arith, start-few k m))
+
+-- ---- the conversions of refusals
+
+pub of-call-unique : OneResult 0 of-call-kinds.ps of-call-kinds.r of-call.Learnt
+of-call-unique κs a z z' e e' l l' = l ∙ sym l'
+
+pub of-fault-unique : OneResult 0 of-fault-kinds.ps of-fault-kinds.r of-fault.Learnt
+of-fault-unique κs a z z' e e' l l' = l ∙ sym l'
+
+pub number-unique : OneResult 0 number-kinds.ps number-kinds.r number.Learnt
+number-unique κs a z z' e e' l l' = l ∙ sym l'

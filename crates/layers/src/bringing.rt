@@ -12,7 +12,7 @@ ghost use Rattle.layers.specs.Lent.{output_given, output_before, output_after};
 ghost use Rattle.layers.specs.Ready.{Ready, Roomy};
 
 use crate::State;
-use crate::keeping::{half, half_of};
+use crate::keeping::{copy, half, half_of};
 use layer_faces::Firsts;
 use layer_vertices::Next;
 
@@ -154,5 +154,5 @@ pub(crate) fn bring_out(
         s, first, count, layer, distances, map, kept, positions, cells, indices,
     );
     let last = 3 * count;
-    kept[..last].copy_from_slice(&positions[..last]);
+    copy(&mut kept[..last], &positions[..last]);
 }

@@ -6,6 +6,16 @@ ghost use Rattle.layers.specs.Ready.{Ready};
 
 use crate::State;
 
+// A list takes the numbers of another that is as long: a loop of its own, since the library's copy calls a C function that the archive needs nowhere else.
+pub(crate) fn copy(to: &mut [f32], from: &[f32])
+    requires { length to.old ≡ length from.now }
+    ensures { to.new ≡ from.now }
+{
+    for (i, x) in from.iter().enumerate() {
+        to[i] = *x;
+    }
+}
+
 // Where the layer number t begins in a list of two layers of `plane` numbers.
 pub(crate) fn half(plane: usize, t: u32) -> usize
     ensures { result ≡ plane * (t % 2) }
@@ -35,6 +45,6 @@ pub(crate) fn keep_layer(s: State, layer: &[f32], distances: &mut [f32], map: &m
     let plane = layer.len();
     let at = half(plane, s.taken);
     let end = at + plane;
-    distances[at..end].copy_from_slice(layer);
+    copy(&mut distances[at..end], layer);
     layer_vertices::clear_layer(s.block, &mut map[at..end]);
 }

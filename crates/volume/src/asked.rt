@@ -23,18 +23,40 @@ fn is_past(x: f32, most: f32) -> bool
     !((0.0 <= x) & (x <= most))
 }
 
-// Every coordinate is looked at, whether or not a triangle has its vertex; and to the end, which is quicker than to leave at the first.
-pub fn some_past(positions: &[f32], most: f32) -> bool
-    ensures { result ≡ some (is_past most) positions.now }
+// Whether some coordinate of a part is past, to the part's end, which is quicker than to leave at the first.
+fn past_in(part: &[f32], most: f32) -> bool
+    ensures { result ≡ some (is_past most) part.now }
 {
-    positions
-        .iter()
+    part.iter()
         .fold(false, |found, &x| found | is_past(x, most))
 }
 
-// Whether some index has no vertex, where these are numbered from `first` to just before `end`; to the end of the list too.
+// Every coordinate is looked at, whether or not a triangle has its vertex; but none past the part of 1,024 with the first that is past.
+pub fn some_past(positions: &[f32], most: f32) -> bool
+    ensures { result ≡ some (is_past most) positions.now }
+{
+    for part in positions.chunks(1024) {
+        if past_in(part, most) {
+            return true;
+        }
+    }
+    false
+}
+
+fn without_vertex_in(part: &[u32], first: u32, end: usize) -> bool
+    ensures { result ≡ some (not_from first end) part.now }
+{
+    part.iter().fold(false, |found, &v| found | (v < first) | (end <= v as usize))
+}
+
+// Whether some index has no vertex, where these are numbered from `first` to just before `end`; part by part too.
 pub fn some_without_vertex(indices: &[u32], first: u32, end: usize) -> bool
     ensures { result ≡ some (not_from first end) indices.now }
 {
-    indices.iter().fold(false, |found, &v| found | (v < first) | (end <= v as usize))
+    for part in indices.chunks(1024) {
+        if without_vertex_in(part, first, end) {
+            return true;
+        }
+    }
+    false
 }

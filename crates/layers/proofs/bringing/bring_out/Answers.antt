@@ -46,16 +46,16 @@ pub face_kept-requires-clause-s_in_bounds : goal.face_kept-requires-clause-s_in_
 face_kept-requires-clause-s_in_bounds c =
     let n = new (goal.at.face_kept-requires-clause-s_in_bounds c).Else-s-eq0 in edges_room c.requires.roomy n.later
 
-pub slice_bounds-copy_from_slice-end : goal.slice_bounds-copy_from_slice-end
-slice_bounds-copy_from_slice-end c = fits (goal.at.slice_bounds-copy_from_slice-end c).After-mark_kept-count
+pub slice_bounds-copy-end : goal.slice_bounds-copy-end
+slice_bounds-copy-end c = fits (goal.at.slice_bounds-copy-end c).After-mark_kept-count
 
-pub slice_bounds-copy_from_slice-end-2 : goal.slice_bounds-copy_from_slice-end-2
-slice_bounds-copy_from_slice-end-2 c =
-    sym (length-take-le (3 * c.mark_kept-count.result) c.args.kept.now (fits (goal.at.slice_bounds-copy_from_slice-end-2 c).After-mark_kept-count))
+pub slice_bounds-copy-end-2 : goal.slice_bounds-copy-end-2
+slice_bounds-copy-end-2 c =
+    sym (length-take-le (3 * c.mark_kept-count.result) c.args.kept.now (fits (goal.at.slice_bounds-copy-end-2 c).After-mark_kept-count))
 
-pub copy_from_slice-requires : goal.copy_from_slice-requires
-copy_from_slice-requires c =
-    let at = goal.at.copy_from_slice-requires c in
+pub copy-requires : goal.copy-requires
+copy-requires c =
+    let at = goal.at.copy-requires c in
     let e = c.mark_kept-count.ensures in
     length-take-le (3 * c.mark_kept-count.result) c.args.kept.now (fits at.After-mark_kept-count) ∙ positions-part (new at.Else-s-eq0) e.map_value e.value
 
@@ -69,4 +69,4 @@ returns c =
     let long = positions-part n e.map_value e.value in
     let room : last ≤ length kept = fits at.After-mark_kept-count in
     brought-later n e.map_value c.requires.number_value e.value kept c.face_kept.ensures
-    (ap (λ (l : List Float). l ++ drop last kept) c.copy_from_slice.ensures.after ∙ front-stored kept (take last _) (omega arith) last long)
+    (ap (λ (l : List Float). l ++ drop last kept) c.copy.ensures ∙ front-stored kept (take last _) (omega arith) last long)

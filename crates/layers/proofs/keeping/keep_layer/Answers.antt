@@ -6,7 +6,7 @@ pub clear_layer-requires : goal.clear_layer-requires
 clear_layer-requires c = part-lent c.requires.ready c.args.map.now c.requires.block_in_bounds c.half-at.ensures
 
 pub returns-clause-distances_after : goal.returns-clause-distances_after
-returns-clause-distances_after c = layer-put c.requires.ready c.half-at.ensures c.copy_from_slice.ensures.after
+returns-clause-distances_after c = layer-put c.requires.ready c.half-at.ensures c.copy.ensures
 
 pub returns-clause-map_after : goal.returns-clause-map_after
 returns-clause-map_after c = cleared-put c.requires.ready c.args.map.now c.requires.block_in_bounds c.half-at.ensures c.clear_layer.ensures

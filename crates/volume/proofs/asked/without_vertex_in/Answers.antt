@@ -1,0 +1,12 @@
+-- `volume::asked::without_vertex_in` meets its contract: the fold is the search. Assumes nothing.
+use Rattle.std.proofs.Common.{◌||◌, false, ◌∙◌, rules, tests}
+use Rattle.std.proofs.lemmas.Iterator.{YieldsList-from_slice}
+use Rattle.std.proofs.lemmas.Iterator.Consumers.{fold_from_yields_List}
+use Rattle.volume.specs.Answers.{not_from}
+use Rattle.volume.proofs.Searching.{some_by_fold}
+use Rattle.volume.proofs.asked.without_vertex_in.Goals as goal
+
+pub returns : goal.returns
+returns c =
+    fold_from_yields_List _ (λ t x. t || not_from c.args.first c.args.end x) false _ c.fold.ensures.ran (YieldsList-from_slice c.args.part.now cc) (λ t x r q k. search (rules, tests))
+    ∙ some_by_fold (not_from c.args.first c.args.end) c.args.part.now

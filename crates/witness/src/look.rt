@@ -96,10 +96,18 @@ fn looked(l: Seen, i: u32, r: Region, p: Place) -> Seen
     if !has(r, p) {
         return Seen { next, ..l };
     }
-    Seen {
-        first: l.first.or(Some(i)),
-        second: l.second.or(l.first.and(Some(i))),
-        next,
+    match (l.first, l.second) {
+        (None, _) => Seen {
+            first: Some(i),
+            next,
+            ..l
+        },
+        (Some(_), None) => Seen {
+            second: Some(i),
+            next,
+            ..l
+        },
+        (Some(_), Some(_)) => Seen { next, ..l },
     }
 }
 

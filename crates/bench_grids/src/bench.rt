@@ -69,8 +69,8 @@ fn show_mesh(rt: &impl Print, a: Result<Tally, Refusal>, lists: &Lists) {
     printed::numbers(rt, "    strides", &lists.strides, v);
     printed::numbers(rt, "    crossings", &lists.crossings, v);
     show_indices(rt, a, lists);
-    printed::point(rt, "    vertex 0", &lists.positions, 0);
-    printed::point(rt, "    vertex 1", &lists.positions, 1);
+    printed::point(rt, b"    vertex 0", &lists.positions, 0);
+    printed::point(rt, b"    vertex 1", &lists.positions, 1);
 }
 
 fn show_indices(rt: &impl Print, a: Result<Tally, Refusal>, lists: &Lists) {
@@ -84,6 +84,6 @@ fn show_indices(rt: &impl Print, a: Result<Tally, Refusal>, lists: &Lists) {
 }
 
 fn show_vertex(rt: &impl Print, lists: &Lists) {
-    printed::point(rt, "    position", &lists.positions, 0);
-    printed::point(rt, "    normal", &lists.normals, 0);
+    printed::point(rt, b"    position", &lists.positions, 0);
+    printed::point(rt, b"    normal", &lists.normals, 0);
 }

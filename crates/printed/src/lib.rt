@@ -52,8 +52,9 @@ pub fn numbers<T: fmt::Display>(rt: &impl Print, label: &str, list: &[T], count:
     let _ = println!(rt; "{label}{}", Row { list, count });
 }
 
-// A line of the v-th three floats of a list.
-pub fn point(rt: &impl Print, label: &str, list: &[f32], v: usize) {
+// A line of the v-th three floats of a list. The label need not be text.
+pub fn point(rt: &impl Print, label: &[u8], list: &[f32], v: usize) {
     let three = list.chunks(3).nth(v).unwrap_or(&[]);
-    let _ = println!(rt; "{label}{}", Floats(three));
+    let _ = rt.write_all(label);
+    let _ = println!(rt; "{}", Floats(three));
 }

@@ -17,3 +17,4 @@ pub mod Tank
 pub mod Once
 pub mod Instances
 pub mod Inside
+pub mod Unique

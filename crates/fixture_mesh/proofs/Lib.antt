@@ -8,3 +8,4 @@ pub mod Once
 pub mod Then
 pub mod Layers
 pub mod LayerCases
+pub mod Unique

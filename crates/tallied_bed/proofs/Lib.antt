@@ -5,3 +5,4 @@ pub mod Once
 pub mod Turns
 pub mod Bounds
 pub mod Functions
+pub mod Unique

@@ -715,7 +715,7 @@ struct bed_block {
  * Out, on every answer:
  *   holds            yes or no; no on every answer but BED_PLAN_CHECKED.
  *
- * No edge is visited: the time depends on the number of blocks alone. holds is never null, points to a bool that holds
+ * No edge is visited: the time is bounded by the number of blocks alone. holds is never null, points to a bool that holds
  * false or true, whichever, and may not overlap the blocks; blocks may be null only where its length is 0.
  */
 uint32_t bed_check_plan(

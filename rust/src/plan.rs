@@ -50,7 +50,7 @@ impl std::error::Error for PlanError {}
 /// Whether every edge that the whole owns is owned by exactly one block and no block owns any other edge.
 ///
 /// If so, and the whole and every block are accepted calls on one grid, the blocks' faces are the whole's
-/// faces, each once. No edge is visited: the time depends on the number of blocks alone.
+/// faces, each once. No edge is visited: the time is bounded by the number of blocks alone.
 ///
 /// ```
 /// use bed::{check_plan, Block, PlanError};

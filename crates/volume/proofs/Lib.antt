@@ -9,4 +9,3 @@ pub mod Answering
 pub mod Laws
 pub mod Weighing
 pub mod Instances
-pub mod Unique

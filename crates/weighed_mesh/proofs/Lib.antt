@@ -9,3 +9,4 @@ pub mod Cut
 pub mod Mesh
 pub mod Facing
 pub mod Instances
+pub mod Unique

@@ -1,11 +1,6 @@
--- Two results that fit a public function's contract are equal, for each but volume, whose stand in weighed_mesh: over the contract itself, since `Learnt` of a
--- function's Reads is what a caller learns from the function's own `ensures`. Assumes nothing.
-use Prim.Native.Nat.{ℕ}
-use mathlib.Core.List.{List}
-use mathlib.Core.Path.{◌≡◌, sym, ◌∙◌}
-use contract.Lifetimes.{Lfts}
-use denote.Triple.Clauses.{AtExit}
-use borrow.Fn.Kinds.{ParamKind, ResultKind, Out, Dens, res_t, ended_of}
+-- Two results that fit a contract are equal, for each public function of crate volume but `volume`, which Once has: over the contract itself. Assumes nothing.
+use mathlib.Core.Path.{sym, ◌∙◌}
+use Rattle.cube.proofs.OneResult.{OneResult}
 use Rattle.volume.proofs.U32FromRefusal.from.Kinds as number-kinds
 use Rattle.volume.proofs.U32FromRefusal.from.Reads as number
 use Rattle.volume.proofs.asked.not_in_threes.Kinds as not-in-threes-kinds
@@ -18,11 +13,6 @@ use Rattle.volume.proofs.asked.some_without_vertex.Kinds as some-without-vertex-
 use Rattle.volume.proofs.asked.some_without_vertex.Reads as some-without-vertex
 use Rattle.volume.proofs.steps.corner_at.Kinds as corner-at-kinds
 use Rattle.volume.proofs.steps.corner_at.Reads as corner-at
-
--- n, ps and r are the signature's: how many lifetimes, the parameters and the result. At the same arguments two results that fit are equal.
-abbrev pub OneResult : (n : ℕ) (ps : List (ParamKind n)) (r : ResultKind n) → Out n ps r → Type 0
-OneResult n ps r Learnt =
-    (κs : Lfts n) (a : Dens κs ps) (z z' : (res_t r κs).Denot) (e e' : AtExit (ended_of n ps r) κs) → Learnt κs a z e → Learnt κs a z' e' → z ≡ z'
 
 pub number-unique : OneResult 0 number-kinds.ps number-kinds.r number.Learnt
 number-unique κs a z z' e e' l l' = l ∙ sym l'
